@@ -1,1 +1,5 @@
+pub mod Candidate
+pub mod History
+pub mod Names
+pub mod Naming
 pub mod Prefixes

@@ -3,9 +3,19 @@
 #![tactic(auto)]
 
 pub use bytes::Bytes;
+pub use history::{Added, Change};
 pub use memory::OutOfMemory;
+pub use names::{
+    EntryType, ListName, NameFault, PlatformType, ThreatType, read_list_name, write_list_name,
+};
 pub use row::Row;
+pub use text::Text;
 
 mod bytes;
+mod history;
 mod memory;
+mod names;
 mod row;
+#[cfg(test)]
+mod tests;
+mod text;

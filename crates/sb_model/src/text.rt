@@ -1,0 +1,93 @@
+ghost use Rattle.std.specs.Prelude.{◌≡◌, ℕ, ◌<◌, ◌↔◌, List, [], ◌∷◌, ◌++◌, length, slice_get, slice_index, string_bytes, IsTrue, IfOk, OnOk, OnErr};
+ghost use Rattle.std.specs.Str.{chars};
+
+use crate::OutOfMemory;
+use std::alloc::Global;
+use std::marker::Model;
+
+/// A growing text. Contracts see it as the list of its characters.
+#[derive(Debug, Drop)]
+pub struct Text {
+    text: String,
+}
+
+impl Model for Text {
+    ghost Value = { List ℕ };
+
+    ghost view = { λ t. chars (string_bytes t.text) };
+}
+
+fn char_count(text: &str) -> usize
+    ensures { result ≡ length (chars text.now) }
+{
+    text.chars().count()
+}
+
+fn char_at(text: &str, i: usize) -> Option<char>
+    ensures { result ≡ slice_get (chars text.now) i }
+{
+    text.chars().nth(i)
+}
+
+impl Text {
+    /// The empty text. It takes no memory.
+    pub fn new(alloc: Global) -> Self
+        ensures { result ≡ [] }
+    {
+        Text {
+            text: String::new(alloc),
+        }
+    }
+
+    /// A copy of a text.
+    pub fn from_str(alloc: Global, text: &str) -> Result<Self, OutOfMemory>
+        ensures { IfOk result (λ t. t ≡ chars text.now) }
+    {
+        Ok(Text {
+            text: String::from_str(alloc, text)?,
+        })
+    }
+
+    /// The text of a string, which is moved and not copied.
+    pub fn from_string(text: String) -> Self
+        ensures { result ≡ chars (string_bytes text) }
+    {
+        Text { text }
+    }
+
+    /// How many characters there are. It takes time in the length.
+    pub fn len(&self) -> usize
+        ensures { result ≡ length self.now }
+    {
+        char_count(self.text.as_str())
+    }
+
+    pub fn is_empty(&self) -> bool
+        ensures { IsTrue result ↔ (self.now ≡ []) }
+    {
+        self.text.as_str().is_empty()
+    }
+
+    /// The character at a place, counted in characters. It takes time in the place.
+    pub fn at(&self, i: usize) -> char
+        requires { i < length self.now }
+        ensures { result ≡ slice_index self.now i }
+    {
+        char_at(self.text.as_str(), i).unwrap()
+    }
+
+    pub fn as_str(&self) -> &str
+        ensures { chars result.now ≡ self.now }
+    {
+        self.text.as_str()
+    }
+
+    /// Appends one character.
+    pub fn push(&mut self, item: char) -> Result<(), OutOfMemory>
+        ensures ok { OnOk result (self.new ≡ self.old ++ item ∷ []) }
+        ensures err { OnErr result (self.new ≡ self.old) }
+    {
+        self.text.push(item)?;
+        Ok(())
+    }
+}
