@@ -112,6 +112,13 @@ impl Bytes {
         Ok(())
     }
 
+    /// Keeps the first `count` bytes, or all where there are no more.
+    pub fn truncate(&mut self, count: usize)
+        ensures { self.new ≡ take count self.old }
+    {
+        self.items.truncate(count);
+    }
+
     /// Drops all bytes, and keeps the memory.
     pub fn clear(&mut self)
         ensures { self.new ≡ [] }

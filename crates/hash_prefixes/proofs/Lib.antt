@@ -1,0 +1,2 @@
+pub mod HexFacts
+pub mod OrderFacts
