@@ -1,4 +1,4 @@
-ghost use Rattle.std.specs.Prelude.{◌≡◌, ◌≢◌, ◌≤◌, ℕ, ◌↔◌, ◌++◌, length, position, not, Ok, Some, IsOk, IfOk, OnOk, OnErr, IsErrOf};
+ghost use Rattle.std.specs.Prelude.{◌≡◌, ◌≢◌, ◌≤◌, ◌*◌, ℕ, ◌↔◌, ◌++◌, length, position, not, Ok, Some, IsOk, IfOk, OnOk, OnErr, IsErrOf};
 ghost use Rattle.std.specs.List.{AllPass};
 ghost use Rattle.hex.specs.Hex.{decode_of, encode_lower, is_hex_digit};
 ghost use Rattle.hash_prefixes.specs.declared.hashes.FullHash.{FullHash as Hash};
@@ -31,8 +31,12 @@ impl fmt::Display for HexFault {
 impl Error for HexFault {}
 
 /// Reads the 64 hexadecimal digits of a full hash. Letters of both cases are read.
+///
+/// The length is looked at first. A text of another length, or with a byte that is no digit, is
+/// refused.
 pub fn read_hex(text: &[u8]) -> Result<FullHash, HexFault>
-    ensures value { (hash : Hash) → (result ≡ Ok hash) ↔ ((length text.now ≡ 64) × (decode_of text.now ≡ Ok hash.bytes)) }
+    ensures value { (hash : Hash) → (result ≡ Ok hash)
+        ↔ ((length text.now ≡ 64) × (decode_of text.now ≡ Ok hash.bytes)) }
     ensures succeeds { IsOk result ↔ ((length text.now ≡ 64) × AllPass is_hex_digit text.now) }
     ensures length { (n : ℕ) → IsErrOf result (HexFault.Length n) ↔ ((length text.now ≡ n) × (n ≢ 64)) }
     ensures digit { (at : ℕ) → IsErrOf result (HexFault.Digit at)
@@ -51,10 +55,11 @@ pub fn read_hex(text: &[u8]) -> Result<FullHash, HexFault>
     }
 }
 
-/// The hexadecimal text of some bytes, in lower case.
+/// The hexadecimal text of some bytes, two digits for each, in lower case.
 pub fn write_hex(alloc: Global, bytes: &[u8]) -> Result<Bytes, OutOfMemory>
     ensures value { IfOk result (λ text. text ≡ encode_lower bytes.now) }
     ensures read_again { IfOk result (λ text. decode_of text ≡ Ok bytes.now) }
+    ensures length { IfOk result (λ text. length text ≡ 2 * length bytes.now) }
 {
     Ok(Bytes::from_vec(hex::encode(alloc, bytes)?.into_bytes()))
 }
