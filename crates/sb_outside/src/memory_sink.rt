@@ -25,12 +25,12 @@ impl Model for MemorySink {
     ghost Value = { SinkInMemory };
 
     ghost view = { λ s. record {
-        held = s.bytes.items;
-        room = s.room;
-        failing = s.failing;
-        calls = s.calls;
-        faults = s.faults;
-        step = s.step
+      held = s.bytes.items;
+      room = s.room;
+      failing = s.failing;
+      calls = s.calls;
+      faults = s.faults;
+      step = s.step;
     } };
 
     ghost invariant = { λ s. (vec_len s.bytes ≤ s.room) × (s.room ≤ vec_capacity s.bytes) × (0 < s.step) };

@@ -28,11 +28,11 @@ impl Model for MemorySource {
     ghost Value = { SourceInMemory };
 
     ghost view = { λ s. record {
-        left = without_front s.given (drop s.piece s.pieces);
-        failing = s.failing;
-        calls = s.calls;
-        faults = s.faults;
-        step = s.step
+      left = without_front s.given (drop s.piece s.pieces);
+      failing = s.failing;
+      calls = s.calls;
+      faults = s.faults;
+      step = s.step;
     } };
 
     ghost invariant = { λ s. (s.given ≤ length (next_piece (drop s.piece s.pieces))) × (0 < s.step) };

@@ -1,7 +1,5 @@
-use Rattle.std.proofs.Common.{◌≡◌, ap, sym, ◌∙◌, arith, take, drop, length, min}
-use Rattle.std.proofs.lemmas.Grind.{common_steps}
-use Rattle.std.proofs.lemmas.List.{take_rest, length-drop}
-use Rattle.sb_outside.specs.Outside.{next_piece}
+use Rattle.std.proofs.Common.{ap, arith}
+use Rattle.std.proofs.lemmas.List.{take_rest}
 use Rattle.sb_outside.proofs.Pieces.{left_here, gives_here, ends_here}
 use Rattle.sb_outside.proofs.memory_source.MemorySourceSource.read.Goals as goal
 
