@@ -95,6 +95,7 @@ impl Sink for MemorySink {
 
         ensures within { IfOk result (λ n. n ≤ length piece.now) }
         ensures some { IfOk result (λ n. n ≡ 0 → piece.now ≡ []) }
+        ensures kept { OnOk result (self.new.faults ≡ self.old.faults) }
         ensures counted { self.old.faults ≤ self.new.faults }
         ensures failed { OnErr result (Rose self.old.faults self.new.faults) }
         ensures bytes { IfOk result (λ n. Some self.new.held ≡ appended (Some self.old.held) (take n piece.now)) }

@@ -97,6 +97,7 @@ impl Source for MemorySource {
             ≡ record self.old { calls = raised self.old.calls; faults = raised self.old.faults }) }
 
         ensures within { IfOk result (λ n. n ≤ length buffer.new) }
+        ensures kept { OnOk result (self.new.faults ≡ self.old.faults) }
         ensures counted { self.old.faults ≤ self.new.faults }
         ensures failed { OnErr result (Rose self.old.faults self.new.faults) }
         ensures bytes { IfOk result (λ n. 0 < n →

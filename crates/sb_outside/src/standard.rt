@@ -1,4 +1,4 @@
-ghost use Rattle.std.specs.Prelude.{◌≡◌, ℕ, ◌≤◌, List, None, OnErr};
+ghost use Rattle.std.specs.Prelude.{◌≡◌, ℕ, ◌≤◌, List, None, OnOk, OnErr};
 ghost use Rattle.sb_outside.specs.Outside.{Rose};
 
 use crate::{Failed, Sink, Source};
@@ -83,6 +83,7 @@ impl<W: Write> StdSink<W> {
 
     /// Has the writer hand on what it holds back. A failure is a fault.
     pub fn flush(&mut self) -> Result<(), Failed>
+        ensures kept { OnOk result (self.new ≡ self.old) }
         ensures counted { self.old ≤ self.new }
         ensures failed { OnErr result (Rose self.old self.new) }
     {

@@ -29,7 +29,8 @@ pub trait Source {
     fn read(&mut self, buffer: &mut [u8]) -> Result<usize, Failed>
         ensures within { IfOk result (λ n. n ≤ length buffer.new) }
 
-        // A fault is counted, and the count never falls.
+        // A fault is counted, nothing else is, and the count never falls.
+        ensures kept { OnOk result (faults self.new ≡ faults self.old) }
         ensures counted { faults self.old ≤ faults self.new }
         ensures failed { OnErr result (Rose (faults self.old) (faults self.new)) }
 
@@ -55,7 +56,8 @@ pub trait Sink {
         ensures within { IfOk result (λ n. n ≤ length piece.now) }
         ensures some { IfOk result (λ n. n ≡ 0 → piece.now ≡ []) }
 
-        // A fault is counted, and the count never falls.
+        // A fault is counted, nothing else is, and the count never falls.
+        ensures kept { OnOk result (faults self.new ≡ faults self.old) }
         ensures counted { faults self.old ≤ faults self.new }
         ensures failed { OnErr result (Rose (faults self.old) (faults self.new)) }
 
@@ -65,6 +67,7 @@ pub trait Sink {
 
 /// Writes a whole piece. After an `Err` the sink took a front of it, and not the whole.
 pub fn write_all<O: Sink>(out: &mut O, piece: &[u8]) -> Result<(), Failed>
+    ensures kept { OnOk result (O.faults out.new ≡ O.faults out.old) }
     ensures counted { O.faults out.old ≤ O.faults out.new }
     ensures failed { OnErr result (Rose (O.faults out.old) (O.faults out.new)) }
     ensures ok { OnOk result (O.contents out.new ≡ appended (O.contents out.old) piece.now) }
