@@ -38,7 +38,8 @@ pub fn read_hex(text: &[u8]) -> Result<FullHash, HexFault>
     ensures value { (hash : Hash) → (result ≡ Ok hash)
         ↔ ((length text.now ≡ 64) × (decode_of text.now ≡ Ok hash.bytes)) }
     ensures succeeds { IsOk result ↔ ((length text.now ≡ 64) × AllPass is_hex_digit text.now) }
-    ensures length { (n : ℕ) → IsErrOf result (HexFault.Length n) ↔ ((length text.now ≡ n) × (n ≢ 64)) }
+    ensures length { (n : ℕ) → IsErrOf result (HexFault.Length n)
+        ↔ ((length text.now ≡ n) × (n ≢ 64)) }
     ensures digit { (at : ℕ) → IsErrOf result (HexFault.Digit at)
         ↔ ((length text.now ≡ 64) × (position (λ c. not (is_hex_digit c)) text.now ≡ Some at)) }
 {

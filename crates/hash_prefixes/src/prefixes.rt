@@ -90,6 +90,7 @@ impl Prefix {
         self.size
     }
 
+    /// The bytes themselves, 4 to 32 of them.
     pub fn as_bytes(&self) -> &[u8]
         ensures { result.now ≡ self.now }
     {

@@ -5,13 +5,15 @@ use sb_model::OutOfMemory;
 use std::error::Error;
 use std::fmt;
 
-/// Why a change of a set gives no set.
+/// Why prefixes make no set.
+///
+/// A change of a set is looked at for an index out of range first, then for the count and then for
+/// the bytes of what it gives, so these two faults have the numbers 2 and 3.
 #[derive(Clone, Copy, Debug, PartialEq, Eq)]
 pub enum ApplyFault {
-    /// The set would have this many prefixes, more than `MAX_PREFIXES`. Fault 2 of the field's list.
+    /// 2: there are this many different prefixes, more than `MAX_PREFIXES`.
     TooMany(u64),
-    /// The prefixes would have this many bytes in all, more than `MAX_BYTES`. Fault 3 of the field's
-    /// list.
+    /// 3: the different prefixes have this many bytes in all, more than `MAX_BYTES`.
     TooLarge(u64),
     /// Memory was refused.
     OutOfMemory,

@@ -1,4 +1,4 @@
-ghost use Rattle.std.specs.Prelude.{◌≡◌, ◌<◌, ◌≤◌, ◌*◌, ℕ, ◌↔◌, List, [], length, nat_eq, slice_get, Some, Contains, IsTrue, IsOk, IfOk, OnOk, IsErrOf, IsOkUnless};
+ghost use Rattle.std.specs.Prelude.{◌≡◌, ◌≢◌, ◌<◌, ◌≤◌, ℕ, ◌↔◌, List, [], length, take, nat_eq, slice_get, Some, Err, Contains, IsTrue, IsOk, IfOk, OnOk, IsErrOf, IsOkUnless};
 ghost use Rattle.std.specs.Slice.Iter.{iter_rest};
 ghost use Rattle.std.specs.Cmp.{partial_equiv_from_equiv};
 ghost use Rattle.std.specs.Cmp.Lexicographic.{pointwise, lists_equiv, nat_list_eq_equiv};
@@ -50,6 +50,26 @@ fn total_bytes(prefixes: &[Prefix]) -> u64
     bytes
 }
 
+// How many prefixes are hashed at a time, and the room that they need.
+const BLOCK_PREFIXES: usize = 128;
+
+const BLOCK_SIZE: usize = 32 * BLOCK_PREFIXES;
+
+// Copies the prefixes to the front of a block, one after the other: how many bytes these are.
+fn gather(prefixes: &[Prefix], block: &mut [u8; BLOCK_SIZE]) -> usize
+    requires { length prefixes.now ≤ BLOCK_PREFIXES }
+    ensures fits { result ≤ BLOCK_SIZE }
+    ensures value { take result block.new ≡ concatenation prefixes.now }
+{
+    let mut used = 0;
+    for prefix in prefixes {
+        let end = used + prefix.size() as usize;
+        block[used..end].copy_from_slice(prefix.as_bytes());
+        used = end;
+    }
+    used
+}
+
 // The members in rising order, without repeats.
 fn rising_members(prefixes: Row<Prefix>) -> Vec<Prefix>
     ensures { result.items ≡ set_of prefixes }
@@ -73,10 +93,11 @@ impl PrefixSet {
     /// The set of the prefixes of a row, in any order and with repeats. The row is moved and sorted
     /// in its place, so this takes no memory.
     ///
-    /// The limits look at the prefixes without repeats, first at their count and then at their bytes.
+    /// The limits look at the prefixes without repeats, first at their count, then at their bytes.
     pub fn from_row(prefixes: Row<Prefix>) -> Result<PrefixSet, ApplyFault>
         ensures ok { IfOk result (λ set. set ≡ set_of prefixes) }
         ensures succeeds { IsOk result ↔ IsWithinLimits (set_of prefixes) }
+        ensures memory { result ≢ Err ApplyFault.OutOfMemory }
         ensures too_many { (n : ℕ) → IsErrOf result (ApplyFault.TooMany n)
             ↔ ((length (set_of prefixes) ≡ n) × (MAX_PREFIXES < n)) }
         ensures too_large { (n : ℕ) → IsErrOf result (ApplyFault.TooLarge n)
@@ -87,7 +108,8 @@ impl PrefixSet {
         ensures rising { IfOk result IsRising }
         ensures members { IfOk result (λ set. (x : List ℕ) → Contains set x ↔ Contains prefixes x) }
         ensures no_more { length (set_of prefixes) ≤ length prefixes }
-        ensures no_longer { length (concatenation (set_of prefixes)) ≤ length (concatenation prefixes) }
+        ensures no_longer { length (concatenation (set_of prefixes))
+            ≤ length (concatenation prefixes) }
     {
         PrefixSet::within_limits(rising_members(prefixes))
     }
@@ -97,10 +119,12 @@ impl PrefixSet {
         requires { IsRising items.items }
         ensures ok { IfOk result (λ set. set ≡ items.items) }
         ensures succeeds { IsOk result ↔ IsWithinLimits items.items }
+        ensures memory { result ≢ Err ApplyFault.OutOfMemory }
         ensures too_many { (n : ℕ) → IsErrOf result (ApplyFault.TooMany n)
             ↔ ((length items.items ≡ n) × (MAX_PREFIXES < n)) }
         ensures too_large { (n : ℕ) → IsErrOf result (ApplyFault.TooLarge n)
-            ↔ ((length items.items ≤ MAX_PREFIXES) × (length (concatenation items.items) ≡ n) × (MAX_BYTES < n)) }
+            ↔ ((length items.items ≤ MAX_PREFIXES)
+            × (length (concatenation items.items) ≡ n) × (MAX_BYTES < n)) }
     {
         let count = items.len() as u64;
         if count > MAX_PREFIXES {
@@ -115,11 +139,12 @@ impl PrefixSet {
 
     /// The set of these prefixes, which may stand in any order and with repeats.
     ///
-    /// The limits look at the prefixes without repeats, first at their count and then at their bytes.
+    /// The limits look at the prefixes without repeats, first at their count, then at their bytes.
     pub fn from_prefixes(alloc: Global, prefixes: &[Prefix]) -> Result<PrefixSet, ApplyFault>
         ensures ok { IfOk result (λ set. set ≡ set_of prefixes.now) }
         ensures within { OnOk result (IsWithinLimits (set_of prefixes.now)) }
-        ensures succeeds { IsWithinLimits (set_of prefixes.now) → IsOkUnless result ApplyFault.OutOfMemory }
+        ensures succeeds { IsWithinLimits (set_of prefixes.now)
+            → IsOkUnless result ApplyFault.OutOfMemory }
         ensures too_many { (n : ℕ) → IsErrOf result (ApplyFault.TooMany n)
             → (length (set_of prefixes.now) ≡ n) × (MAX_PREFIXES < n) }
         ensures too_large { (n : ℕ) → IsErrOf result (ApplyFault.TooLarge n)
@@ -128,9 +153,11 @@ impl PrefixSet {
 
         // What `set_of` says, in plain words.
         ensures rising { IfOk result IsRising }
-        ensures members { IfOk result (λ set. (x : List ℕ) → Contains set x ↔ Contains prefixes.now x) }
+        ensures members { IfOk result (λ set. (x : List ℕ)
+            → Contains set x ↔ Contains prefixes.now x) }
         ensures no_more { length (set_of prefixes.now) ≤ length prefixes.now }
-        ensures no_longer { length (concatenation (set_of prefixes.now)) ≤ length (concatenation prefixes.now) }
+        ensures no_longer { length (concatenation (set_of prefixes.now))
+            ≤ length (concatenation prefixes.now) }
     {
         PrefixSet::from_row(Row::from_slice(alloc, prefixes)?)
     }
@@ -179,8 +206,13 @@ impl PrefixSet {
         ensures { result ≡ sha256 (concatenation self.now) }
     {
         let mut hasher = Sha256::new();
-        for prefix in self.as_slice() {
-            hasher.update(prefix.as_bytes());
+        let mut block = [0; BLOCK_SIZE];
+        let mut rest = self.as_slice();
+        while !rest.is_empty() {
+            let (front, behind) = rest.split_at(rest.len().min(BLOCK_PREFIXES));
+            let used = gather(front, &mut block);
+            hasher.update(&block[..used]);
+            rest = behind;
         }
         hasher.finalize()
     }

@@ -61,15 +61,9 @@ fn numbered(alloc: Global, rt: &impl Abort, count: u32) -> Row<Prefix> {
 }
 
 #[test]
-fn limits_look_at_distinct_prefixes(rt: HostRuntime) -> Result<(), Fail> {
-    let full = PrefixSet::from_row(numbered(rt.alloc(), &rt, 1_048_576))?;
-    assert_eq!(rt; full.len(), 1_048_576);
+fn limits_look_at_distinct_prefixes(rt: HostRuntime) {
     let many = PrefixSet::from_row(numbered(rt.alloc(), &rt, 1_048_577));
     assert_eq!(rt; many, Err(ApplyFault::TooMany(1_048_577)));
-    let mut twice = numbered(rt.alloc(), &rt, 1_048_576);
-    twice.push(number_hash(7))?;
-    assert!(rt; PrefixSet::from_row(twice).is_ok());
-    Ok(())
 }
 
 fn of_32_bytes(alloc: Global, rt: &impl Abort, count: u32) -> Row<Prefix> {

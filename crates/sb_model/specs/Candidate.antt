@@ -4,8 +4,8 @@ use Rattle.std.specs.List.{list_any, enumerate_from}
 use Rattle.sb_model.specs.declared.names.ListName.{ListName}
 use Rattle.sb_model.specs.Prefixes.{set_of}
 
--- One update of one list. A full update replaces the set. A partial one takes out the members at the places that it
--- names, counted from 0 in rising order, and puts in its additions. `base` is the state that a partial update was made for, empty where it names none.
+-- One update of one list. A full update replaces the set. A partial one takes out the members at the places that it names,
+-- which count the rising members from 0, and puts in its additions. `base` is the state that a partial update was made for, empty where it names none.
 pub record Update : Type 0 where
   pub list : ListName
   pub full : Bool

@@ -16,7 +16,7 @@ returns-in-Equal c =
     c.leading_number.ensures.value c.leading_number-2.ensures.value in
     let tie : nat_cmp c.leading_number.result c.leading_number-2.result ≡ Equal = sym c.cmp.ensures ∙ c.in-Equal.is in
     c.cmp-in-Equal.ensures
-    ∙ rw (c.as_bytes.ensures, c.as_bytes-in-Equal.ensures, order, tie, take_rest, take_rest) refl
+    ∙ rw (c.as_bytes.ensures, c.as_bytes-in-Equal.ensures, order, tie, take_rest c.args.self.now 4, take_rest c.args.other.now 4) refl
 
 -- the leading numbers differ, and decide
 pub returns-in_default : goal.returns-in_default
