@@ -1,0 +1,6 @@
+pub mod BitFacts
+pub mod CodeFacts
+pub mod ReadingFacts
+pub mod NextFacts
+pub mod DecodeFacts
+pub mod EncodeFacts

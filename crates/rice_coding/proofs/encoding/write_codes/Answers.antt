@@ -1,0 +1,18 @@
+use Rattle.std.proofs.Common.{ℕ, ◌+◌, ◌-◌, Bool, List, ◌++◌, get_or, drop, ap, sym, ◌∙◌}
+use Rattle.std.proofs.lemmas.List.{append_assoc}
+use Rattle.rice_coding.specs.Codes.{code, codes, differences}
+use Rattle.rice_coding.proofs.EncodeFacts.{differences-drop, get_or-next}
+use Rattle.rice_coding.proofs.encoding.write_codes.Goals as goal
+
+pub loop-value-preserved : goal.loop-value-preserved
+loop-value-preserved c =
+    let i = c.loop-value.value-index in
+    let value = get_or c.args.rest.now i 0 in
+    let k = c.args.parameter in
+    let later = differences value (drop (i + 1) c.args.rest.now) in (
+      get_or-next c.args.first i c.args.rest.now,
+      ap (λ (bits : List Bool). bits ++ codes k later) c.in_ok-put_code.ensures
+          ∙ append_assoc c.loop-value.writer (code k (value - c.loop-value.previous)) (codes k later)
+          ∙ ap (λ (deltas : List ℕ). c.loop-value.writer ++ codes k deltas) (sym (differences-drop c.loop-value.previous i c.args.rest.now c.loop-value-test.true))
+          ∙ c.loop-value.invariant.1,
+    )
