@@ -1,0 +1,55 @@
+-- The parts between the elements that pass a test.
+use Rattle.std.proofs.Common.{◌≡◌, ℕ, ◌+◌, ◌<◌, ◌≢◌, List, [], ◌∷◌, Bool, false, eqb, length, drop, Option, Some, None, refl, arith}
+use Rattle.std.specs.List.{AllByRecursion, All, slice_split, onto_first, list_any}
+use Rattle.url_canon.specs.Words.{last_part}
+use Rattle.url_canon.specs.Path.{is_slash, components_of}
+use Rattle.std.proofs.lemmas.Bool.{cond_both, eqb-false, or_from, or_parts}
+use Rattle.std.proofs.lemmas.List.Elements.{All-from_recursion, All-weaker}
+
+-- no element of a part passes
+abbrev pub Lacks : {X : Type 0} → (X → Bool) → List X → Type 0
+Lacks p part = list_any p part ≡ false
+
+Lacks-onto_first : {X : Type 0} (p : X → Bool) (x : X) (parts : List (List X)) → p x ≡ false → AllByRecursion (Lacks p) parts → AllByRecursion (Lacks p) (onto_first x parts)
+Lacks-onto_first p x [] not_x h = (or_from (p x) false not_x refl, tt)
+Lacks-onto_first p x (part ∷ parts) not_x h = (or_from (p x) (list_any p part) not_x h.0, h.1)
+
+pub Lacks-slice_split : {X : Type 0} (p : X → Bool) (xs : List X) → AllByRecursion (Lacks p) (slice_split p xs)
+Lacks-slice_split p [] = (refl, tt)
+Lacks-slice_split p (x ∷ xs) =
+    cond_both (p x) ([] ∷ slice_split p xs) (onto_first x (slice_split p xs)) (AllByRecursion (Lacks p)) (λ _. (refl, Lacks-slice_split p xs)) (λ not_x. Lacks-onto_first p x _ not_x (Lacks-slice_split p xs))
+
+each_fails : {X : Type 0} (p : X → Bool) (xs : List X) → list_any p xs ≡ false → AllByRecursion (λ x. p x ≡ false) xs
+each_fails p [] none = tt
+each_fails p (x ∷ xs) none =
+    let parts = or_parts (p x) (list_any p xs) none in (parts.0, each_fails p xs parts.1)
+
+some-onto_first : {X : Type 0} (x : X) (parts : List (List X)) → 0 < length (onto_first x parts)
+some-onto_first x [] = omega arith
+some-onto_first x (part ∷ parts) = omega arith
+
+-- there is a part at least
+pub some-slice_split : {X : Type 0} (p : X → Bool) (xs : List X) → 0 < length (slice_split p xs)
+some-slice_split p [] = omega arith
+some-slice_split p (x ∷ xs) =
+    cond_both (p x) ([] ∷ slice_split p xs) (onto_first x (slice_split p xs)) (λ parts. 0 < length parts) (λ _. omega arith) (λ _. some-onto_first x (slice_split p xs))
+
+-- no part has the number at which a list was split
+pub All_ne-slice_split : (c : ℕ) (xs : List ℕ) → All (λ part. All (λ x. x ≢ c) part) (slice_split (λ x. eqb x c) xs)
+All_ne-slice_split c xs =
+    All-weaker (Lacks (λ x. eqb x c)) (λ part. All (λ x. x ≢ c) part) (λ part h. All-weaker (λ x. eqb x c ≡ false) (λ x. x ≢ c) (λ x not_x. eqb-false x c not_x) part (All-from_recursion (λ x. eqb x c ≡ false) part (each_fails (λ x. eqb x c) part h))) (slice_split (λ x. eqb x c) xs) (All-from_recursion (Lacks (λ x. eqb x c)) (slice_split (λ x. eqb x c) xs) (Lacks-slice_split (λ x. eqb x c) xs))
+
+pub All_ne_slash : (path : List ℕ) → All (λ part. All (λ x. x ≢ 47) part) (components_of path)
+All_ne_slash path = All_ne-slice_split 47 (drop 1 path)
+
+pub some_component : (path : List ℕ) → 0 < length (components_of path)
+some_component path = some-slice_split is_slash (drop 1 path)
+
+-- how much is left to split
+abbrev pub size_behind : Option (List ℕ) → ℕ
+size_behind None = 0
+size_behind (Some rest) = length rest + 1
+
+pub last_part-more : {X : Type 0} (x : List X) (parts : List (List X)) → 0 < length parts → last_part (x ∷ parts) ≡ last_part parts
+last_part-more x [] some = absurd (omega arith)
+last_part-more x (part ∷ parts) some = refl

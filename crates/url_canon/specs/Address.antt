@@ -1,0 +1,60 @@
+-- The IPv4 addresses among the names of hosts, in the forms that `inet_aton` reads.
+use Rattle.std.specs.Prelude.{◌≡◌, ℕ, suc, zero, ◌+◌, ◌*◌, ◌/◌, ◌%◌, ◌^◌, List, [], ◌∷◌, ◌++◌, ◌==◌, nat_lt, nat_eq, Bool, ◌&&◌, ◌||◌, if◌then◌else◌, Option, Some, None, option_and_then, codes, length, drop, map, fold}
+use Rattle.std.specs.List.{slice_split, starts_with, list_all}
+use Rattle.std.specs.Char.{digit_value}
+
+abbrev pub is_dot : ℕ → Bool
+is_dot byte = byte == 46
+
+-- the number that the digits of a base spell, of which there is one at least
+unfoldable pub number_in : ℕ → List ℕ → Option ℕ
+number_in base digits =
+    if nat_lt 0 (length digits) && list_all (λ digit. nat_lt (digit_value digit) base) digits
+    then Some (fold (λ number digit. base * number + digit_value digit) 0 digits)
+    else None
+
+-- The number of a part: hexadecimal digits behind `0x` or `0X`, octal digits behind a 0, and else decimal digits. No other part is a number.
+unfoldable pub number_of : List ℕ → Option ℕ
+number_of part =
+    if starts_with nat_eq part (codes "0x") || starts_with nat_eq part (codes "0X") then number_in 16 (drop 2 part)
+    else (if starts_with nat_eq part (codes "0") && nat_lt 1 (length part) then number_in 8 (drop 1 part) else number_in 10 part)
+
+-- One to four numbers stand for the four bytes of an address: each but the last is one byte, and the last fills the bytes that are left.
+abbrev pub StandFor : List ℕ → ℕ → ℕ → ℕ → ℕ → Type 0
+StandFor (n ∷ []) a b c d = n ≡ ((a * 256 + b) * 256 + c) * 256 + d
+StandFor (x ∷ n ∷ []) a b c d = (x ≡ a) × (n ≡ (b * 256 + c) * 256 + d)
+StandFor (x ∷ y ∷ n ∷ []) a b c d = (x ≡ a) × (y ≡ b) × (n ≡ c * 256 + d)
+StandFor (x ∷ y ∷ z ∷ n ∷ []) a b c d = (x ≡ a) × (y ≡ b) × (z ≡ c) × (n ≡ d)
+StandFor _ a b c d = ⊥
+
+-- The parts of a host are the numbers that stand for these four bytes.
+pub record IsAddressOf (host : List ℕ) (a b c d : ℕ) : Type 0 where
+  pub numbers : List ℕ
+  pub parts : map number_of (slice_split is_dot host) ≡ map Some numbers
+  pub bytes : StandFor numbers a b c d
+
+-- the address of so many bytes that parts stand for, as one number
+abbrev pub address_in : ℕ → List (List ℕ) → Option ℕ
+address_in zero parts = None
+address_in (suc width) [] = None
+address_in (suc width) (part ∷ []) =
+    option_and_then (λ number. if nat_lt number (256 ^ suc width) then Some number else None) (number_of part)
+address_in (suc width) (part ∷ next ∷ parts) =
+    option_and_then (λ number. option_and_then (λ low. if nat_lt number 256 then Some (number * 256 ^ width + low) else None) (address_in width (next ∷ parts))) (number_of part)
+
+-- the address that a host's name stands for, of which `IsAddressOf` says what it is
+unfoldable pub address_of : List ℕ → Option ℕ
+address_of host = address_in 4 (slice_split is_dot host)
+
+-- a byte in decimal digits
+abbrev pub decimal_byte : ℕ → List ℕ
+decimal_byte byte =
+    if nat_lt byte 10 then (48 + byte) ∷ []
+    else (if nat_lt byte 100 then (48 + byte / 10) ∷ (48 + byte % 10) ∷ []
+    else (48 + byte / 100) ∷ (48 + byte / 10 % 10) ∷ (48 + byte % 10) ∷ [])
+
+-- the four bytes of an address in decimal digits, parted by dots
+unfoldable pub address_text : ℕ → List ℕ
+address_text address =
+    decimal_byte (address / 16777216) ++ (46 ∷ (decimal_byte (address / 65536 % 256)
+    ++ (46 ∷ (decimal_byte (address / 256 % 256) ++ (46 ∷ decimal_byte (address % 256))))))

@@ -1,0 +1,10 @@
+pub mod Words
+pub mod Cleaning
+pub mod Unescaping
+pub mod Escaping
+pub mod Parts
+pub mod Address
+pub mod Host
+pub mod Path
+pub mod Url
+pub mod Canonical

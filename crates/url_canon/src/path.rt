@@ -1,0 +1,108 @@
+ghost use Rattle.std.specs.Prelude.{◌≡◌, ◌++◌, ◌∷◌, [], ◌||◌, not, if◌then◌else◌, map, IfOk, OnOk};
+ghost use Rattle.std.specs.List.{slice_split};
+ghost use Rattle.url_canon.specs.Words.{is_nil};
+ghost use Rattle.url_canon.specs.Escaping.{escaped};
+ghost use Rattle.url_canon.specs.Path.{is_slash, is_same, is_parent, with_component, resolved, without_empty, path_of, path_text};
+
+use crate::escape::append_escaped;
+use crate::split::split_at_byte;
+use sb_model::{Bytes, OutOfMemory};
+use std::alloc::Global;
+
+/// Whether a component is `.`, which names the directory of those before it.
+fn is_same(component: &[u8]) -> bool
+    ensures { result ≡ is_same component.now }
+{
+    component == b".".as_slice()
+}
+
+/// Whether a component is `..`, which names the directory above.
+fn is_parent(component: &[u8]) -> bool
+    ensures { result ≡ is_parent component.now }
+{
+    component == b"..".as_slice()
+}
+
+/// Adds a component to those before it: `.` adds nothing, and `..` takes the last one away.
+fn add_component<'a>(kept: &mut Vec<&'a [u8]>, component: &'a [u8]) -> Result<(), OutOfMemory>
+    ensures { OnOk result (map (λ c. c.now) kept.new.items
+        ≡ with_component (map (λ c. c.now) kept.old.items) component.now) }
+{
+    if is_same(component) {
+        return Ok(());
+    }
+    if is_parent(component) {
+        let _ = kept.pop();
+        return Ok(());
+    }
+    kept.push(component)?;
+    Ok(())
+}
+
+/// Adds an empty component behind a last one that was `.` or `..`.
+fn add_directory<'a>(kept: &mut Vec<&'a [u8]>, last: &'a [u8]) -> Result<(), OutOfMemory>
+    ensures { OnOk result (map (λ c. c.now) kept.new.items
+        ≡ map (λ c. c.now) kept.old.items ++ (if is_same last.now || is_parent last.now then [] ∷ [] else [])) }
+{
+    if is_same(last) || is_parent(last) {
+        kept.push(&last[last.len()..])?;
+    }
+    Ok(())
+}
+
+/// The components of a path without its first slash, with `.` and `..` carried out.
+fn resolved(alloc: Global, path: &[u8]) -> Result<Vec<&[u8]>, OutOfMemory>
+    ensures { IfOk result (λ kept. map (λ c. c.now) kept.items
+        ≡ resolved (slice_split is_slash path.now)) }
+{
+    let mut kept = Vec::new(alloc);
+    let mut last = path;
+    let mut rest = Some(path);
+    while let Some(components) = rest {
+        let (component, more) = split_at_byte(components, b'/');
+        add_component(&mut kept, component)?;
+        last = component;
+        rest = more;
+    }
+    add_directory(&mut kept, last)?;
+    Ok(kept)
+}
+
+/// Appends a component behind a slash and escaped, unless it is empty and not the last.
+fn append_component(out: &mut Bytes, component: &[u8], is_last: bool) -> Result<(), OutOfMemory>
+    ensures { OnOk result (out.new ≡ out.old
+        ++ (if not (is_nil component.now) || is_last then 47 ∷ escaped component.now else [])) }
+{
+    if component.is_empty() && !is_last {
+        return Ok(());
+    }
+    out.push(b'/')?;
+    append_escaped(out, component)
+}
+
+/// Appends the components, each behind a slash and escaped, without empty ones but the last.
+fn append_components(out: &mut Bytes, components: &[&[u8]]) -> Result<(), OutOfMemory>
+    ensures { OnOk result (out.new
+        ≡ out.old ++ path_text (map escaped (without_empty (map (λ c. c.now) components.now)))) }
+{
+    for (place, component) in components.iter().enumerate() {
+        let is_last = place + 1 == components.len();
+        append_component(out, *component, is_last)?;
+    }
+    Ok(())
+}
+
+/// The canonical path of a path, which is empty or begins with a slash.
+#[tactic(auto, unfolding(crate::specs::Path::path_of))]
+pub fn path_of(alloc: Global, path: &[u8]) -> Result<Bytes, OutOfMemory>
+    ensures { IfOk result (λ out. out ≡ path_text (map escaped (path_of path.now))) }
+{
+    let behind_slash = match path {
+        [_, rest @ ..] => rest,
+        [] => path,
+    };
+    let components = resolved(alloc, behind_slash)?;
+    let mut out = Bytes::with_capacity(alloc, path.len() + 1)?;
+    append_components(&mut out, components.as_slice())?;
+    Ok(out)
+}
