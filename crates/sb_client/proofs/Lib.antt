@@ -1,0 +1,15 @@
+pub mod CommandWords
+pub mod Endings
+pub mod ExampleDigests
+pub mod ExampleRun
+pub mod HonestUpdates
+pub mod LineCuts
+pub mod PlainBodies
+pub mod Replays
+pub mod Replicas
+pub mod SameNames
+pub mod ServedPrefixes
+pub mod SetMembers
+pub mod Steps
+pub mod Taking
+pub mod Ways

@@ -1,0 +1,84 @@
+-- Texts on their way to a sink, one after the other.
+use Rattle.std.proofs.Common.{◌≡◌, ℕ, List, [], ◌∷◌, ◌++◌, refl, sym, ap, ◌∙◌, Option, Some, None, append_assoc, append-nil, drop, length, get_or, ◌<◌, ◌+◌}
+use Rattle.std.specs.List.{flat_map}
+use Rattle.std.proofs.lemmas.List.{drop_more}
+use Rattle.sb_outside.specs.Outside.{appended}
+use Rattle.sb_client.specs.Writing.{IsOnItsWay, HasFront}
+
+pub appended-twice : (known : Option (List ℕ)) (a b : List ℕ) → appended (appended known a) b ≡ appended known (a ++ b)
+appended-twice None a b = refl
+appended-twice (Some bytes) a b = ap Some (append_assoc bytes a b)
+
+pub appended-nil : (known : Option (List ℕ)) → appended known [] ≡ known
+appended-nil None = refl
+appended-nil (Some bytes) = ap Some (append-nil bytes)
+
+-- nothing taken yet
+pub way_start : (known : Option (List ℕ)) (page : List ℕ) → IsOnItsWay known known page page
+way_start known page = record { taken = []; has = sym (appended-nil known); rest = refl }
+
+-- one more text behind
+pub way_more : {a b c : Option (List ℕ)} (p q done text : List ℕ) → IsOnItsWay a b p done → IsOnItsWay b c q (p ++ text) → IsOnItsWay a c q (done ++ text)
+way_more {a} {b} {c} p q done text w v = record {
+  taken = w.taken ++ v.taken;
+  has = v.has ∙ ap (λ known. appended known v.taken) w.has ∙ appended-twice a w.taken v.taken;
+  rest = append_assoc w.taken v.taken q ∙ ap (λ bytes. w.taken ++ bytes) v.rest ∙ sym (append_assoc w.taken p text) ∙ ap (λ bytes. bytes ++ text) w.rest;
+}
+
+-- a front of one more text behind
+pub way_front : {a b c : Option (List ℕ)} (p done text : List ℕ) → IsOnItsWay a b p done → HasFront b c (p ++ text) → HasFront a c (done ++ text)
+way_front {a} {b} {c} p done text w v = record {
+  taken = w.taken ++ v.taken;
+  lost = v.lost;
+  has = v.has ∙ ap (λ known. appended known v.taken) w.has ∙ appended-twice a w.taken v.taken;
+  rest = append_assoc w.taken v.taken v.lost ∙ ap (λ bytes. w.taken ++ bytes) v.rest ∙ sym (append_assoc w.taken p text) ∙ ap (λ bytes. bytes ++ text) w.rest;
+}
+
+-- a front of a text is one of a longer text
+pub front_more : {a b : Option (List ℕ)} (text later : List ℕ) → HasFront a b text → HasFront a b (text ++ later)
+front_more text later v = record {
+  taken = v.taken;
+  lost = v.lost ++ later;
+  has = v.has;
+  rest = sym (append_assoc v.taken v.lost later) ∙ ap (λ bytes. bytes ++ later) v.rest;
+}
+
+-- what is on its way stops there
+pub way_stop : {a b : Option (List ℕ)} (p done later : List ℕ) → IsOnItsWay a b p done → HasFront a b (done ++ later)
+way_stop p done later w = record {
+  taken = w.taken;
+  lost = p ++ later;
+  has = w.has;
+  rest = sym (append_assoc w.taken p later) ∙ ap (λ bytes. bytes ++ later) w.rest;
+}
+
+-- nothing was taken
+pub front_none : (known : Option (List ℕ)) (text : List ℕ) → HasFront known known text
+front_none known text = record { taken = []; lost = text; has = sym (appended-nil known); rest = refl }
+
+-- what is left of a text that is made of a list
+pub flat_from : {X : Type 0} (f : X → List ℕ) (xs : List X) (i : ℕ) (x : X) → i < length xs → x ≡ get_or xs i x → flat_map f (drop i xs) ≡ f x ++ flat_map f (drop (i + 1) xs)
+flat_from f xs i x l e = ap (flat_map f) (drop_more xs i x l ∙ ap (λ y. y ∷ drop (i + 1) xs) (sym e))
+
+-- the step of a loop that prints a list
+pub flat_step : {X : Type 0} (f : X → List ℕ) (xs : List X) (i : ℕ) (x : X) (line done all : List ℕ) → i < length xs → x ≡ get_or xs i x → line ≡ f x
+    → done ++ flat_map f (drop i xs) ≡ all → (done ++ line) ++ flat_map f (drop (i + 1) xs) ≡ all
+flat_step f xs i x line done all l e k h =
+    append_assoc done line (flat_map f (drop (i + 1) xs))
+    ∙ ap (λ bytes. done ++ bytes) (ap (λ bytes. bytes ++ flat_map f (drop (i + 1) xs)) k ∙ sym (flat_from f xs i x l e))
+    ∙ h
+
+-- a text that is on its way, and then the page that is handed on whole
+pub way_end : {a b c : Option (List ℕ)} (p done : List ℕ) → IsOnItsWay a b p done → c ≡ appended b p → c ≡ appended a done
+way_end {a} p done w h = h ∙ ap (λ known. appended known p) w.has ∙ appended-twice a w.taken p ∙ ap (appended a) w.rest
+
+pub way_lost : {a b c : Option (List ℕ)} (p done : List ℕ) → IsOnItsWay a b p done → HasFront b c p → HasFront a c done
+way_lost {a} p done w v = record {
+  taken = w.taken ++ v.taken;
+  lost = v.lost;
+  has = v.has ∙ ap (λ known. appended known v.taken) w.has ∙ appended-twice a w.taken v.taken;
+  rest = append_assoc w.taken v.taken v.lost ∙ ap (λ bytes. w.taken ++ bytes) v.rest ∙ w.rest;
+}
+
+pub way_longer : {a b : Option (List ℕ)} (p done text : List ℕ) → IsOnItsWay a b p done → IsOnItsWay a b (p ++ text) (done ++ text)
+way_longer p done text w = record { taken = w.taken; has = w.has; rest = sym (append_assoc w.taken p text) ∙ ap (λ bytes. bytes ++ text) w.rest }

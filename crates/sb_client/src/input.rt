@@ -1,0 +1,96 @@
+ghost use Rattle.std.specs.Prelude.{◌≡◌, ◌≢◌, ◌<◌, ◌≤◌, [], ◌∷◌, length, count_by, position, vec_len, IfOk, OnOk, OnErr, IsErrOf};
+ghost use Rattle.sb_outside.specs.Outside.{Rose};
+ghost use Rattle.sb_client.specs.Lines.{is_newline, lines_of, IsWithinLimits};
+ghost use Rattle.sb_client.specs.Input.{ReadsToEnd, GivesWithin, GivesPast};
+
+use crate::stop::Stop;
+use sb_model::Bytes;
+use sb_outside::Source;
+use std::alloc::{AllocError, Global};
+
+/// The most bytes of an input.
+pub(crate) const MAX_INPUT: usize = 201_326_592;
+
+/// The most lines of an input.
+pub(crate) const MAX_LINES: usize = 65_536;
+
+/// How many bytes a read asks for.
+const PIECE: usize = 262_144;
+
+fn count_newlines(bytes: &[u8]) -> usize
+    ensures { result ≡ count_by is_newline bytes.now }
+{
+    bytes.iter().filter(|byte| **byte == b'\n').count()
+}
+
+/// How many lines a text has, in which so many are ended.
+fn count_lines(text: &[u8], ended: usize) -> usize
+    requires { ended ≡ count_by is_newline text.now }
+    ensures { result ≡ length (lines_of text.now) }
+{
+    let Some(last) = text.last() else {
+        return ended;
+    };
+    if *last == b'\n' {
+        return ended;
+    }
+    ended + 1
+}
+
+fn buffer_of(alloc: Global) -> Result<Vec<u8>, AllocError>
+    ensures { IfOk result (λ buffer. vec_len buffer ≡ PIECE) }
+{
+    vec![in alloc; 0; PIECE]
+}
+
+/// Reads the input to its next end, in large pieces.
+pub(crate) fn read_input<S: Source>(alloc: Global, input: &mut S) -> Result<Bytes, Stop>
+    ensures whole { IfOk result (λ text. ReadsToEnd text (S.left input.old) (S.left input.new)) }
+    ensures within { IfOk result IsWithinLimits }
+    ensures fault { IsErrOf result Stop.ReadFault → Rose (S.faults input.old) (S.faults input.new)
+        × GivesWithin (S.left input.old) (S.left input.new) }
+    ensures past { IsErrOf result Stop.PastLimits → GivesPast (S.left input.old) (S.left input.new) }
+    ensures other { result ≢ Err Stop.WriteFault }
+    ensures kept { result ≢ Err Stop.ReadFault → S.faults input.new ≡ S.faults input.old }
+{
+    let Ok(mut buffer) = buffer_of(alloc) else {
+        return Err(Stop::OutOfMemory);
+    };
+    let mut text = Bytes::new(alloc);
+    let mut ended = 0;
+    while text.len() <= MAX_INPUT {
+        let Ok(count) = input.read(buffer.as_mut_slice()) else {
+            return Err(Stop::ReadFault);
+        };
+        if count == 0 {
+            return Ok(text);
+        }
+        let piece = &buffer.as_slice()[..count];
+        if text.append(piece).is_err() {
+            return Err(Stop::OutOfMemory);
+        }
+        ended += count_newlines(piece);
+        if count_lines(text.as_slice(), ended) > MAX_LINES {
+            return Err(Stop::PastLimits);
+        }
+    }
+    Err(Stop::PastLimits)
+}
+
+fn first_newline(text: &[u8]) -> Option<usize>
+    ensures { result ≡ position is_newline text.now }
+{
+    text.iter().position(|byte| *byte == b'\n')
+}
+
+/// The first line of a text that has some byte, and what stands behind its newline.
+pub(crate) fn first_line(text: &[u8]) -> (&[u8], &[u8])
+    requires { 0 < length text.now }
+    ensures lines { lines_of text.now ≡ result.0.now ∷ lines_of result.1.now }
+    ensures shorter { length result.1.now < length text.now }
+{
+    match first_newline(text) {
+        Some(end) => (&text[..end], &text[end + 1..]),
+        None => (text, &[]),
+    }
+}
