@@ -1,0 +1,35 @@
+# Builds the programs, and tries and measures them.
+#
+# The toolchain builds a program only once it is proved, so the first build proves the program and
+# what it stands on; a later one proves what has changed since. The code is optimised (LLVM, -O3).
+
+SHELL := /bin/bash
+LIST := MALWARE/ANY_PLATFORM/URL
+PROGRAMS := sbupdate kernels
+SOURCES := crates.txt HANDLES $(shell find crates \( -name out -o -name must-fail \) -prune -o -type f -print)
+
+.PHONY: all test demo bench clean
+.DELETE_ON_ERROR:
+
+all: $(PROGRAMS:%=bin/%)
+
+# `rt run` runs what it has built, here as its example does but with nothing to read.
+bin/%: $(SOURCES)
+	cd crates/$* && rt run -- $$(< args) < /dev/null > /dev/null
+	mkdir -p bin
+	cp crates/$*/out/$* $@
+
+test:
+	rt ci
+
+# The recording has an update with a wrong checksum, the same update with the right one, and a later
+# one whose prefixes come in no order. The first is refused, so the replay ends with status 5.
+demo: all
+	@bin/sbupdate replay $(LIST) < demo/recording.jsonl; status=$$?; \
+	  echo "status $$status"; test $$status -eq 5
+
+bench: all
+	python3 bench/bench.py
+
+clean:
+	rm -rf bin

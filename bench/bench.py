@@ -1,0 +1,204 @@
+#!/usr/bin/env python3
+"""Measures the programs in bin/ on seeded data, and prints the figures.
+
+Each time is the best of a few runs. Processor times are less disturbed by what else runs; what a
+kernel takes is that of its run without that of the run that only makes its data. The peak of the
+memory is the largest resident set, as the system counts it.
+"""
+
+import argparse
+import array
+import base64
+import ctypes
+import hashlib
+import json
+import multiprocessing
+import os
+import platform
+import random
+import subprocess
+import sys
+import tempfile
+import time
+
+REPOSITORY = os.path.dirname(os.path.dirname(os.path.abspath(__file__)))
+SBUPDATE = os.path.join(REPOSITORY, "bin", "sbupdate")
+KERNELS = os.path.join(REPOSITORY, "bin", "kernels")
+
+LIST = "MALWARE/ANY_PLATFORM/URL"
+SEED = 20240229
+MANY_PREFIXES = 1_048_576
+MANY_LINES = 1_000
+RICE_VALUES = 1_048_576
+
+PR_SET_CHILD_SUBREAPER = 36
+MIB = 1 << 20
+
+
+def text_of(data):
+    return base64.b64encode(data).decode("ascii")
+
+
+def full_update(prefixes, state):
+    """A body: one full update of the list, its prefixes in the order given."""
+    sha256 = hashlib.sha256(b"".join(sorted(prefixes))).digest()
+    raw = {"prefixSize": 4, "rawHashes": text_of(b"".join(prefixes))}
+    update = {
+        "threatType": "MALWARE",
+        "threatEntryType": "URL",
+        "platformType": "ANY_PLATFORM",
+        "responseType": "FULL_UPDATE",
+        "additions": [{"compressionType": "RAW", "rawHashes": raw}],
+        "newClientState": text_of(state),
+        "checksum": {"sha256": text_of(sha256)},
+    }
+    return json.dumps({"listUpdateResponses": [update]}, separators=(",", ":"))
+
+
+def random_prefixes(numbers, count):
+    """Distinct prefixes of four bytes, in no order."""
+    return [value.to_bytes(4, "big") for value in numbers.sample(range(1 << 32), count)]
+
+
+def write_large(path):
+    numbers = random.Random(SEED)
+    with open(path, "w", encoding="ascii") as recording:
+        prefixes = random_prefixes(numbers, MANY_PREFIXES)
+        print(full_update(prefixes, b"\x01"), file=recording)
+
+
+def write_small(path):
+    numbers = random.Random(SEED + 1)
+    with open(path, "w", encoding="ascii") as recording:
+        for number in range(MANY_LINES):
+            prefixes = random_prefixes(numbers, numbers.randint(64, 256))
+            print(full_update(prefixes, number.to_bytes(4, "big")), file=recording)
+
+
+def in_child(work, *words):
+    """Calls a function in a process of its own and gives its result.
+
+    This process stays small, so that what it holds shows in no figure.
+    """
+    with multiprocessing.get_context("spawn").Pool(1) as pool:
+        return pool.apply(work, words)
+
+
+def sorted_by_bytes(raw):
+    return b"".join(sorted(raw[at : at + 4] for at in range(0, len(raw), 4)))
+
+
+def sorted_by_numbers(raw):
+    numbers = array.array("I", raw)
+    if sys.byteorder == "little":
+        numbers.byteswap()
+    numbers = array.array("I", sorted(numbers))
+    if sys.byteorder == "little":
+        numbers.byteswap()
+    return numbers.tobytes()
+
+
+def yardstick(path, sort, runs):
+    """The processor time that Python takes to do with a recording what the program does.
+
+    It reads the bodies, sorts the prefixes of each and compares the checksum.
+    """
+    with open(path, "rb") as recording:
+        data = recording.read()
+    best = float("inf")
+    for _ in range(runs):
+        start = time.process_time()
+        for line in data.splitlines():
+            update = json.loads(line)["listUpdateResponses"][0]
+            raw = base64.b64decode(update["additions"][0]["rawHashes"]["rawHashes"])
+            wanted = base64.b64decode(update["checksum"]["sha256"])
+            if hashlib.sha256(sort(raw)).digest() != wanted:
+                raise ValueError("a checksum of the recording is wrong")
+        best = min(best, time.process_time() - start)
+    return best
+
+
+def run(words, stdin=os.devnull):
+    """Runs a program to its end: the wall time and the processor time that it takes."""
+    with open(stdin, "rb") as given:
+        start = time.perf_counter()
+        ran = subprocess.Popen(words, stdin=given, stdout=subprocess.DEVNULL)
+        _, status, usage = os.wait4(ran.pid, 0)
+        wall = time.perf_counter() - start
+    ran.returncode = os.waitstatus_to_exitcode(status)
+    if ran.returncode != 0:
+        raise SystemExit(f"{' '.join(words)}: status {ran.returncode}")
+    return wall, usage.ru_utime + usage.ru_stime
+
+
+def peak_memory(words, stdin):
+    """The bytes of memory that a program holds at most.
+
+    A process counts what its parent held when it was started. So a shell, which is smaller than
+    any program here, starts the program and ends, and this process, which then stands in for the
+    parent, takes the figure.
+    """
+    if ctypes.CDLL(None).prctl(PR_SET_CHILD_SUBREAPER, 1, 0, 0, 0) != 0:
+        raise SystemExit("the peak of the memory can be read on Linux alone")
+    script = 'given=$1; shift; "$@" < "$given" > /dev/null & echo $!'
+    shell = ["sh", "-c", script, "sh", stdin, *words]
+    told = subprocess.run(shell, stdout=subprocess.PIPE, check=True).stdout
+    _, status, usage = os.wait4(int(told), 0)
+    if os.waitstatus_to_exitcode(status) != 0:
+        raise SystemExit(f"{' '.join(words)}: status {os.waitstatus_to_exitcode(status)}")
+    return usage.ru_maxrss * 1024
+
+
+def tell(what, figure, remark):
+    print(f"  {what:34}{figure:>12}, {remark}")
+
+
+def bench_replay(title, path, runs):
+    words = [SBUPDATE, "replay", LIST]
+    size = os.path.getsize(path)
+    walls, processor_times = zip(*(run(words, path) for _ in range(runs)))
+    wall, took = min(walls), min(processor_times)
+    peak = peak_memory(words, path)
+    by_numbers = in_child(yardstick, path, sorted_by_numbers, runs)
+    by_bytes = in_child(yardstick, path, sorted_by_bytes, runs)
+    print(f"sbupdate replay, {title}: {size:,} bytes")
+    tell("wall time", f"{wall * 1e3:.1f} ms", f"{size / wall / MIB:.1f} MiB/s")
+    tell("processor time", f"{took * 1e3:.1f} ms", f"{size / took / MIB:.1f} MiB/s")
+    tell("peak memory", f"{peak / MIB:.1f} MiB", f"{peak / size:.2f} times the input")
+    for name, wanted in (("numbers", by_numbers), ("bytes objects", by_bytes)):
+        ratio = f"sbupdate takes {took / wanted:.2f} times as long"
+        tell(f"yardstick, sorted as {name}", f"{wanted * 1e3:.1f} ms", ratio)
+
+
+def processor_time(kernel, count, runs):
+    return min(run([KERNELS, kernel, str(count), "1"])[1] for _ in range(runs))
+
+
+def bench_rice(runs):
+    values, encode, decode = (
+        processor_time(kernel, RICE_VALUES, runs)
+        for kernel in ("rice-values", "rice-encode", "rice-decode")
+    )
+    print(f"Rice coding, {RICE_VALUES:,} values")
+    for name, took in (("encode", encode - values), ("decode", decode - encode)):
+        tell(name, f"{took * 1e3:.1f} ms", f"{took / RICE_VALUES * 1e9:.2f} ns a value")
+
+
+def main():
+    words = argparse.ArgumentParser(description="Measures the programs in bin/.")
+    words.add_argument("--runs", type=int, default=3, help="the runs that the best is taken of")
+    runs = words.parse_args().runs
+    print(f"Best of {runs}; all but the wall times are processor times. The yardstick is Python")
+    print(f"{platform.python_version()} without its start: it reads the same bodies, sorts their prefixes and")
+    print("compares the checksums, and prints nothing. Its json, base64, sort and SHA-256 are C code.")
+    with tempfile.TemporaryDirectory() as folder:
+        large, small = os.path.join(folder, "large"), os.path.join(folder, "small")
+        in_child(write_large, large)
+        in_child(write_small, small)
+        bench_replay(f"one update of {MANY_PREFIXES:,} prefixes", large, runs)
+        bench_replay(f"{MANY_LINES:,} updates of 64 to 256 prefixes", small, runs)
+    bench_rice(runs)
+
+
+if __name__ == "__main__":
+    main()
