@@ -30,6 +30,9 @@ SEED = 20240229
 MANY_PREFIXES = 1_048_576
 MANY_LINES = 1_000
 RICE_VALUES = 1_048_576
+USUAL_URLS = 100_000
+HOSTILE_URLS = 2_000
+HOSTILE_BYTES = 8_192
 
 PR_SET_CHILD_SUBREAPER = 36
 MIB = 1 << 20
@@ -184,6 +187,16 @@ def bench_rice(runs):
         tell(name, f"{took * 1e3:.1f} ms", f"{took / RICE_VALUES * 1e9:.2f} ns a value")
 
 
+def bench_urls(title, prefix, count, runs):
+    texts, canonical, expressions = (
+        processor_time(prefix + kernel, count, runs)
+        for kernel in ("urls", "canonical", "expressions")
+    )
+    print(f"{count:,} {title}")
+    for name, took in (("canonical", canonical - texts), ("expressions", expressions - canonical)):
+        tell(name, f"{took * 1e3:.1f} ms", f"{took / count * 1e6:.2f} µs a URL")
+
+
 def main():
     words = argparse.ArgumentParser(description="Measures the programs in bin/.")
     words.add_argument("--runs", type=int, default=3, help="the runs that the best is taken of")
@@ -198,6 +211,8 @@ def main():
         bench_replay(f"one update of {MANY_PREFIXES:,} prefixes", large, runs)
         bench_replay(f"{MANY_LINES:,} updates of 64 to 256 prefixes", small, runs)
     bench_rice(runs)
+    bench_urls("URLs such as pages have", "", USUAL_URLS, runs)
+    bench_urls(f"hostile URLs of {HOSTILE_BYTES:,} bytes", "hostile-", HOSTILE_URLS, runs)
 
 
 if __name__ == "__main__":

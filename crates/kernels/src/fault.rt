@@ -3,6 +3,7 @@ use sb_model::OutOfMemory;
 use std::alloc::{AllocError, AllocFailed};
 use std::error::Error;
 use std::fmt;
+use url_canon::UrlFault;
 
 /// Why a kernel gave no checksum.
 #[derive(Clone, Copy, Debug, PartialEq, Eq)]
@@ -14,6 +15,7 @@ pub enum KernelFault {
     /// The count is 0.
     NoValues,
     Rice(RiceFault),
+    Url(UrlFault),
     OutOfMemory,
 }
 
@@ -24,6 +26,7 @@ impl fmt::Display for KernelFault {
             KernelFault::Number => write!(f, "the count or the seed is no number"),
             KernelFault::NoValues => write!(f, "the count is 0"),
             KernelFault::Rice(fault) => write!(f, "{fault}"),
+            KernelFault::Url(fault) => write!(f, "{fault}"),
             KernelFault::OutOfMemory => write!(f, "out of memory"),
         }
     }
@@ -34,6 +37,12 @@ impl Error for KernelFault {}
 impl From<RiceFault> for KernelFault {
     fn from(fault: RiceFault) -> KernelFault {
         KernelFault::Rice(fault)
+    }
+}
+
+impl From<UrlFault> for KernelFault {
+    fn from(fault: UrlFault) -> KernelFault {
+        KernelFault::Url(fault)
     }
 }
 

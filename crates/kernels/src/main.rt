@@ -5,16 +5,25 @@
 
 mod fault;
 mod rice;
+mod url;
+mod url_text;
 
 use fault::KernelFault;
 use std::alloc::Global;
 use std::process::ExitCode;
 use std::{env, io};
+use url::{Texts, Work, work_on_urls};
 
 const USAGE: &str = "usage: kernels KERNEL COUNT SEED
-  rice-values   makes at most COUNT rising numbers, spread over 32 bits
-  rice-encode   makes the numbers, and encodes them
-  rice-decode   makes the numbers, encodes them, and decodes the record";
+  rice-values           makes at most COUNT rising numbers, spread over 32 bits
+  rice-encode           makes the numbers, and encodes them
+  rice-decode           makes the numbers, encodes them, and decodes the record
+  urls                  makes COUNT URLs such as pages have
+  canonical             makes the URLs, and their canonical forms
+  expressions           makes the URLs, their canonical forms and the expressions of those
+  hostile-urls          makes COUNT URLs of 8,192 bytes that are long to work on
+  hostile-canonical     makes those URLs, and their canonical forms
+  hostile-expressions   makes those URLs, their canonical forms and the expressions of those";
 
 fn main(rt: HostRuntime) -> io::Result<ExitCode> {
     let mut words = env::args(&rt)?;
@@ -44,6 +53,20 @@ fn run(alloc: Global, kernel: &str, count: &str, seed: &str) -> Result<u64, Kern
         "rice-values" => rice::make_values(alloc, count, seed),
         "rice-encode" => rice::encode_values(alloc, count, seed),
         "rice-decode" => rice::decode_values(alloc, count, seed),
-        _ => Err(KernelFault::Name),
+        _ => run_on_urls(alloc, kernel, count, seed),
     }
+}
+
+/// The checksum of a kernel that works on URLs.
+fn run_on_urls(alloc: Global, kernel: &str, count: u32, seed: u64) -> Result<u64, KernelFault> {
+    let (texts, work) = match kernel {
+        "urls" => (Texts::Usual, Work::Make),
+        "canonical" => (Texts::Usual, Work::Canonical),
+        "expressions" => (Texts::Usual, Work::Expressions),
+        "hostile-urls" => (Texts::Hostile, Work::Make),
+        "hostile-canonical" => (Texts::Hostile, Work::Canonical),
+        "hostile-expressions" => (Texts::Hostile, Work::Expressions),
+        _ => return Err(KernelFault::Name),
+    };
+    work_on_urls(alloc, texts, work, count, seed)
 }
