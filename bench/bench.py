@@ -1,9 +1,9 @@
 #!/usr/bin/env python3
 """Measures the programs in bin/ on seeded data, and prints the figures.
 
-Each time is the best of a few runs. Processor times are less disturbed by what else runs; what a
-kernel takes is that of its run without that of the run that only makes its data. The peak of the
-memory is the largest resident set, as the system counts it.
+Each time is the best of a few runs. Processor times are less disturbed by what else runs. What a
+kernel takes is the difference of two of them: that of its run, and that of the run that only makes
+its data. The peak of the memory is the largest resident set, as the system counts it.
 """
 
 import argparse
@@ -173,25 +173,30 @@ def bench_replay(title, path, runs):
         tell(f"yardstick, sorted as {name}", f"{wanted * 1e3:.1f} ms", ratio)
 
 
-def processor_time(kernel, count, runs):
-    return min(run([KERNELS, kernel, str(count), "1"])[1] for _ in range(runs))
+def processor_times(kernels, count, runs):
+    """The processor time of each kernel.
+
+    They take turns, so that what else runs disturbs them alike.
+    """
+    best = [float("inf")] * len(kernels)
+    for _ in range(runs):
+        for place, kernel in enumerate(kernels):
+            _, took = run([KERNELS, kernel, str(count), "1"])
+            best[place] = min(best[place], took)
+    return best
 
 
 def bench_rice(runs):
-    values, encode, decode = (
-        processor_time(kernel, RICE_VALUES, runs)
-        for kernel in ("rice-values", "rice-encode", "rice-decode")
-    )
+    kernels = ("rice-values", "rice-encode", "rice-decode")
+    values, encode, decode = processor_times(kernels, RICE_VALUES, runs)
     print(f"Rice coding, {RICE_VALUES:,} values")
     for name, took in (("encode", encode - values), ("decode", decode - encode)):
         tell(name, f"{took * 1e3:.1f} ms", f"{took / RICE_VALUES * 1e9:.2f} ns a value")
 
 
 def bench_urls(title, prefix, count, runs):
-    texts, canonical, expressions = (
-        processor_time(prefix + kernel, count, runs)
-        for kernel in ("urls", "canonical", "expressions")
-    )
+    kernels = [prefix + kernel for kernel in ("urls", "canonical", "expressions")]
+    texts, canonical, expressions = processor_times(kernels, count, runs)
     print(f"{count:,} {title}")
     for name, took in (("canonical", canonical - texts), ("expressions", expressions - canonical)):
         tell(name, f"{took * 1e3:.1f} ms", f"{took / count * 1e6:.2f} µs a URL")
@@ -199,20 +204,24 @@ def bench_urls(title, prefix, count, runs):
 
 def main():
     words = argparse.ArgumentParser(description="Measures the programs in bin/.")
-    words.add_argument("--runs", type=int, default=3, help="the runs that the best is taken of")
-    runs = words.parse_args().runs
-    print(f"Best of {runs}; all but the wall times are processor times. The yardstick is Python")
-    print(f"{platform.python_version()} without its start: it reads the same bodies, sorts their prefixes and")
-    print("compares the checksums, and prints nothing. Its json, base64, sort and SHA-256 are C code.")
+    words.add_argument("--runs", type=int, default=3, help="the runs of a replay")
+    words.add_argument("--kernel-runs", type=int, default=15, help="the runs of a kernel")
+    words = words.parse_args()
+    python = platform.python_version()
+    print(f"Best of {words.runs} runs of a replay and {words.kernel_runs} of a kernel. All but the")
+    print(f"wall times are processor times. The yardstick is Python {python}, without its")
+    print("start: it reads the same bodies, sorts their prefixes and compares the checksums, and")
+    print("prints nothing. Its json, base64, sort and SHA-256 are C code.")
     with tempfile.TemporaryDirectory() as folder:
         large, small = os.path.join(folder, "large"), os.path.join(folder, "small")
         in_child(write_large, large)
         in_child(write_small, small)
-        bench_replay(f"one update of {MANY_PREFIXES:,} prefixes", large, runs)
-        bench_replay(f"{MANY_LINES:,} updates of 64 to 256 prefixes", small, runs)
-    bench_rice(runs)
-    bench_urls("URLs such as pages have", "", USUAL_URLS, runs)
-    bench_urls(f"hostile URLs of {HOSTILE_BYTES:,} bytes", "hostile-", HOSTILE_URLS, runs)
+        bench_replay(f"one update of {MANY_PREFIXES:,} prefixes", large, words.runs)
+        bench_replay(f"{MANY_LINES:,} updates of 64 to 256 prefixes", small, words.runs)
+    bench_rice(words.kernel_runs)
+    bench_urls("URLs such as pages have", "", USUAL_URLS, words.kernel_runs)
+    hostile = f"hostile URLs of {HOSTILE_BYTES:,} bytes"
+    bench_urls(hostile, "hostile-", HOSTILE_URLS, words.kernel_runs)
 
 
 if __name__ == "__main__":
