@@ -123,6 +123,61 @@ stands (x ∷ y ∷ z ∷ u ∷ n ∷ ns) a b c d ha hb hc hd h = absurd h
 pub four_bytes : (host : List ℕ) (a b c d : ℕ) → a < 256 → b < 256 → c < 256 → d < 256 → (address_of host ≡ Some (((a * 256 + b) * 256 + c) * 256 + d)) ↔ IsAddressOf host a b c d
 unfolding address_of
 four_bytes host a b c d ha hb hc hd = (
-  λ e. let ns = numbers_there 4 (slice_split is_dot host) (address a b c d) e in record { numbers = ns.0; parts = ns.1; bytes = stand ns.0 a b c d ha hb hc hd (sym (numbered 4 (slice_split is_dot host) ns.0 ns.1) ∙ e) },
+  λ e. let ns = numbers_there 4 (slice_split is_dot host) (address a b c d) e in record { first = ha; second = hb; third = hc; fourth = hd; numbers = ns.0; parts = ns.1; bytes = stand ns.0 a b c d ha hb hc hd (sym (numbered 4 (slice_split is_dot host) ns.0 ns.1) ∙ e) },
   λ h. numbered 4 (slice_split is_dot host) h.numbers h.parts ∙ stands h.numbers a b c d ha hb hc hd h.bytes,
 )
+
+below : (ns : List ℕ) (v : ℕ) → value_of 4 ns ≡ Some v → v < 2 ^ 32
+below [] v e = absurd (cc)
+below (n ∷ []) v e =
+    let last = chosen (ltb n (256 ^ 4)) n v e in
+    let inside = ltb-true n (256 ^ 4) last.0 in
+    let same = last.1 in
+    omega arith
+below (x ∷ n ∷ []) v e =
+    let first = before x (256 ^ 3) v (value_of 3 (n ∷ [])) e in
+    let last = chosen (ltb n (256 ^ 3)) n first.0 first.1 in
+    let inside = ltb-true n (256 ^ 3) last.0 in
+    let byte = first.2 in
+    let whole = first.3 in
+    let same = last.1 in
+    omega arith
+below (x ∷ y ∷ n ∷ []) v e =
+    let first = before x (256 ^ 3) v (value_of 3 (y ∷ n ∷ [])) e in
+    let second = before y (256 ^ 2) first.0 (value_of 2 (n ∷ [])) first.1 in
+    let last = chosen (ltb n (256 ^ 2)) n second.0 second.1 in
+    let inside = ltb-true n (256 ^ 2) last.0 in
+    let byte_x = first.2 in
+    let byte_y = second.2 in
+    let whole = first.3 in
+    let rest = second.3 in
+    let same = last.1 in
+    omega arith
+below (x ∷ y ∷ z ∷ n ∷ []) v e =
+    let first = before x (256 ^ 3) v (value_of 3 (y ∷ z ∷ n ∷ [])) e in
+    let second = before y (256 ^ 2) first.0 (value_of 2 (z ∷ n ∷ [])) first.1 in
+    let third = before z (256 ^ 1) second.0 (value_of 1 (n ∷ [])) second.1 in
+    let last = chosen (ltb n (256 ^ 1)) n third.0 third.1 in
+    let inside = ltb-true n (256 ^ 1) last.0 in
+    let byte_x = first.2 in
+    let byte_y = second.2 in
+    let byte_z = third.2 in
+    let whole = first.3 in
+    let rest = second.3 in
+    let more = third.3 in
+    let same = last.1 in
+    omega arith
+below (x ∷ y ∷ z ∷ u ∷ n ∷ ns) v e =
+    let first = before x (256 ^ 3) v (value_of 3 (y ∷ z ∷ u ∷ n ∷ ns)) e in
+    let second = before y (256 ^ 2) first.0 (value_of 2 (z ∷ u ∷ n ∷ ns)) first.1 in
+    let third = before z (256 ^ 1) second.0 (value_of 1 (u ∷ n ∷ ns)) second.1 in
+    let fourth = before u (256 ^ 0) third.0 (value_of 0 (n ∷ ns)) third.1 in
+    absurd (none_some fourth.0 fourth.1)
+  where
+    none_some : (w : ℕ) → value_of 0 (n ∷ ns) ≡ Some w → ⊥
+    none_some w f = cc
+
+pub no_more : (host : List ℕ) (address : ℕ) → address_of host ≡ Some address → address < 2 ^ 32
+unfolding address_of
+no_more host address e =
+    let ns = numbers_there 4 (slice_split is_dot host) address e in below ns.0 address (sym (numbered 4 (slice_split is_dot host) ns.0 ns.1) ∙ e)

@@ -1,5 +1,5 @@
 -- The IPv4 addresses among the names of hosts, in the forms that `inet_aton` reads.
-use Rattle.std.specs.Prelude.{◌≡◌, ℕ, suc, zero, ◌+◌, ◌*◌, ◌/◌, ◌%◌, ◌^◌, List, [], ◌∷◌, ◌++◌, ◌==◌, nat_lt, nat_eq, Bool, ◌&&◌, ◌||◌, if◌then◌else◌, Option, Some, None, option_and_then, codes, length, drop, map, fold}
+use Rattle.std.specs.Prelude.{◌≡◌, ◌<◌, ℕ, suc, zero, ◌+◌, ◌*◌, ◌/◌, ◌%◌, ◌^◌, List, [], ◌∷◌, ◌++◌, ◌==◌, nat_lt, nat_eq, Bool, ◌&&◌, ◌||◌, if◌then◌else◌, Option, Some, None, option_and_then, codes, length, drop, map, fold}
 use Rattle.std.specs.List.{slice_split, starts_with, list_all}
 use Rattle.std.specs.Char.{digit_value}
 
@@ -27,8 +27,12 @@ StandFor (x ∷ y ∷ n ∷ []) a b c d = (x ≡ a) × (y ≡ b) × (n ≡ c * 2
 StandFor (x ∷ y ∷ z ∷ n ∷ []) a b c d = (x ≡ a) × (y ≡ b) × (z ≡ c) × (n ≡ d)
 StandFor _ a b c d = ⊥
 
--- The parts of a host are the numbers that stand for these four bytes.
+-- These four are bytes, and the parts of a host are the numbers that stand for them.
 pub record IsAddressOf (host : List ℕ) (a b c d : ℕ) : Type 0 where
+  pub first : a < 256
+  pub second : b < 256
+  pub third : c < 256
+  pub fourth : d < 256
   pub numbers : List ℕ
   pub parts : map number_of (slice_split is_dot host) ≡ map Some numbers
   pub bytes : StandFor numbers a b c d

@@ -27,7 +27,7 @@ bracketed_host text = str_to_ascii_lowercase (before_first is_close text ++ code
 abbrev pub labels_of : List ℕ → List (List ℕ)
 labels_of text = filter (λ label. not (is_nil label)) (slice_split is_dot text)
 
--- a name with one label more, in lower case; an empty label adds nothing
+-- Of the code and not of the rule: a name with one label more, in lower case; an empty label adds nothing
 abbrev pub with_label : List ℕ → List ℕ → List ℕ
 with_label name label =
     if is_nil label then name

@@ -29,7 +29,7 @@ last_part [] = []
 last_part (part ∷ []) = part
 last_part (part ∷ next ∷ parts) = last_part (next ∷ parts)
 
--- the parts of the rest that a split left, which has none where there is no rest
+-- Of the code and not of the rule: the parts of the rest that a split left, which has none where there is no rest
 abbrev pub parts_behind : {X : Type 0} → (X → Bool) → Option (List X) → List (List X)
 parts_behind p None = []
 parts_behind p (Some rest) = slice_split p rest

@@ -113,8 +113,10 @@ pub fn append_address(out: &mut Bytes, address: u64) -> Result<(), OutOfMemory>
     append_decimal(out, (address % 256) as u8)
 }
 
-/// The address of a name is that of the four bytes that the numbers of its parts stand for.
+/// The address of a name is that of the four bytes that the numbers of its parts stand for, and no name
+/// has an address of more.
 pub fn address_has_four_bytes()
-    ensures { (host : List ℕ) (a b c d : ℕ) → a < 256 → b < 256 → c < 256 → d < 256
+    ensures bytes { (host : List ℕ) (a b c d : ℕ) → a < 256 → b < 256 → c < 256 → d < 256
         → (address_of host ≡ Some (((a * 256 + b) * 256 + c) * 256 + d)) ↔ IsAddressOf host a b c d }
+    ensures fits { (host : List ℕ) (address : ℕ) → address_of host ≡ Some address → address < 2 ^ 32 }
 {}

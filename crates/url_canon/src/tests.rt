@@ -263,7 +263,7 @@ fn refuses(rt: HostRuntime) -> Result<(), Fail> {
     check_refused(
         &rt,
         rt.alloc(),
-        " \n\t\r\n \t #a\n#http://a.b/",
+        "\n \n\t\r\n \t #a\n#http://a.b/",
         UrlFault::Empty,
     );
     Ok(())
