@@ -1,4 +1,4 @@
--- The clauses of a replay that name no step of it.
+-- What a replay says of its input and its output, with no word on how it gets there.
 use Rattle.std.specs.Prelude.{◌≡◌, ◌⊎◌, ℕ, Bool, List, [], ◌∷◌, Option, IfSome}
 use Rattle.sb_model.specs.declared.names.ListName.{ListName}
 use Rattle.sb_outside.specs.Outside.{next_piece, left_behind_end, appended, Rose}
@@ -29,9 +29,10 @@ pub record IsPartlyPrinted (name : ListName) (left left' : Option (List (List �
   pub within : IsWithinLimits input
   pub front : HasFront held held' (replay_text name input)
 
--- The usage text was written: the whole, or a front of it where the sink's count of faults rose.
+-- The usage text was written: the whole, without a fault, or a front of it where the sink's count of faults rose.
 abbrev pub TellsUsage : List ℕ → (held held' : Option (List ℕ)) → (faults faults' : ℕ) → Type 0
-TellsUsage usage held held' faults faults' = (held' ≡ appended held usage) ⊎ (Rose faults faults' × HasFront held held' usage)
+TellsUsage usage held held' faults faults' =
+    ((held' ≡ appended held usage) × (faults' ≡ faults)) ⊎ (Rose faults faults' × HasFront held held' usage)
 
 -- each exit status that a run can have
 abbrev pub IsStatus : ℕ → Type 0

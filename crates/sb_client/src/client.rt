@@ -119,6 +119,7 @@ pub fn run_client<S: Source, O: Sink>(
         → (result ≡ 0) ⊎ (result ≡ 5) ⊎ (result ≡ 8) }
 
     // The headline: over every list of lines, the list after each of them is a replica of the server's.
+    // The last of these lists is the one that `printed` and `refused` print.
     ensures replica { (name : ListName) (lines : List (List ℕ)) → KeepsReplicas name (map (reading_of name) lines) }
 {
     match replay_list(words) {

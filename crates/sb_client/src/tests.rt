@@ -173,6 +173,18 @@ fn is_plain(rt: &impl Abort, alloc: Global, fields: &str, plain: bool) -> Result
 }
 
 #[test]
+fn an_update_without_additions_makes_an_empty_list(rt: HostRuntime) -> Result<(), Fail> {
+    let alloc = rt.alloc();
+    shows(
+        &rt,
+        alloc,
+        update(alloc, SET)?.as_str(),
+        0,
+        "1 MALWARE/ANY_PLATFORM/URL installed 0\nlist MALWARE/ANY_PLATFORM/URL 0 01\n",
+    )
+}
+
+#[test]
 fn empty_additions_may_be_absent_or_null(rt: HostRuntime) -> Result<(), Fail> {
     is_plain(&rt, rt.alloc(), "", true)?;
     is_plain(

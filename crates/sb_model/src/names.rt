@@ -260,7 +260,8 @@ pub fn read_list_name(text: &[u8]) -> Result<ListName, NameFault>
 
 /// The text of a list's name, as `read_list_name` reads it.
 pub fn write_list_name(alloc: Global, name: ListName) -> Result<Bytes, OutOfMemory>
-    ensures { IfOk result (λ text. text ≡ text_of name) }
+    ensures value { IfOk result (λ text. text ≡ text_of name) }
+    ensures read_again { IfOk result (λ text. name_of text ≡ Ok name) }
 {
     let mut text = Bytes::new(alloc);
     text.append(name.threat.word().as_bytes())?;
