@@ -1,3 +1,4 @@
 pub mod Characters
+pub mod NameCodes
 pub mod NameParts
 pub mod NameWords

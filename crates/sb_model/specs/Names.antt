@@ -2,6 +2,8 @@
 use Rattle.std.specs.Prelude.{ℕ, List, [], ◌∷◌, ◌==◌, ◌&&◌, Bool, Option, Some, None, Result, Ok, Err, codes, find}
 use Rattle.std.specs.List.{slice_split, join_with_byte}
 use Rattle.std.specs.Str.{bytes_eq}
+use Rattle.std.specs.declared.cmp.Ordering.{Ordering}
+use Rattle.std.specs.Ordering.{nat_cmp, ordering_then}
 use Rattle.sb_model.specs.declared.names.ThreatType.{ThreatType}
 use Rattle.sb_model.specs.declared.names.ThreatType.TheVariants as threat
 use Rattle.sb_model.specs.declared.names.PlatformType.{PlatformType}
@@ -118,3 +120,10 @@ name_of text = name_of_parts (parts_of text)
 -- whether two names are the same: their types have the same codes
 abbrev pub same_name : ListName → ListName → Bool
 same_name a b = threat_code a.threat == threat_code b.threat && platform_code a.platform == platform_code b.platform && entry_code a.entry == entry_code b.entry
+
+-- the order of names: by the threat's code, then by the platform's, then by the entry's
+abbrev pub name_cmp : ListName → ListName → Ordering
+name_cmp a b =
+    ordering_then (nat_cmp (threat_code a.threat) (threat_code b.threat))
+    (ordering_then (nat_cmp (platform_code a.platform) (platform_code b.platform))
+    (nat_cmp (entry_code a.entry) (entry_code b.entry)))

@@ -4,6 +4,7 @@
 
 pub use bytes::Bytes;
 pub use history::{Added, Change};
+pub use laws::names_go_by_their_codes;
 pub use memory::OutOfMemory;
 pub use names::{
     EntryType, ListName, NameFault, PlatformType, ThreatType, read_list_name, write_list_name,
@@ -13,6 +14,7 @@ pub use text::Text;
 
 mod bytes;
 mod history;
+mod laws;
 mod memory;
 mod names;
 mod row;
