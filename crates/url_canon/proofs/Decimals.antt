@@ -1,13 +1,15 @@
 -- An address in four decimals is read as that address.
 use Rattle.std.proofs.Common.{◌≡◌, ℕ, zero, suc, ◌+◌, ◌*◌, ◌/◌, ◌%◌, ◌^◌, ◌<◌, ◌≤◌, List, [], ◌∷◌, ◌++◌, Bool, true, false, not, ◌&&◌, cond, eqb, ltb, leb, min, Option, Some, None, option_and_then, refl, sym, ap, ◌∙◌, arith, ⊎_elim}
 use Rattle.std.specs.List.{list_any, list_all, AllByRecursion, slice_split, join_with_byte}
+use Rattle.std.specs.Prelude.{decimal}
+use Rattle.std.specs.Fmt.{digits}
 use Rattle.std.specs.Char.{to_ascii_lowercase}
 use Rattle.std.specs.Str.{str_to_ascii_lowercase}
 use Rattle.std.proofs.lemmas.Bool.{or_from, and_parts, eqb-true, ne_eqb, leb-true, not-true, ltb-true, agree_below_at, false≢true, cond-true, cond-false, cases_Bool}
 use Rattle.std.proofs.lemmas.List.{append-nil}
 use Rattle.std.proofs.lemmas.Bool.Decides.{nat_tests}
 use Rattle.url_canon.specs.Words.{is_nil}
-use Rattle.url_canon.specs.Address.{is_dot, number_in, number_of, address_in, address_of, decimal_byte, address_text}
+use Rattle.url_canon.specs.Address.{is_dot, number_in, number_of, address_in, address_of, address_text}
 use Rattle.url_canon.specs.Host.{is_colon, name_of}
 use Rattle.url_canon.proofs.Splits.{Lacks}
 use Rattle.url_canon.proofs.Numbers.{stopped, address_in-last, address_in-more, joined_below}
@@ -23,11 +25,11 @@ is_number None n = false
 is_number (Some m) n = eqb m n
 
 decimal_test : ℕ → Bool
-decimal_test n = not (is_nil (decimal_byte n)) && (list_all is_figure (decimal_byte n) && is_number (number_of (decimal_byte n)) n)
+decimal_test n = not (is_nil (decimal n)) && (list_all is_figure (decimal n) && is_number (number_of (decimal n)) n)
 
 -- each byte, one after the other
 tested : (n : ℕ) → n < 256 → decimal_test n ≡ true
-unfolding decimal_test is_figure is_number number_of number_in
+unfolding decimal_test is_figure is_number number_of number_in digits
 tested n h = agree_below_at decimal_test (λ _. true) 256 n refl h
 
 number_from : (o : Option ℕ) (n : ℕ) → is_number o n ≡ true → o ≡ Some n
@@ -57,16 +59,16 @@ figures_lower (x ∷ xs) e =
 
 -- what the decimal of a byte is
 record IsDecimal (n : ℕ) : Type 0 where
-  some : is_nil (decimal_byte n) ≡ false
-  figures : list_all is_figure (decimal_byte n) ≡ true
-  number : number_of (decimal_byte n) ≡ Some n
+  some : is_nil (decimal n) ≡ false
+  figures : list_all is_figure (decimal n) ≡ true
+  number : number_of (decimal n) ≡ Some n
 
-decimal : (n : ℕ) → n < 256 → IsDecimal n
+decimal_of : (n : ℕ) → n < 256 → IsDecimal n
 unfolding decimal_test
-decimal n h =
-    let parts = and_parts (not (is_nil (decimal_byte n))) _ (tested n h) in
-    let more = and_parts (list_all is_figure (decimal_byte n)) _ parts.1 in
-    record { some = not-true (is_nil (decimal_byte n)) parts.0; figures = more.0; number = number_from (number_of (decimal_byte n)) n more.1 }
+decimal_of n h =
+    let parts = and_parts (not (is_nil (decimal n))) _ (tested n h) in
+    let more = and_parts (list_all is_figure (decimal n)) _ parts.1 in
+    record { some = not-true (is_nil (decimal n)) parts.0; figures = more.0; number = number_from (number_of (decimal n)) n more.1 }
 
 apart : (c : ℕ) → c < 48 → (x : ℕ) → 48 ≤ x → x ≤ 57 → eqb x c ≡ false
 apart c h x low high = ne_eqb x c (λ e. omega arith)
@@ -74,19 +76,19 @@ apart c h x low high = ne_eqb x c (λ e. omega arith)
 above : (c : ℕ) → 57 < c → (x : ℕ) → 48 ≤ x → x ≤ 57 → eqb x c ≡ false
 above c h x low high = ne_eqb x c (λ e. omega arith)
 
-label : (n : ℕ) → n < 256 → IsLabel (decimal_byte n)
+label : (n : ℕ) → n < 256 → IsLabel (decimal n)
 label n h =
-    let d = decimal n h in
+    let d = decimal_of n h in
     record {
       some = d.some;
-      dotless = figures_lack is_dot (decimal_byte n) (apart 46 (omega arith)) d.figures;
-      no_port = figures_lack is_colon (decimal_byte n) (above 58 (omega arith)) d.figures;
-      lower = figures_lower (decimal_byte n) d.figures;
+      dotless = figures_lack is_dot (decimal n) (apart 46 (omega arith)) d.figures;
+      no_port = figures_lack is_colon (decimal n) (above 58 (omega arith)) d.figures;
+      lower = figures_lower (decimal n) d.figures;
     }
 
 -- the four bytes of an address
 abbrev bytes : ℕ → List (List ℕ)
-bytes v = decimal_byte (v / 16777216) ∷ decimal_byte (v / 65536 % 256) ∷ decimal_byte (v / 256 % 256) ∷ decimal_byte (v % 256) ∷ []
+bytes v = decimal (v / 16777216) ∷ decimal (v / 65536 % 256) ∷ decimal (v / 256 % 256) ∷ decimal (v % 256) ∷ []
 
 text_is : (v : ℕ) → address_text v ≡ join_with_byte 46 (bytes v)
 unfolding address_text
@@ -95,7 +97,7 @@ text_is v = refl
 small : (v : ℕ) → v < 4294967296 → v / 16777216 < 256
 small v h = omega arith
 
-each_decimal : (Q : List ℕ → Type 0) (v : ℕ) → v < 4294967296 → ((n : ℕ) → n < 256 → Q (decimal_byte n)) → AllByRecursion Q (bytes v)
+each_decimal : (Q : List ℕ → Type 0) (v : ℕ) → v < 4294967296 → ((n : ℕ) → n < 256 → Q (decimal n)) → AllByRecursion Q (bytes v)
 each_decimal Q v h f = (f (v / 16777216) (small v h), (f (v / 65536 % 256) (omega arith), (f (v / 256 % 256) (omega arith), (f (v % 256) (omega arith), tt))))
 
 pub name_of-address : (v : ℕ) → v < 4294967296 → name_of (address_text v) ≡ address_text v
@@ -104,14 +106,14 @@ name_of-address v h = ap name_of (text_is v) ∙ (name_of-join (bytes v) (each_d
 -- what neither a figure nor a dot is
 pub Lacks-address : (q : ℕ → Bool) (v : ℕ) → v < 4294967296 → q 46 ≡ false → ((x : ℕ) → 48 ≤ x → x ≤ 57 → q x ≡ false) → Lacks q (address_text v)
 Lacks-address q v h e none =
-    ap (list_any q) (text_is v) ∙ Lacks-join q 46 (bytes v) e (each_decimal (Lacks q) v h (λ n k. figures_lack q (decimal_byte n) none (decimal n k).figures))
+    ap (list_any q) (text_is v) ∙ Lacks-join q 46 (bytes v) e (each_decimal (Lacks q) v h (λ n k. figures_lack q (decimal n) none (decimal_of n k).figures))
 
 pub plain-address : (v : ℕ) → v < 4294967296 → IsPlain (address_text v)
 plain-address v h =
     ap has_escape (sym (append-nil (address_text v))) ∙ plain-behind (address_text v) [] (Lacks-address (λ x. eqb x 37) v h refl (apart 37 (omega arith))) refl
 
-stop : (n : ℕ) → n < 256 → stopped (number_of (decimal_byte n)) ≡ Some n
-stop n h = let least : min n 4294967296 ≡ n = omega arith in ap stopped (decimal n h).number ∙ ap Some least
+stop : (n : ℕ) → n < 256 → stopped (number_of (decimal n)) ≡ Some n
+stop n h = let least : min n 4294967296 ≡ n = omega arith in ap stopped (decimal_of n h).number ∙ ap Some least
 
 value : (v : ℕ) → v / 16777216 * 256 ^ 3 + (v / 65536 % 256 * 256 ^ 2 + (v / 256 % 256 * 256 ^ 1 + v % 256)) ≡ v
 value v =
@@ -127,10 +129,10 @@ address_of-text v h =
     let c = v / 256 % 256 in
     let d = v % 256 in
     let parts : slice_split is_dot (address_text v) ≡ bytes v = ap (slice_split is_dot) (text_is v) ∙ split_join 46 (bytes v) (omega arith) (each_decimal (Lacks is_dot) v h (λ n k. (label n k).dotless)) in
-    let last = address_in-last 1 0 (decimal_byte d) d refl (omega arith) (stop d (omega arith)) (omega arith) in
-    let third = address_in-more 2 1 (decimal_byte c) (decimal_byte d ∷ []) c d refl (omega arith) (stop c (omega arith)) (omega arith) last in
-    let second = address_in-more 3 2 (decimal_byte b) (decimal_byte c ∷ decimal_byte d ∷ []) b (c * 256 ^ 1 + d) refl (omega arith) (stop b (omega arith)) (omega arith) third in
-    let first = address_in-more 4 3 (decimal_byte a) (decimal_byte b ∷ decimal_byte c ∷ decimal_byte d ∷ []) a (b * 256 ^ 2 + (c * 256 ^ 1 + d)) refl (omega arith) (stop a (small v h)) (small v h) second in
+    let last = address_in-last 1 0 (decimal d) d refl (omega arith) (stop d (omega arith)) (omega arith) in
+    let third = address_in-more 2 1 (decimal c) (decimal d ∷ []) c d refl (omega arith) (stop c (omega arith)) (omega arith) last in
+    let second = address_in-more 3 2 (decimal b) (decimal c ∷ decimal d ∷ []) b (c * 256 ^ 1 + d) refl (omega arith) (stop b (omega arith)) (omega arith) third in
+    let first = address_in-more 4 3 (decimal a) (decimal b ∷ decimal c ∷ decimal d ∷ []) a (b * 256 ^ 2 + (c * 256 ^ 1 + d)) refl (omega arith) (stop a (small v h)) (small v h) second in
     ap (address_in 4) parts ∙ (first ∙ ap Some (value v))
 
 -- an address fits its bytes
@@ -157,8 +159,8 @@ unfolding address_of
 address_of-fits name v e = fits 4 (slice_split is_dot name) v e
 
 pub starts_small : (v : ℕ) → v < 4294967296 → is_nil (address_text v) ≡ false
-starts_small v h = ap is_nil (text_is v) ∙ joined (decimal_byte (v / 16777216)) (decimal (v / 16777216) (small v h)).some
+starts_small v h = ap is_nil (text_is v) ∙ joined (decimal (v / 16777216)) (decimal_of (v / 16777216) (small v h)).some
   where
-    joined : (d : List ℕ) → is_nil d ≡ false → is_nil (d ++ (46 ∷ join_with_byte 46 (decimal_byte (v / 65536 % 256) ∷ decimal_byte (v / 256 % 256) ∷ decimal_byte (v % 256) ∷ []))) ≡ false
+    joined : (d : List ℕ) → is_nil d ≡ false → is_nil (d ++ (46 ∷ join_with_byte 46 (decimal (v / 65536 % 256) ∷ decimal (v / 256 % 256) ∷ decimal (v % 256) ∷ []))) ≡ false
     joined [] e = refl
     joined (x ∷ d) e = refl

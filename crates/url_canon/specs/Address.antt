@@ -1,5 +1,5 @@
 -- The IPv4 addresses among the names of hosts, in the forms that `inet_aton` reads.
-use Rattle.std.specs.Prelude.{◌≡◌, ◌<◌, ℕ, suc, zero, ◌+◌, ◌*◌, ◌/◌, ◌%◌, ◌^◌, List, [], ◌∷◌, ◌++◌, ◌==◌, nat_lt, nat_eq, Bool, ◌&&◌, ◌||◌, if◌then◌else◌, Option, Some, None, option_and_then, codes, length, drop, map, fold}
+use Rattle.std.specs.Prelude.{◌≡◌, ◌<◌, ℕ, suc, zero, ◌+◌, ◌*◌, ◌/◌, ◌%◌, ◌^◌, List, [], ◌∷◌, ◌++◌, ◌==◌, nat_lt, nat_eq, Bool, ◌&&◌, ◌||◌, if◌then◌else◌, Option, Some, None, option_and_then, codes, length, drop, map, fold, decimal}
 use Rattle.std.specs.List.{slice_split, starts_with, list_all}
 use Rattle.std.specs.Char.{digit_value}
 
@@ -50,15 +50,8 @@ address_in (suc width) (part ∷ next ∷ parts) =
 unfoldable pub address_of : List ℕ → Option ℕ
 address_of host = address_in 4 (slice_split is_dot host)
 
--- a byte in decimal digits
-abbrev pub decimal_byte : ℕ → List ℕ
-decimal_byte byte =
-    if nat_lt byte 10 then (48 + byte) ∷ []
-    else (if nat_lt byte 100 then (48 + byte / 10) ∷ (48 + byte % 10) ∷ []
-    else (48 + byte / 100) ∷ (48 + byte / 10 % 10) ∷ (48 + byte % 10) ∷ [])
-
 -- the four bytes of an address in decimal digits, parted by dots
 unfoldable pub address_text : ℕ → List ℕ
 address_text address =
-    decimal_byte (address / 16777216) ++ (46 ∷ (decimal_byte (address / 65536 % 256)
-    ++ (46 ∷ (decimal_byte (address / 256 % 256) ++ (46 ∷ decimal_byte (address % 256))))))
+    decimal (address / 16777216) ++ (46 ∷ (decimal (address / 65536 % 256)
+    ++ (46 ∷ (decimal (address / 256 % 256) ++ (46 ∷ decimal (address % 256))))))

@@ -1,9 +1,10 @@
-ghost use Rattle.std.specs.Prelude.{◌≡◌, ℕ, List, Some, ◌↔◌, ◌+◌, ◌*◌, ◌^◌, ◌≤◌, ◌<◌, ◌++◌, min, option_map, OnOk, IfSome};
+ghost use Rattle.std.specs.Prelude.{◌≡◌, ℕ, List, Some, ◌↔◌, ◌+◌, ◌*◌, ◌^◌, ◌≤◌, ◌<◌, ◌++◌, min, option_map, OnOk, IfSome, decimal};
 ghost use Rattle.std.specs.List.{slice_split};
-ghost use Rattle.url_canon.specs.Address.{IsAddressOf, is_dot, number_in, number_of, address_in, address_of, decimal_byte, address_text};
+ghost use Rattle.url_canon.specs.Address.{IsAddressOf, is_dot, number_in, number_of, address_in, address_of, address_text};
 
 use crate::split::split_at_byte;
 use crate::unescape::hex_value;
+use itoa::Buffer;
 use sb_model::{Bytes, OutOfMemory};
 
 /// One more than the greatest IPv4 address.
@@ -85,17 +86,12 @@ pub fn address_of(name: &[u8]) -> Option<u64>
     address_in(4, name)
 }
 
-/// Appends a byte in decimal digits.
-fn append_decimal(out: &mut Bytes, byte: u8) -> Result<(), OutOfMemory>
-    ensures { OnOk result (out.new ≡ out.old ++ decimal_byte byte) }
+/// Appends a number in decimal digits.
+fn append_decimal(out: &mut Bytes, number: u64) -> Result<(), OutOfMemory>
+    ensures { OnOk result (out.new ≡ out.old ++ decimal number) }
 {
-    if byte < 10 {
-        return out.push(b'0' + byte);
-    }
-    if byte < 100 {
-        return out.append(&[b'0' + byte / 10, b'0' + byte % 10]);
-    }
-    out.append(&[b'0' + byte / 100, b'0' + byte / 10 % 10, b'0' + byte % 10])
+    let mut buffer = Buffer::new();
+    out.append(buffer.format(number).as_bytes())
 }
 
 /// Appends an address as four decimals, parted by dots.
@@ -104,13 +100,13 @@ pub fn append_address(out: &mut Bytes, address: u64) -> Result<(), OutOfMemory>
     requires { address < 2 ^ 32 }
     ensures { OnOk result (out.new ≡ out.old ++ address_text address) }
 {
-    append_decimal(out, (address / 0x100_0000) as u8)?;
+    append_decimal(out, address / 0x100_0000)?;
     out.push(b'.')?;
-    append_decimal(out, (address / 0x1_0000 % 256) as u8)?;
+    append_decimal(out, address / 0x1_0000 % 256)?;
     out.push(b'.')?;
-    append_decimal(out, (address / 256 % 256) as u8)?;
+    append_decimal(out, address / 256 % 256)?;
     out.push(b'.')?;
-    append_decimal(out, (address % 256) as u8)
+    append_decimal(out, address % 256)
 }
 
 /// The address of a name is that of the four bytes that the numbers of its parts stand for, and no name
