@@ -4,6 +4,7 @@ ghost use Rattle.std.specs.List.Sorted.{IsStrictlyIncreasing};
 use super::*;
 use sb_model::{Bytes, OutOfMemory};
 use std::alloc::Global;
+use std::process::Abort;
 use std::test::Fail;
 
 fn record_of(
@@ -62,9 +63,21 @@ fn encodes_with_the_best_parameter(rt: HostRuntime) -> Result<(), Fail> {
     Ok(())
 }
 
+// Sees that a record stands for these numbers.
+fn decodes(
+    rt: &impl Abort,
+    alloc: Global,
+    record: &RiceRecord,
+    values: &[u32],
+) -> Result<(), Fail> {
+    let decoded = decode(alloc, record, values.len() as u32)?;
+    assert_eq!(rt; decoded.as_slice(), values, "from {record:?}");
+    Ok(())
+}
+
 #[test]
-fn decodes_what_stands_for_a_list(rt: HostRuntime) -> Result<(), Fail> {
-    let cases: [(u64, u32, u32, &[u8], &[u32]); 12] = [
+fn decodes_the_codes_of_a_list(rt: HostRuntime) -> Result<(), Fail> {
+    let cases: [(u64, u32, u32, &[u8], &[u32]); 8] = [
         (5, 2, 2, &[0xb1, 0x01], &[5, 9, 20]),
         // The free bits are set.
         (5, 2, 2, &[0xb1, 0xff], &[5, 9, 20]),
@@ -73,109 +86,124 @@ fn decodes_what_stands_for_a_list(rt: HostRuntime) -> Result<(), Fail> {
         (7, 0, 0, &[], &[7]),
         (7, 29, 0, &[], &[7]),
         (4_294_967_295, 4_294_967_295, 0, &[], &[4_294_967_295]),
-        // The sum is 4,294,967,295.
-        (
-            0,
-            28,
-            1,
-            &[0xff, 0x7f, 0xff, 0xff, 0xff, 0x0f],
-            &[0, 4_294_967_295],
-        ),
-        (
-            4_294_967_293,
-            2,
-            1,
-            &[0x02],
-            &[4_294_967_293, 4_294_967_294],
-        ),
         // Deltas of 0, and two free bits.
         (3, 2, 2, &[0xc0], &[3, 3, 3]),
         // Seven free bits.
         (3, 8, 1, &[0x00, 0xfe], &[3, 3]),
-        // Quotients of 75 and of 250.
-        (
-            0,
-            2,
-            1,
-            &[0xff, 0xff, 0xff, 0xff, 0xff, 0xff, 0xff, 0xff, 0xff, 0x07],
-            &[0, 300],
-        ),
-        (
-            0,
-            2,
-            2,
-            &[
-                0xff, 0xff, 0xff, 0xff, 0xff, 0xff, 0xff, 0xff, 0xff, 0xff, 0xff, 0xff, 0xff, 0xff,
-                0xff, 0xff, 0xff, 0xff, 0xff, 0xff, 0xff, 0xff, 0xff, 0xff, 0xff, 0xff, 0xff, 0xff,
-                0xff, 0xff, 0xff, 0x43,
-            ],
-            &[0, 1000, 1001],
-        ),
     ];
     for (first, parameter, count, coded, values) in cases {
         let record = record_of(rt.alloc(), first, parameter, count, coded)?;
-        let decoded = decode(rt.alloc(), &record, count + 1)?;
-        assert_eq!(rt; decoded.as_slice(), values, "from {coded:?}");
+        decodes(&rt, rt.alloc(), &record, values)?;
     }
     Ok(())
 }
 
 #[test]
-fn refuses_what_stands_for_none(rt: HostRuntime) -> Result<(), Fail> {
-    let cases: [(u64, u32, u32, &[u8], u32, RiceFault); 22] = [
-        (5, 1, 1, &[0x00], 2, RiceFault::Parameter(1)),
-        (5, 29, 1, &[0x00], 2, RiceFault::Parameter(29)),
-        (5, 0, 2, &[], 3, RiceFault::Parameter(0)),
-        // The parameter is looked at first, then the count, then the first number.
-        (4_294_967_296, 29, 5, &[], 1, RiceFault::Parameter(29)),
-        (4_294_967_296, 2, 5, &[], 5, RiceFault::CountLimit(6)),
-        (4_294_967_296, 2, 5, &[], 6, RiceFault::Range(0)),
-        (5, 2, 2, &[0xb1, 0x01], 2, RiceFault::CountLimit(3)),
-        (5, 0, 0, &[], 0, RiceFault::CountLimit(1)),
+fn decodes_up_to_the_greatest_number(rt: HostRuntime) -> Result<(), Fail> {
+    let alloc = rt.alloc();
+    let coded = [0xff, 0x7f, 0xff, 0xff, 0xff, 0x0f];
+    let record = record_of(alloc, 0, 28, 1, &coded)?;
+    decodes(&rt, alloc, &record, &[0, 4_294_967_295])?;
+    let record = record_of(alloc, 4_294_967_293, 2, 1, &[0x02])?;
+    decodes(&rt, alloc, &record, &[4_294_967_293, 4_294_967_294])
+}
+
+#[test]
+fn decodes_long_quotients(rt: HostRuntime) -> Result<(), Fail> {
+    let alloc = rt.alloc();
+    // A quotient of 75.
+    let coded = [0xff, 0xff, 0xff, 0xff, 0xff, 0xff, 0xff, 0xff, 0xff, 0x07];
+    let record = record_of(alloc, 0, 2, 1, &coded)?;
+    decodes(&rt, alloc, &record, &[0, 300])?;
+    // One of 250, and behind it one of 0.
+    let mut coded = [0xff; 32];
+    coded[31] = 0x43;
+    let record = record_of(alloc, 0, 2, 2, &coded)?;
+    decodes(&rt, alloc, &record, &[0, 1000, 1001])
+}
+
+// Sees why a record stands for no numbers.
+fn refuses(
+    rt: &impl Abort,
+    alloc: Global,
+    record: &RiceRecord,
+    limit: u32,
+    fault: RiceFault,
+) -> Result<(), Fail> {
+    let refused = decode(alloc, record, limit).err();
+    assert_eq!(rt; refused, Some(fault), "at {record:?}");
+    Ok(())
+}
+
+// The parameter is looked at first, then the count, then the first number.
+#[test]
+fn refuses_parameters_counts_and_first_numbers(rt: HostRuntime) -> Result<(), Fail> {
+    let cases: [(u64, u32, u32, u32, RiceFault); 11] = [
+        (5, 1, 1, 2, RiceFault::Parameter(1)),
+        (5, 29, 1, 2, RiceFault::Parameter(29)),
+        (5, 0, 2, 3, RiceFault::Parameter(0)),
+        (4_294_967_296, 29, 5, 1, RiceFault::Parameter(29)),
+        (4_294_967_296, 2, 5, 5, RiceFault::CountLimit(6)),
+        (4_294_967_296, 2, 5, 6, RiceFault::Range(0)),
+        (4_294_967_296, 0, 0, 1, RiceFault::Range(0)),
+        (5, 2, 2, 2, RiceFault::CountLimit(3)),
+        (5, 0, 0, 0, RiceFault::CountLimit(1)),
         (
             5,
             2,
-            2_147_483_647,
-            &[],
-            1_048_576,
-            RiceFault::CountLimit(2_147_483_648),
+            0x7fff_ffff,
+            0x10_0000,
+            RiceFault::CountLimit(0x8000_0000),
         ),
         (
             5,
             2,
-            4_294_967_295,
-            &[],
-            4_294_967_295,
-            RiceFault::CountLimit(4_294_967_296),
+            0xffff_ffff,
+            0xffff_ffff,
+            RiceFault::CountLimit(0x1_0000_0000),
         ),
-        (4_294_967_296, 0, 0, &[], 1, RiceFault::Range(0)),
-        // The ones never end, the low bits are missing, a whole code is missing.
-        (5, 2, 1, &[], 2, RiceFault::Ended(1)),
-        (5, 2, 1, &[0xff, 0xff], 2, RiceFault::Ended(1)),
-        (4_294_967_295, 28, 1, &[0xff; 20], 2, RiceFault::Ended(1)),
-        (5, 28, 1, &[0x00, 0x00, 0x00], 2, RiceFault::Ended(1)),
-        (5, 2, 2, &[0xb1], 3, RiceFault::Ended(2)),
-        // A sum of 2 ^ 32, also where the number before was the greatest, and a quotient of 75.
-        (4_294_967_295, 2, 1, &[0x01], 2, RiceFault::Range(1)),
-        (4_294_967_294, 2, 1, &[0x04], 2, RiceFault::Range(1)),
-        (
-            0,
-            28,
-            1,
-            &[
-                0xff, 0xff, 0xff, 0xff, 0xff, 0xff, 0xff, 0xff, 0xff, 0x07, 0x00, 0x00, 0x00,
-            ],
-            2,
-            RiceFault::Range(1),
-        ),
-        (5, 2, 2, &[0xb1, 0x01, 0x00], 3, RiceFault::LeftOver(15)),
-        (5, 7, 1, &[0x00, 0x00], 2, RiceFault::LeftOver(8)),
-        (7, 0, 0, &[0x00], 1, RiceFault::LeftOver(8)),
     ];
-    for (first, parameter, count, coded, limit, fault) in cases {
+    for (first, parameter, count, limit, fault) in cases {
+        let record = record_of(rt.alloc(), first, parameter, count, &[0xb1, 0x01])?;
+        refuses(&rt, rt.alloc(), &record, limit, fault)?;
+    }
+    Ok(())
+}
+
+// The ones never end, the low bits are missing, or a whole code is.
+#[test]
+fn refuses_bits_that_end(rt: HostRuntime) -> Result<(), Fail> {
+    let cases: [(u64, u32, u32, &[u8], RiceFault); 5] = [
+        (5, 2, 1, &[], RiceFault::Ended(1)),
+        (5, 2, 1, &[0xff, 0xff], RiceFault::Ended(1)),
+        (4_294_967_295, 28, 1, &[0xff; 20], RiceFault::Ended(1)),
+        (5, 28, 1, &[0x00, 0x00, 0x00], RiceFault::Ended(1)),
+        (5, 2, 2, &[0xb1], RiceFault::Ended(2)),
+    ];
+    for (first, parameter, count, coded, fault) in cases {
         let record = record_of(rt.alloc(), first, parameter, count, coded)?;
-        let refused = decode(rt.alloc(), &record, limit).err();
-        assert_eq!(rt; refused, Some(fault), "at {coded:?}");
+        refuses(&rt, rt.alloc(), &record, 3, fault)?;
+    }
+    Ok(())
+}
+
+#[test]
+fn refuses_sums_past_32_bits_and_bits_left_over(rt: HostRuntime) -> Result<(), Fail> {
+    let long = [
+        0xff, 0xff, 0xff, 0xff, 0xff, 0xff, 0xff, 0xff, 0xff, 0x07, 0x00, 0x00, 0x00,
+    ];
+    let cases: [(u64, u32, u32, &[u8], RiceFault); 6] = [
+        // A sum of 2 ^ 32, also where the number before was the greatest, and a quotient of 75.
+        (4_294_967_295, 2, 1, &[0x01], RiceFault::Range(1)),
+        (4_294_967_294, 2, 1, &[0x04], RiceFault::Range(1)),
+        (0, 28, 1, &long, RiceFault::Range(1)),
+        (5, 2, 2, &[0xb1, 0x01, 0x00], RiceFault::LeftOver(15)),
+        (5, 7, 1, &[0x00, 0x00], RiceFault::LeftOver(8)),
+        (7, 0, 0, &[0x00], RiceFault::LeftOver(8)),
+    ];
+    for (first, parameter, count, coded, fault) in cases {
+        let record = record_of(rt.alloc(), first, parameter, count, coded)?;
+        refuses(&rt, rt.alloc(), &record, 3, fault)?;
     }
     Ok(())
 }
