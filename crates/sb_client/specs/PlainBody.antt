@@ -50,19 +50,19 @@ single (item d (item e more)) = None
 abbrev pub single_of : List ℕ → Data → Option Data
 single_of name value = field name value >>= as_array >>= single
 
--- whether a field is this text
 abbrev pub is_word : List ℕ → Option (List ℕ) → Bool
 is_word word None = false
 is_word word (Some text) = bytes_eq text word
 
+-- whether a field is this text
 abbrev pub is_text : List ℕ → List ℕ → Data → Bool
 is_text name word value = is_word word (field name value >>= as_str)
 
--- whether a field is this number
 abbrev pub is_count : ℕ → Option ℕ → Bool
 is_count n None = false
 is_count n (Some m) = m == n
 
+-- whether a field is this number
 abbrev pub is_number : List ℕ → ℕ → Data → Bool
 is_number name n value = is_count n (field name value >>= as_number >>= as_u64)
 
