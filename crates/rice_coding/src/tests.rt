@@ -63,14 +63,14 @@ fn encodes_with_the_best_parameter(rt: HostRuntime) -> Result<(), Fail> {
     Ok(())
 }
 
-// Sees that a record stands for these numbers.
+// Sees that a record stands for these numbers, with the least limit that admits them.
 fn decodes(
     rt: &impl Abort,
     alloc: Global,
     record: &RiceRecord,
     values: &[u32],
 ) -> Result<(), Fail> {
-    let decoded = decode(alloc, record, values.len() as u32)?;
+    let decoded = decode(alloc, record, record.count.saturating_add(1))?;
     assert_eq!(rt; decoded.as_slice(), values, "from {record:?}");
     Ok(())
 }
