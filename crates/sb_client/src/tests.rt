@@ -23,13 +23,19 @@ const BEHIND: &str =
 const INSTALLED: &str =
     "1 MALWARE/ANY_PLATFORM/URL installed 1\nlist MALWARE/ANY_PLATFORM/URL 1 01\n31323334\n";
 
+const REFUSED_FIRST: &str =
+    "1 MALWARE/ANY_PLATFORM/URL refused checksum 03ac674216f3e15c761ee1a5e255f067953623c8b388b4459e13f978d7c846f4 07ac674216f3e15c761ee1a5e255f067953623c8b388b4459e13f978d7c846f4\n2 MALWARE/ANY_PLATFORM/URL installed 1\nlist MALWARE/ANY_PLATFORM/URL 1 01\n31323334\n";
+
+const REFUSED_LATER: &str =
+    "1 MALWARE/ANY_PLATFORM/URL installed 1\n2 MALWARE/ANY_PLATFORM/URL refused checksum 03ac674216f3e15c761ee1a5e255f067953623c8b388b4459e13f978d7c846f4 07ac674216f3e15c761ee1a5e255f067953623c8b388b4459e13f978d7c846f4\nlist MALWARE/ANY_PLATFORM/URL 1 01\n31323334\n";
+
 const NOTHING: &str = "list MALWARE/ANY_PLATFORM/URL 0 -\n";
 
 fn body(alloc: Global, checksum: &str) -> Result<String, AllocError> {
     format!(in alloc; "{BEFORE}{checksum}{BEHIND}")
 }
 
-// A full update without a field, as JSON: `before`, the fields of the update, `behind`.
+// A full update with these fields beside the names of its list and its type, as JSON.
 fn update(alloc: Global, fields: &str) -> Result<String, AllocError> {
     format!(in alloc;
         "{{\"listUpdateResponses\":[{{{fields},\"platformType\":\"ANY_PLATFORM\",\"responseType\":\"FULL_UPDATE\",\"threatEntryType\":\"URL\",\"threatType\":\"MALWARE\"}}]}}"
@@ -66,37 +72,42 @@ fn replayed(alloc: Global, input: &str) -> Result<(u8, MemorySink), Fail> {
     Ok((status, out))
 }
 
-#[test]
-fn an_update_is_installed_where_its_checksum_agrees(rt: HostRuntime) -> Result<(), Fail> {
-    let alloc = rt.alloc();
-    let (status, out) = replayed(alloc, body(alloc, GOOD)?.as_str())?;
-    assert_eq!(rt; status, 0);
-    assert_eq!(rt; out.bytes(), INSTALLED.as_bytes());
-
-    let both = format!(in alloc; "{}\n{}\n", body(alloc, WRONG)?, body(alloc, GOOD)?)?;
-    let (status, out) = replayed(alloc, both.as_str())?;
-    assert_eq!(rt; status, 5);
-    assert_eq!(rt;
-        out.bytes(),
-        "1 MALWARE/ANY_PLATFORM/URL refused checksum 03ac674216f3e15c761ee1a5e255f067953623c8b388b4459e13f978d7c846f4 07ac674216f3e15c761ee1a5e255f067953623c8b388b4459e13f978d7c846f4\n2 MALWARE/ANY_PLATFORM/URL installed 1\nlist MALWARE/ANY_PLATFORM/URL 1 01\n31323334\n".as_bytes()
-    );
-
-    let refused_later = format!(in alloc; "{}\n{}", body(alloc, GOOD)?, body(alloc, WRONG)?)?;
-    let (status, out) = replayed(alloc, refused_later.as_str())?;
-    assert_eq!(rt; status, 5);
-    assert!(rt;
-        out.bytes()
-            .ends_with(b"list MALWARE/ANY_PLATFORM/URL 1 01\n31323334\n")
-    );
-    Ok(())
-}
-
 // Sees what a replay of `input` answers and writes.
 fn shows(rt: &impl Abort, alloc: Global, input: &str, status: u8, text: &str) -> Result<(), Fail> {
     let (answer, out) = replayed(alloc, input)?;
     assert_eq!(rt; out.bytes(), text.as_bytes());
     assert_eq!(rt; answer, status);
     Ok(())
+}
+
+#[test]
+fn an_update_is_installed_where_its_checksum_agrees(rt: HostRuntime) -> Result<(), Fail> {
+    let alloc = rt.alloc();
+    shows(&rt, alloc, body(alloc, GOOD)?.as_str(), 0, INSTALLED)
+}
+
+// Sees what a replay of two bodies answers and writes.
+fn both_show(
+    rt: &impl Abort,
+    alloc: Global,
+    first: &str,
+    second: &str,
+    text: &str,
+) -> Result<(), Fail> {
+    let first = body(alloc, first)?;
+    let second = body(alloc, second)?;
+    let input = format!(in alloc; "{first}\n{second}\n")?;
+    shows(rt, alloc, input.as_str(), 5, text)
+}
+
+#[test]
+fn an_update_is_installed_behind_a_refused_one(rt: HostRuntime) -> Result<(), Fail> {
+    both_show(&rt, rt.alloc(), WRONG, GOOD, REFUSED_FIRST)
+}
+
+#[test]
+fn a_refused_update_leaves_the_list(rt: HostRuntime) -> Result<(), Fail> {
+    both_show(&rt, rt.alloc(), GOOD, WRONG, REFUSED_LATER)
 }
 
 #[test]
