@@ -1,4 +1,4 @@
-# Builds the programs, and tries and measures them.
+# Builds the programs, and tries, compares and measures them.
 #
 # The toolchain builds a program only once it is proved, so the first build proves the program and
 # what it stands on; a later one proves what has changed since. The code is optimised (LLVM, -O3).
@@ -8,7 +8,7 @@ LIST := MALWARE/ANY_PLATFORM/URL
 PROGRAMS := sbupdate kernels
 SOURCES := crates.txt HANDLES $(shell find crates \( -name out -o -name must-fail \) -prune -o -type f -print)
 
-.PHONY: all test demo bench clean
+.PHONY: all test demo compare bench clean
 .DELETE_ON_ERROR:
 
 all: $(PROGRAMS:%=bin/%)
@@ -27,6 +27,10 @@ test:
 demo: all
 	@bin/sbupdate replay $(LIST) < demo/recording.jsonl; status=$$?; \
 	  echo "status $$status"; test $$status -eq 5
+
+# A second program of the same rules, in Python, has to print what sbupdate prints.
+compare: all
+	python3 compare/compare.py
 
 bench: all
 	python3 bench/bench.py
