@@ -25,12 +25,12 @@ pub record IsWritten (before out all rest : List ℕ) : Type 0 where
   pub kept : take (length before) out ≡ before
 
 -- one more piece
-pub IsWritten-more : (before out all rest piece behind next : List ℕ) → IsWritten before out all rest
-    → piece ++ behind ≡ rest → next ≡ out ++ encode_lower piece → IsWritten before next all behind
-IsWritten-more before out all rest piece behind next h split wrote =
+pub IsWritten-more : (before out all rest piece later next : List ℕ) → IsWritten before out all rest
+    → piece ++ later ≡ rest → next ≡ out ++ encode_lower piece → IsWritten before next all later
+IsWritten-more before out all rest piece later next h split wrote =
     let room : length before ≤ length out = omega (arith, length-take (length before) out, ap length h.kept) in
     record {
-      whole = rw (wrote, append_assoc, ← encode_with-append lower_digits piece behind, split) h.whole;
+      whole = rw (wrote, append_assoc, ← encode_with-append lower_digits piece later, split) h.whole;
       kept = rw wrote (take-append-le (length before) out (encode_lower piece) room ∙ h.kept);
     }
 

@@ -1,4 +1,4 @@
--- How a prefix is kept: its bytes at the front of an array of 32, with zeros behind them.
+-- How a prefix is kept: its bytes at the front of an array of 32, with zeros after them.
 use Rattle.std.specs.Prelude.{◌≡◌, ℕ, ◌-◌, ◌≤◌, List, ◌++◌, length, take, drop, replicate}
 use Rattle.std.proofs.Common.{ap, sym, subst, ◌∙◌}
 use Rattle.std.proofs.lemmas.List.{length-take-le, take-append-drop}
@@ -8,7 +8,7 @@ use Rattle.hash_prefixes.specs.declared.prefixes.Prefix.TheInside.{Inside}
 abbrev pub own_bytes : Inside → List ℕ
 own_bytes p = take p.size p.bytes
 
--- 4 to 32 bytes, and zeros behind them
+-- 4 to 32 bytes, and zeros after them
 pub record IsPadded (p : Inside) : Type 0 where
   pub at_least : 4 ≤ p.size
   pub at_most : p.size ≤ 32

@@ -89,12 +89,12 @@ pub fn append_hex(out: &mut Bytes, bytes: &[u8]) -> Result<(), OutOfMemory>
     let before = out.len();
     let mut rest = bytes;
     while !rest.is_empty() {
-        let (piece, behind) = rest.split_at(rest.len().min(PIECE));
+        let (piece, tail) = rest.split_at(rest.len().min(PIECE));
         if append_piece(out, piece).is_err() {
             out.truncate(before);
             return Err(OutOfMemory);
         }
-        rest = behind;
+        rest = tail;
     }
     Ok(())
 }

@@ -2,7 +2,7 @@ ghost use Rattle.std.specs.Prelude.{◌≡◌, length, OnOk};
 
 use sb_model::{Bytes, OutOfMemory};
 
-/// How many bytes stand behind the front of a hostile URL: with the 13 of the front they are 8,192,
+/// How many bytes stand after the front of a hostile URL: with the 13 of the front they are 8,192,
 /// the most that a URL may have.
 const HOSTILE_REST: usize = 8_179;
 

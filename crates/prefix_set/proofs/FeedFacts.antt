@@ -17,11 +17,11 @@ pub IsFed-none : (holds : List ℕ → Type 0) (all : List (List ℕ)) → holds
 IsFed-none holds all h = record { fed = []; split = refl; held = h }
 
 -- the next members, whose bytes were fed in turn
-pub IsFed-more : (holds next : List ℕ → Type 0) (all rest front behind : List (List ℕ)) (bytes : List ℕ) → IsFed holds all rest
-    → front ++ behind ≡ rest → bytes ≡ concatenation front → ((m : List ℕ) → holds m → next (m ++ bytes)) → IsFed next all behind
-IsFed-more holds next all rest front behind bytes h split is update = record {
+pub IsFed-more : (holds next : List ℕ → Type 0) (all rest front later : List (List ℕ)) (bytes : List ℕ) → IsFed holds all rest
+    → front ++ later ≡ rest → bytes ≡ concatenation front → ((m : List ℕ) → holds m → next (m ++ bytes)) → IsFed next all later
+IsFed-more holds next all rest front later bytes h split is update = record {
   fed = h.fed ++ front;
-  split = append_assoc h.fed front behind ∙ ap (λ (xs : List (List ℕ)). h.fed ++ xs) split ∙ h.split;
+  split = append_assoc h.fed front later ∙ ap (λ (xs : List (List ℕ)). h.fed ++ xs) split ∙ h.split;
   held = subst next (ap (λ (b : List ℕ). concatenation h.fed ++ b) is ∙ sym (flat_map-append (λ m. m) h.fed front)) (update (concatenation h.fed) h.held);
 }
 
@@ -30,7 +30,7 @@ pub IsFed-all : (holds : List ℕ → Type 0) (all rest : List (List ℕ)) → I
 IsFed-all holds all [] h none = subst (λ (xs : List (List ℕ)). holds (concatenation xs)) (sym (append-nil h.fed) ∙ h.split) h.held
 IsFed-all holds all (x ∷ rest) h none = absurd (omega (arith, eqb-true (length (x ∷ rest)) 0 none))
 
--- the bytes of one more member stand behind those of the members so far
+-- the bytes of one more member stand after those of the members so far
 pub front_more : (used size at : ℕ) (block bytes member : List ℕ) (members : List (List ℕ)) → used ≤ length block → bytes ≡ member → size ≡ length member
     → at < length members → member ≡ get_or members at member → take used block ≡ concatenation (take at members)
     → take (used + size) (put_mid used (used + size - used) block bytes) ≡ concatenation (take (at + 1) members)

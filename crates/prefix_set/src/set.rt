@@ -209,10 +209,10 @@ impl PrefixSet {
         let mut block = [0; BLOCK_SIZE];
         let mut rest = self.as_slice();
         while !rest.is_empty() {
-            let (front, behind) = rest.split_at(rest.len().min(BLOCK_PREFIXES));
+            let (front, tail) = rest.split_at(rest.len().min(BLOCK_PREFIXES));
             let used = gather(front, &mut block);
             hasher.update(&block[..used]);
-            rest = behind;
+            rest = tail;
         }
         hasher.finalize()
     }

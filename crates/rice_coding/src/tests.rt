@@ -115,7 +115,7 @@ fn decodes_long_quotients(rt: HostRuntime) -> Result<(), Fail> {
     let coded = [0xff, 0xff, 0xff, 0xff, 0xff, 0xff, 0xff, 0xff, 0xff, 0x07];
     let record = record_of(alloc, 0, 2, 1, &coded)?;
     decodes(&rt, alloc, &record, &[0, 300])?;
-    // One of 250, and behind it one of 0.
+    // One of 250, and after it one of 0.
     let mut coded = [0xff; 32];
     coded[31] = 0x43;
     let record = record_of(alloc, 0, 2, 2, &coded)?;

@@ -66,6 +66,6 @@ pub named : {S : Type 0} (f : S → List ℕ) (words before after : List S) (wor
     → result_ok (name_of word) ≡ option_and_then one_list (positionals (map f words))
 named f words before after word b parts e free one =
     let first = parts.0 in
-    let behind = parts.1 in
+    let later = parts.1 in
     let none : list_any starts_with_dash (map f before) ≡ false = sym e ∙ free in
-    rw (first, behind, none, one) refl
+    rw (first, later, none, one) refl

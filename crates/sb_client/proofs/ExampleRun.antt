@@ -59,7 +59,7 @@ good = example_update example_digest
 abbrev start : List Held
 start = nothing_held example_name ∷ []
 
--- the list behind the first body: marked, and otherwise as it was
+-- the list after the first body: marked, and otherwise as it was
 abbrev marked : Held
 marked = record { name = example_name; token = []; set = []; resync = true }
 
@@ -118,7 +118,7 @@ example_honest = (
 candidates_are : candidates_of start example_readings ≡ example_set ∷ example_set ∷ []
 candidates_are = ap (λ lists. candidates_of_updates start (wrong ∷ []) ++ candidates_of lists (Plain good ∷ [])) after_wrong
 
--- A set is empty, or is the one behind the change.
+-- A set is empty, or is the one after the change.
 abbrev IsKnown : List (List ℕ) → Type 0
 IsKnown set = (set ≡ []) ⊎ (set ≡ example_set)
 

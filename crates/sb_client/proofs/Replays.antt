@@ -12,7 +12,7 @@ use Rattle.sb_client.specs.Printed.{outcome_line, outcome_lines, list_lines, rep
 pub outcome_lines-cons : (n : ℕ) (o : Outcome) (os : List Outcome) → outcome_lines n (o ∷ os) ≡ outcome_line n o ++ outcome_lines (n + 1) os
 outcome_lines-cons n o os = refl
 
--- the lines behind the next one, where it leaves the lists as these
+-- the lines after the next one, where it leaves the lists as these
 pub text_step : (n : ℕ) (now next : List Held) (r : Reading) (rs : List Reading) (o : Outcome) (done all : List ℕ)
     → next ≡ after_reading now r → o ≡ outcome_of now r → done ++ outcome_lines n (outcomes_of now (r ∷ rs)) ≡ all
     → (done ++ outcome_line n o) ++ outcome_lines (n + 1) (outcomes_of next rs) ≡ all

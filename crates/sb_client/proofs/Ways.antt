@@ -17,7 +17,7 @@ appended-nil (Some bytes) = ap Some (append-nil bytes)
 pub way_start : (known : Option (List ℕ)) (page : List ℕ) → IsOnItsWay known known page page
 way_start known page = record { taken = []; has = sym (appended-nil known); rest = refl }
 
--- one more text behind
+-- one more text after
 pub way_more : {a b c : Option (List ℕ)} (p q done text : List ℕ) → IsOnItsWay a b p done → IsOnItsWay b c q (p ++ text) → IsOnItsWay a c q (done ++ text)
 way_more {a} {b} {c} p q done text w v = record {
   taken = w.taken ++ v.taken;
@@ -25,7 +25,7 @@ way_more {a} {b} {c} p q done text w v = record {
   rest = append_assoc w.taken v.taken q ∙ ap (λ bytes. w.taken ++ bytes) v.rest ∙ sym (append_assoc w.taken p text) ∙ ap (λ bytes. bytes ++ text) w.rest;
 }
 
--- a front of one more text behind
+-- a front of one more text after
 pub way_front : {a b c : Option (List ℕ)} (p done text : List ℕ) → IsOnItsWay a b p done → HasFront b c (p ++ text) → HasFront a c (done ++ text)
 way_front {a} {b} {c} p done text w v = record {
   taken = w.taken ++ v.taken;

@@ -10,11 +10,11 @@ abbrev pub starts_with_dash : List ℕ → Bool
 starts_with_dash [] = false
 starts_with_dash (byte ∷ bytes) = byte == 45
 
--- the word behind which every word is positional
+-- the word after which every word is positional
 abbrev pub is_end_of_options : List ℕ → Bool
 is_end_of_options word = bytes_eq word (codes "--")
 
--- The positional words are those before the first `--`, of which none may begin with a dash, and all behind it.
+-- The positional words are those before the first `--`, of which none may begin with a dash, and all after it.
 abbrev pub positionals : List (List ℕ) → Option (List (List ℕ))
 positionals words =
     if list_any starts_with_dash (before_first is_end_of_options words)

@@ -25,11 +25,11 @@ example_change = record { list = example_name; adds = record { hash = example_ha
 abbrev pub example_history : History
 example_history = record { epoch = 1; declared = (example_name, 4) ∷ []; changes = example_change ∷ [] }
 
--- The token of a version is one byte, its number: 00 before the change, and 01 behind it.
+-- The token of a version is one byte, its number: 00 before the change, and 01 after it.
 abbrev pub example_tokens : Naming
 example_tokens list version = version ∷ []
 
--- the list's prefixes behind the change
+-- the list's prefixes after the change
 abbrev pub example_set : List (List ℕ)
 example_set = codes "1234" ∷ []
 
@@ -42,7 +42,7 @@ digest_rest =
 abbrev pub example_digest : List ℕ
 example_digest = 0x03 ∷ digest_rest
 
--- a full update of the list to its prefixes behind the change, under the token 01 and with this checksum
+-- a full update of the list to its prefixes after the change, under the token 01 and with this checksum
 abbrev pub example_update : List ℕ → Update
 example_update digest = record {
   list = example_name;

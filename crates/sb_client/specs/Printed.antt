@@ -36,7 +36,7 @@ abbrev pub outcome_text : Outcome → List ℕ
 outcome_text (Unreadable cause) = codes "unreadable " ++ cause_text cause
 outcome_text (Taken list result) = text_of list ++ codes " " ++ result_text result
 
--- a line for each body, behind its number
+-- a line for each body, after its number
 abbrev pub outcome_line : ℕ → Outcome → List ℕ
 outcome_line number outcome = decimal number ++ codes " " ++ outcome_text outcome ++ newline ∷ []
 

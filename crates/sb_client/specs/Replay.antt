@@ -1,7 +1,7 @@
 -- What a replay says of its input and its output, with no word on how it gets there.
 use Rattle.std.specs.Prelude.{◌≡◌, ◌⊎◌, ℕ, Bool, List, [], ◌∷◌, Option, IfSome}
 use Rattle.sb_model.specs.declared.names.ListName.{ListName}
-use Rattle.sb_outside.specs.Outside.{next_piece, left_behind_end, appended, Rose}
+use Rattle.sb_outside.specs.Outside.{next_piece, left_after_end, appended, Rose}
 use Rattle.sb_client.specs.Lines.{IsWithinLimits}
 use Rattle.sb_client.specs.Step.{nothing_held}
 use Rattle.sb_client.specs.Run.{outcomes_of, has_refusal}
@@ -16,7 +16,7 @@ is_refused_in name input = has_refusal (outcomes_of (nothing_held name ∷ []) (
 pub record IsPrinted (name : ListName) (refused : Bool) (left left' : Option (List (List ℕ))) (held held' : Option (List ℕ)) : Type 0 where
   pub input : List ℕ
   pub whole : IfSome left (λ pieces. next_piece pieces ≡ input)
-  pub end : left' ≡ left_behind_end left
+  pub end : left' ≡ left_after_end left
   pub within : IsWithinLimits input
   pub refusal : refused ≡ is_refused_in name input
   pub text : held' ≡ appended held (replay_text name input)
@@ -25,7 +25,7 @@ pub record IsPrinted (name : ListName) (refused : Bool) (left left' : Option (Li
 pub record IsPartlyPrinted (name : ListName) (left left' : Option (List (List ℕ))) (held held' : Option (List ℕ)) : Type 0 where
   pub input : List ℕ
   pub whole : IfSome left (λ pieces. next_piece pieces ≡ input)
-  pub end : left' ≡ left_behind_end left
+  pub end : left' ≡ left_after_end left
   pub within : IsWithinLimits input
   pub front : HasFront held held' (replay_text name input)
 

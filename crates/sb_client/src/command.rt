@@ -75,12 +75,12 @@ fn only_word<'w>(before: &'w [String], after: &'w [String]) -> Option<&'w String
     single(before)
 }
 
-/// The words behind the first.
-fn behind_first(words: &[String]) -> &[String]
+/// The words after the first.
+fn without_first(words: &[String]) -> &[String]
     ensures { result.now ≡ drop 1 words.now }
 {
     match words {
-        [_, behind @ ..] => behind,
+        [_, rest @ ..] => rest,
         [] => words,
     }
 }
@@ -91,7 +91,7 @@ fn list_among(words: &[String]) -> Option<ListName>
 {
     let end = end_of_options(words);
     let (before, rest) = words.split_at(end);
-    let after = behind_first(rest);
+    let after = without_first(rest);
     if has_option(before) {
         return None;
     }

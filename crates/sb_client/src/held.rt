@@ -42,9 +42,9 @@ fn prefixes_in(alloc: Global, bytes: &[u8]) -> Result<Row<Prefix>, OutOfMemory>
     let mut prefixes = Row::with_capacity(alloc, bytes.len() / 4)?;
     let mut rest = bytes;
     while rest.len() >= 4 {
-        let (four, behind) = rest.split_at(4);
+        let (four, tail) = rest.split_at(4);
         prefixes.push(Prefix::from_bytes(four).unwrap())?;
-        rest = behind;
+        rest = tail;
     }
     Ok(prefixes)
 }

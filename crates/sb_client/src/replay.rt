@@ -93,7 +93,7 @@ fn take_lines<O: Sink>(
     let mut number = 1;
     let mut rest = input;
     while !rest.is_empty() {
-        let (line, behind) = first_line(rest);
+        let (line, tail) = first_line(rest);
         let Ok(outcome) = take_line(alloc, held, line) else {
             return Err(Stop::OutOfMemory);
         };
@@ -102,7 +102,7 @@ fn take_lines<O: Sink>(
             return Err(stop);
         }
         number += 1;
-        rest = behind;
+        rest = tail;
     }
     Ok(refused)
 }
@@ -139,7 +139,7 @@ fn print_prefixes<O: Sink>(held: &HeldList, out: &mut O, page: &mut Bytes) -> Re
     Ok(())
 }
 
-/// Prints the list with its prefixes, behind what waits in the page, and nothing waits any more.
+/// Prints the list with its prefixes, after what waits in the page, and nothing waits any more.
 fn print_list<O: Sink>(held: &HeldList, out: &mut O, page: &mut Bytes) -> Result<(), Stop>
     ensures text { OnOk result (O.contents out.new
         ≡ appended (O.contents out.old) (page.old ++ list_lines (held_of held.now))) }

@@ -17,7 +17,7 @@ const GOOD: &str = "A6xnQhbz4Vx2HuGl4lXwZ5U2I8iziLRFnhP5eNfIRvQ=";
 
 const WRONG: &str = "B6xnQhbz4Vx2HuGl4lXwZ5U2I8iziLRFnhP5eNfIRvQ=";
 
-const BEHIND: &str =
+const AFTER: &str =
     "\"},\"newClientState\":\"AQ==\",\"platformType\":\"ANY_PLATFORM\",\"responseType\":\"FULL_UPDATE\",\"threatEntryType\":\"URL\",\"threatType\":\"MALWARE\"}]}";
 
 const INSTALLED: &str =
@@ -32,7 +32,7 @@ const REFUSED_LATER: &str =
 const NOTHING: &str = "list MALWARE/ANY_PLATFORM/URL 0 -\n";
 
 fn body(alloc: Global, checksum: &str) -> Result<String, AllocError> {
-    format!(in alloc; "{BEFORE}{checksum}{BEHIND}")
+    format!(in alloc; "{BEFORE}{checksum}{AFTER}")
 }
 
 // A full update with these fields beside the names of its list and its type, as JSON.
@@ -101,7 +101,7 @@ fn both_show(
 }
 
 #[test]
-fn an_update_is_installed_behind_a_refused_one(rt: HostRuntime) -> Result<(), Fail> {
+fn an_update_is_installed_after_a_refused_one(rt: HostRuntime) -> Result<(), Fail> {
     both_show(&rt, rt.alloc(), WRONG, GOOD, REFUSED_FIRST)
 }
 
@@ -398,7 +398,7 @@ fn a_sink_that_fails_is_named(rt: HostRuntime) -> Result<(), Fail> {
     breaks(&rt, rt.alloc(), &[], 1, "usage: sbu")
 }
 
-// Sees what 65,536 empty lines and `last` behind them answer.
+// Sees what 65,536 empty lines and `last` after them answer.
 fn counts(rt: &impl Abort, alloc: Global, last: &[u8], wanted: u8) -> Result<(), Fail> {
     let replay = words(alloc, &["sbupdate", "replay", LIST])?;
     let mut text = Bytes::from_slice(alloc, vec![in alloc; b'\n'; 65_536]?.as_slice())?;

@@ -184,7 +184,7 @@ impl fmt::Display for NameFault {
             NameFault::UnknownThreat => "unknown threat type",
             NameFault::UnknownPlatform => "unknown platform type",
             NameFault::UnknownEntry => "unknown threat entry type",
-            NameFault::Shape => "not three words parted by slashes",
+            NameFault::Shape => "not three words separated by slashes",
         })
     }
 }
@@ -198,7 +198,7 @@ fn slash_in(text: &[u8]) -> Option<usize>
     text.iter().position(|byte| *byte == b'/')
 }
 
-/// What stands before the first slash, and behind it; `None` where there is no slash.
+/// What stands before the first slash, and after it; `None` where there is no slash.
 fn split_at_slash(text: &[u8]) -> Option<(&[u8], &[u8])>
     ensures { MatchOption result (parts_of text.now ≡ text.now ∷ [])
         (λ halves. parts_of text.now ≡ halves.0.now ∷ parts_of halves.1.now) }

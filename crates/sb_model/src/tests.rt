@@ -113,7 +113,7 @@ fn texts_are_counted_in_characters(rt: HostRuntime) -> Result<(), Fail> {
     assert!(rt; !Text::from_string(String::from_str(rt.alloc(), "x")?).is_empty());
     assert_eq!(rt;
         format!(in rt.alloc(); "{OutOfMemory}, {}", NameFault::Shape)?.as_str(),
-        "out of memory, not three words parted by slashes"
+        "out of memory, not three words separated by slashes"
     );
     Ok(())
 }

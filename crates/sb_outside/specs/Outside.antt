@@ -10,7 +10,7 @@ raised count = min (count + 1) (2 ^ 64 - 1)
 abbrev pub Rose : ℕ → ℕ → Type 0
 Rose before after = raised before ≤ after
 
--- What a source has left is a list of pieces: the bytes that it gives before each further end of input. Behind the
+-- What a source has left is a list of pieces: the bytes that it gives before each further end of input. After the
 -- last piece the input stays at its end. A source that does not tell what it has left has `None`.
 
 -- the bytes before the next end of input
@@ -18,7 +18,7 @@ abbrev pub next_piece : List (List ℕ) → List ℕ
 next_piece [] = []
 next_piece (piece ∷ pieces) = piece
 
--- the pieces behind the next end of input
+-- the pieces after the next end of input
 abbrev pub later_pieces : List (List ℕ) → List (List ℕ)
 later_pieces [] = []
 later_pieces (piece ∷ pieces) = pieces
@@ -27,8 +27,8 @@ later_pieces (piece ∷ pieces) = pieces
 abbrev pub bytes_left : Option (List (List ℕ)) → Option (List ℕ)
 bytes_left left = option_map next_piece left
 
-abbrev pub left_behind_end : Option (List (List ℕ)) → Option (List (List ℕ))
-left_behind_end left = option_map later_pieces left
+abbrev pub left_after_end : Option (List (List ℕ)) → Option (List (List ℕ))
+left_after_end left = option_map later_pieces left
 
 -- these bytes, and then those that are known
 abbrev pub prepended : List ℕ → Option (List ℕ) → Option (List ℕ)
@@ -41,9 +41,9 @@ appended known back = option_map (λ bytes. bytes ++ back) known
 -- A read gave bytes: they are the front of those before the next end, and the rest of these is left.
 pub record GivesFront (given : List ℕ) (before after : Option (List (List ℕ))) : Type 0 where
   pub front : bytes_left before ≡ prepended given (bytes_left after)
-  pub later : left_behind_end after ≡ left_behind_end before
+  pub later : left_after_end after ≡ left_after_end before
 
--- A read answered an end of input: no byte was left before it, and what is left is what stood behind it.
+-- A read answered an end of input: no byte was left before it, and what is left is what stood after it.
 pub record AnswersEnd (before after : Option (List (List ℕ))) : Type 0 where
   pub at_end : IfSome before (λ pieces. next_piece pieces ≡ [])
-  pub later : after ≡ left_behind_end before
+  pub later : after ≡ left_after_end before

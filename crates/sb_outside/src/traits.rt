@@ -25,7 +25,7 @@ pub trait Source {
     ghost left: { Self → Option (List (List ℕ)) };
 
     /// Takes the next bytes into the front of the buffer, and says how many. Zero for a buffer that
-    /// is not empty is the end of input at that moment. What the buffer holds behind the bytes, or
+    /// is not empty is the end of input at that moment. What the buffer holds after the bytes, or
     /// after an `Err`, is not said.
     fn read(&mut self, buffer: &mut [u8]) -> Result<usize, Failed>
         ensures within { IfOk result (λ n. n ≤ length buffer.new) }

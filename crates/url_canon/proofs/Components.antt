@@ -27,7 +27,7 @@ is_nil-map : {X Y : Type 0} (f : X → Y) (xs : List X) → is_nil (map f xs) �
 is_nil-map f [] = refl
 is_nil-map f (x ∷ xs) = refl
 
--- nothing is behind the last
+-- nothing is after the last
 pub is_nil-rest : {X : Type 0} (xs : List X) (i : ℕ) (r : Bool) → i < length xs → r ≡ eqb (i + 1) (length xs) → is_nil (drop (i + 1) xs) ≡ r
 is_nil-rest xs i r inside e =
     is_nil-length (drop (i + 1) xs) ∙ (ap (λ k. eqb k 0) (length-drop (i + 1) xs) ∙ (same (i + 1) (length xs) (omega arith) ∙ sym e))
@@ -44,6 +44,6 @@ written-turn components i d is_last out done all inside last step so_far =
     let component : List ℕ = (get_or components i d).now in
     let rest : List (List ℕ) = map (λ c. c.now) (drop (i + 1) components) in
     let here : written (map (λ c. c.now) (drop i components)) ≡ written (component ∷ rest) = ap (λ cs. written (map (λ c. c.now) cs)) (drop_more components i d inside) in
-    let behind : is_nil rest ≡ is_last = is_nil-map (λ c. c.now) (drop (i + 1) components) ∙ is_nil-rest components i is_last inside last in
-    let split : written (component ∷ rest) ≡ cond (not (is_nil component) || is_last) (47 ∷ escaped component) [] ++ written rest = written-step component rest ∙ ap (λ b. cond (not (is_nil component) || b) (47 ∷ escaped component) [] ++ written rest) behind in
+    let later : is_nil rest ≡ is_last = is_nil-map (λ c. c.now) (drop (i + 1) components) ∙ is_nil-rest components i is_last inside last in
+    let split : written (component ∷ rest) ≡ cond (not (is_nil component) || is_last) (47 ∷ escaped component) [] ++ written rest = written-step component rest ∙ ap (λ b. cond (not (is_nil component) || b) (47 ∷ escaped component) [] ++ written rest) later in
     ap (λ r. r ++ written rest) step ∙ (append_assoc out (cond (not (is_nil component) || is_last) (47 ∷ escaped component) []) (written rest) ∙ (ap (λ r. out ++ r) (sym (here ∙ split)) ∙ so_far))

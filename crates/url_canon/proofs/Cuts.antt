@@ -44,9 +44,9 @@ split_none p (x ∷ xs) none =
 pub take_from : {X : Type 0} (xs : List X) (i : ℕ) → take (length xs - i) (drop i xs) ≡ drop i xs
 take_from xs i = take_rest xs i
 
--- the rest behind the first that passes, as an option
-pub behind_first : {X : Type 0} (p : X → Bool) (xs : List X) (place : ℕ) → place ≡ position_or_len p xs → (place ≡ length xs → ⊥) → Some (take (length xs - (place + 1)) (drop (place + 1) xs)) ≡ cond (list_any p xs) (Some (after_first p xs)) None
-behind_first p xs place at inside =
+-- the rest after the first that passes, as an option
+pub without_first : {X : Type 0} (p : X → Bool) (xs : List X) (place : ℕ) → place ≡ position_or_len p xs → (place ≡ length xs → ⊥) → Some (take (length xs - (place + 1)) (drop (place + 1) xs)) ≡ cond (list_any p xs) (Some (after_first p xs)) None
+without_first p xs place at inside =
     let within = position_or_len-le p xs in
     let some : ltb (position_or_len p xs) (length xs) ≡ true = lt-ltb (position_or_len p xs) (length xs) (omega arith) in
     ap Some (take_rest xs (place + 1) ∙ ap (λ k. drop (k + 1) xs) at) ∙ sym (cond-true (list_any p xs) (Some (after_first p xs)) None (any_from_place p xs ∙ some))

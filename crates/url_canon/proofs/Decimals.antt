@@ -13,7 +13,7 @@ use Rattle.url_canon.specs.Address.{is_dot, number_in, number_of, address_in, ad
 use Rattle.url_canon.specs.Host.{is_colon, name_of}
 use Rattle.url_canon.proofs.Splits.{Lacks}
 use Rattle.url_canon.proofs.Numbers.{stopped, address_in-last, address_in-more, joined_below}
-use Rattle.url_canon.proofs.Lacking.{Lacks-join, IsPlain, plain-behind}
+use Rattle.url_canon.proofs.Lacking.{Lacks-join, IsPlain, plain-after}
 use Rattle.url_canon.proofs.Hosts.{IsLabel, name_of-join, split_join}
 use Rattle.url_canon.proofs.Unescapes.{has_escape}
 
@@ -110,7 +110,7 @@ Lacks-address q v h e none =
 
 pub plain-address : (v : ℕ) → v < 4294967296 → IsPlain (address_text v)
 plain-address v h =
-    ap has_escape (sym (append-nil (address_text v))) ∙ plain-behind (address_text v) [] (Lacks-address (λ x. eqb x 37) v h refl (apart 37 (omega arith))) refl
+    ap has_escape (sym (append-nil (address_text v))) ∙ plain-after (address_text v) [] (Lacks-address (λ x. eqb x 37) v h refl (apart 37 (omega arith))) refl
 
 stop : (n : ℕ) → n < 256 → stopped (number_of (decimal n)) ≡ Some n
 stop n h = let least : min n 4294967296 ≡ n = omega arith in ap stopped (decimal_of n h).number ∙ ap Some least

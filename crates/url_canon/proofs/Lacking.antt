@@ -128,11 +128,11 @@ not_first x [] e = refl
 not_first x (y ∷ []) e = refl
 not_first x (y ∷ z ∷ ys) e = and_left (eqb x 37) (is_hex y && is_hex z) e
 
-pub plain-behind : (xs ys : List ℕ) → Lacks (λ x. eqb x 37) xs → has_escape ys ≡ false → has_escape (xs ++ ys) ≡ false
-plain-behind [] ys h k = k
-plain-behind (x ∷ xs) ys h k =
+pub plain-after : (xs ys : List ℕ) → Lacks (λ x. eqb x 37) xs → has_escape ys ≡ false → has_escape (xs ++ ys) ≡ false
+plain-after [] ys h k = k
+plain-after (x ∷ xs) ys h k =
     let parts = or_parts (eqb x 37) (list_any (λ x. eqb x 37) xs) h in
-    or_from (begins_escape x (xs ++ ys)) (has_escape (xs ++ ys)) (not_first x (xs ++ ys) parts.0) (plain-behind xs ys parts.1 k)
+    or_from (begins_escape x (xs ++ ys)) (has_escape (xs ++ ys)) (not_first x (xs ++ ys) parts.0) (plain-after xs ys parts.1 k)
 
 -- the first part of a split stands at the front
 abbrev first_part : List (List ℕ) → List ℕ
@@ -167,7 +167,7 @@ pub plain-join : (c : ℕ) (parts : List (List ℕ)) → is_hex c ≡ false → 
 plain-join c [] e f h = refl
 plain-join c (x ∷ []) e f h = h.0
 plain-join c (x ∷ y ∷ parts) e f h =
-    plain-append x (c ∷ join_with_byte c (y ∷ parts)) h.0 (plain-behind (c ∷ []) (join_with_byte c (y ∷ parts)) (or_from (eqb c 37) false f refl) (plain-join c (y ∷ parts) e f h.1)) (not_from_false (is_hex c) e)
+    plain-append x (c ∷ join_with_byte c (y ∷ parts)) h.0 (plain-after (c ∷ []) (join_with_byte c (y ∷ parts)) (or_from (eqb c 37) false f refl) (plain-join c (y ∷ parts) e f h.1)) (not_from_false (is_hex c) e)
 
 hex-lower : (x : ℕ) → is_hex (to_ascii_lowercase x) ≡ is_hex x
 hex-lower x = grind (arith, nat_tests)

@@ -1,4 +1,4 @@
--- The scheme of a text, and the rest behind it, are read again.
+-- The scheme of a text, and the rest after it, are read again.
 use Rattle.std.proofs.Common.{◌≡◌, ℕ, ◌+◌, List, [], ◌∷◌, ◌++◌, Bool, true, false, not, eqb, leb, take, drop, refl, ap, ◌∙◌, arith, ⊎_elim}
 use Rattle.std.specs.Prelude.{codes, nat_eq}
 use Rattle.std.specs.List.{list_any, prefix_len, starts_with}
@@ -10,7 +10,7 @@ use Rattle.std.proofs.lemmas.Bool.{cond-true, cond-false, cond_both, or_from, or
 use Rattle.std.proofs.lemmas.Bool.Decides.{nat_tests}
 use Rattle.url_canon.specs.Words.{begins_with, without_leading}
 use Rattle.url_canon.specs.Escaping.{is_unsafe}
-use Rattle.url_canon.specs.Parts.{is_scheme_byte, has_scheme, scheme_of, behind_scheme}
+use Rattle.url_canon.specs.Parts.{is_scheme_byte, has_scheme, scheme_of, after_scheme}
 use Rattle.url_canon.proofs.Splits.{Lacks}
 use Rattle.url_canon.proofs.Trims.{without_leading-yes, without_leading-not}
 use Rattle.url_canon.proofs.Lacking.{Lacks-back, IgnoresCase, any-lowercase, lowercase_same, IsPlain, plain-back}
@@ -32,7 +32,7 @@ all_taken p [] = refl
 all_taken p (x ∷ xs) =
     ⊎_elim (λ yes. ap (list_any (other p)) (taken-yes p x xs yes) ∙ or_from (other p x) (list_any (other p) (take (prefix_len p xs) xs)) (not_from_true (p x) yes) (all_taken p xs)) (λ stop. ap (list_any (other p)) (taken-not p x xs stop)) (cases_Bool (p x))
 
--- the bytes that pass, and one that does not behind them
+-- the bytes that pass, and one that does not after them
 front_taken : (p : ℕ → Bool) (xs : List ℕ) (y : ℕ) (ys : List ℕ) → Lacks (other p) xs → p y ≡ false → take (prefix_len p (xs ++ y ∷ ys)) (xs ++ y ∷ ys) ≡ xs
 front_taken p [] y ys h e = taken-not p y ys e
 front_taken p (x ∷ xs) y ys h e =
@@ -98,9 +98,9 @@ scheme_of-again scheme rest h =
     cond-true (has_scheme text) (str_to_ascii_lowercase (take (prefix_len is_scheme_byte text) text)) (codes "http") (has scheme rest h)
     ∙ (ap str_to_ascii_lowercase (front_taken is_scheme_byte scheme 58 (47 ∷ 47 ∷ rest) h.bytes refl) ∙ h.lower)
 
-pub behind_scheme-again : (scheme rest : List ℕ) → IsScheme scheme → behind_scheme (with_scheme scheme rest) ≡ rest
-unfolding behind_scheme
-behind_scheme-again scheme rest h =
+pub after_scheme-again : (scheme rest : List ℕ) → IsScheme scheme → after_scheme (with_scheme scheme rest) ≡ rest
+unfolding after_scheme
+after_scheme-again scheme rest h =
     let text = with_scheme scheme rest in
     cond-true (has_scheme text) (drop 3 (without_leading is_scheme_byte text)) text (has scheme rest h)
     ∙ ap (drop 3) (front_left is_scheme_byte scheme 58 (47 ∷ 47 ∷ rest) h.bytes refl)
@@ -121,18 +121,18 @@ narrow-scheme x e = grind (arith, nat_tests)
 pub no_percent-scheme : (x : ℕ) → is_scheme_byte x ≡ true → eqb x 37 ≡ false
 no_percent-scheme x e = grind (arith, nat_tests)
 
--- what a text lacks, the rest behind its scheme lacks
+-- what a text lacks, the rest after its scheme lacks
 
-pub Lacks-behind_scheme : (q : ℕ → Bool) (text : List ℕ) → Lacks q text → Lacks q (behind_scheme text)
-unfolding behind_scheme
-Lacks-behind_scheme q text h =
+pub Lacks-after_scheme : (q : ℕ → Bool) (text : List ℕ) → Lacks q text → Lacks q (after_scheme text)
+unfolding after_scheme
+Lacks-after_scheme q text h =
     let rest = without_leading is_scheme_byte text in
     let in_rest = Lacks-back q (take (prefix_len is_scheme_byte text) text) rest (ap (list_any q) (take-append-drop (prefix_len is_scheme_byte text) text) ∙ h) in
     cond_both (has_scheme text) (drop 3 rest) text (Lacks q) (λ _. Lacks-back q (take 3 rest) (drop 3 rest) (ap (list_any q) (take-append-drop 3 rest) ∙ in_rest)) (λ _. h)
 
-pub plain-behind_scheme : (text : List ℕ) → IsPlain text → IsPlain (behind_scheme text)
-unfolding behind_scheme
-plain-behind_scheme text h =
+pub plain-after_scheme : (text : List ℕ) → IsPlain text → IsPlain (after_scheme text)
+unfolding after_scheme
+plain-after_scheme text h =
     let rest = without_leading is_scheme_byte text in
     let in_rest = plain-back (take (prefix_len is_scheme_byte text) text) rest (ap has_escape (take-append-drop (prefix_len is_scheme_byte text) text) ∙ h) in
     cond_both (has_scheme text) (drop 3 rest) text IsPlain (λ _. plain-back (take 3 rest) (drop 3 rest) (ap has_escape (take-append-drop 3 rest) ∙ in_rest)) (λ _. h)

@@ -46,9 +46,9 @@ pub some_component : (path : List ℕ) → 0 < length (components_of path)
 some_component path = some-slice_split is_slash (drop 1 path)
 
 -- how much is left to split
-abbrev pub size_behind : Option (List ℕ) → ℕ
-size_behind None = 0
-size_behind (Some rest) = length rest + 1
+abbrev pub size_after : Option (List ℕ) → ℕ
+size_after None = 0
+size_after (Some rest) = length rest + 1
 
 pub last_part-more : {X : Type 0} (x : List X) (parts : List (List X)) → 0 < length parts → last_part (x ∷ parts) ≡ last_part parts
 last_part-more x [] some = absurd (omega arith)

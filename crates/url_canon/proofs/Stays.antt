@@ -8,7 +8,7 @@ use Rattle.url_canon.specs.Words.{last_part, without_leading, without_trailing, 
 use Rattle.url_canon.specs.Cleaning.{is_line_byte, is_hash, is_space, without_fragment, trimmed}
 use Rattle.url_canon.specs.Unescaping.{HasNoEscape, unescaped}
 use Rattle.url_canon.specs.Escaping.{escape_of, escaped, is_unsafe}
-use Rattle.url_canon.specs.Parts.{scheme_of, behind_scheme, ends_authority, is_at, authority_of, behind_authority, is_question, path_part, query_part}
+use Rattle.url_canon.specs.Parts.{scheme_of, after_scheme, ends_authority, is_at, authority_of, after_authority, is_question, path_part, query_part}
 use Rattle.url_canon.specs.Host.{HostParts, host_of}
 use Rattle.url_canon.specs.Path.{path_text, path_of}
 use Rattle.url_canon.specs.Url.{Url, query_text, text_of}
@@ -19,9 +19,9 @@ use Rattle.url_canon.proofs.Cuts.{split_none, none-before_first, before-and-from
 use Rattle.url_canon.proofs.Trims.{without_leading-not}
 use Rattle.url_canon.proofs.Unescapes.{has_escape, unescaped_plain, plain_from_finished}
 use Rattle.url_canon.proofs.Escapes.{is_wide, AreBytes, none-escaped, unescaped-escaped, escaped_safe, escaped-append, any-append}
-use Rattle.url_canon.proofs.Lacking.{Lacks-append, Lacks-back, Lacks-before_first, Lacks-from_first, Lacks-parts, Lacks-path_text, each-last, ignores_below, ignores_wide, IsPlain, plain-front, plain-back, plain-append, plain-behind, plain-parts, parts_off}
+use Rattle.url_canon.proofs.Lacking.{Lacks-append, Lacks-back, Lacks-before_first, Lacks-from_first, Lacks-parts, Lacks-path_text, each-last, ignores_below, ignores_wide, IsPlain, plain-front, plain-back, plain-append, plain-after, plain-parts, parts_off}
 use Rattle.url_canon.proofs.Paths.{some-path_of, path_of-again, each-path_of}
-use Rattle.url_canon.proofs.Schemes.{IsScheme, scheme_of-is, scheme_of-again, behind_scheme-again, Lacks-scheme, safe-scheme, narrow-scheme, no_percent-scheme, Lacks-behind_scheme, plain-behind_scheme}
+use Rattle.url_canon.proofs.Schemes.{IsScheme, scheme_of-is, scheme_of-again, after_scheme-again, Lacks-scheme, safe-scheme, narrow-scheme, no_percent-scheme, Lacks-after_scheme, plain-after_scheme}
 use Rattle.url_canon.proofs.HostAgain.{host_of-again, IsApart, Lacks-host_of, plain-host_of}
 use Rattle.url_canon.proofs.Whole.{canonical_of-short, cleaned-some, host_at, parts_of-none, parts_of-some}
 
@@ -86,9 +86,9 @@ escaped-text_of : (url : Url) → IsScheme url.scheme → text_of (escaped_url u
 escaped-text_of url h =
     let rest = path_text url.path ++ query_text url.query in
     let tail : escaped rest ≡ path_text (map escaped url.path) ++ query_text (option_map escaped url.query) = escaped-append (path_text url.path) (query_text url.query) ∙ (ap (λ r. r ++ escaped (query_text url.query)) (path_text-escaped url.path) ∙ ap (λ r. path_text (map escaped url.path) ++ r) (query_text-escaped url.query)) in
-    let behind : escaped (url.host ++ rest) ≡ escaped url.host ++ (path_text (map escaped url.path) ++ query_text (option_map escaped url.query)) = escaped-append url.host rest ∙ ap (λ r. escaped url.host ++ r) tail in
+    let later : escaped (url.host ++ rest) ≡ escaped url.host ++ (path_text (map escaped url.path) ++ query_text (option_map escaped url.query)) = escaped-append url.host rest ∙ ap (λ r. escaped url.host ++ r) tail in
     let scheme : escaped url.scheme ≡ url.scheme = escaped_safe url.scheme (Lacks-scheme is_unsafe url.scheme safe-scheme h.bytes) in
-    sym (escaped-append url.scheme (58 ∷ 47 ∷ 47 ∷ (url.host ++ rest)) ∙ (ap (λ r. r ++ escaped (58 ∷ 47 ∷ 47 ∷ (url.host ++ rest))) scheme ∙ ap (λ r. url.scheme ++ r) (separator_stays (url.host ++ rest) ∙ ap (λ r. 58 ∷ 47 ∷ 47 ∷ r) behind)))
+    sym (escaped-append url.scheme (58 ∷ 47 ∷ 47 ∷ (url.host ++ rest)) ∙ (ap (λ r. r ++ escaped (58 ∷ 47 ∷ 47 ∷ (url.host ++ rest))) scheme ∙ ap (λ r. url.scheme ++ r) (separator_stays (url.host ++ rest) ∙ ap (λ r. 58 ∷ 47 ∷ 47 ∷ r) later)))
 
 -- what the parts of a text are
 
@@ -108,9 +108,9 @@ pub record IsRead (url : Url) : Type 0 where
   pub narrow_query : Lacks is_wide (query_text url.query)
   pub plain_query : IsPlain (query_text url.query)
 
-path_behind : (cs : List (List ℕ)) (query : List ℕ) → 0 < length cs → (first : List ℕ) × (path_text cs ++ query ≡ 47 ∷ first)
-path_behind [] query some = absurd (omega arith)
-path_behind (c ∷ cs) query some = ((c ++ path_text cs) ++ query, refl)
+path_after : (cs : List (List ℕ)) (query : List ℕ) → 0 < length cs → (first : List ℕ) × (path_text cs ++ query ≡ 47 ∷ first)
+path_after [] query some = absurd (omega arith)
+path_after (c ∷ cs) query some = ((c ++ path_text cs) ++ query, refl)
 
 path_part-again : (cs : List (List ℕ)) (query : Option (List ℕ)) → AllByRecursion (Lacks is_question) cs → path_part (path_text cs ++ query_text query) ≡ path_text cs
 unfolding path_part
@@ -130,9 +130,9 @@ unfolding authority_of
 authority_of-again host first no_end no_at =
     ap (λ a. last_part (slice_split is_at a)) (before_first-at ends_authority host 47 first no_end refl) ∙ ap last_part (split_none is_at host no_at)
 
-behind_authority-again : (host first : List ℕ) → Lacks ends_authority host → behind_authority (host ++ 47 ∷ first) ≡ 47 ∷ first
-unfolding behind_authority
-behind_authority-again host first no_end = from_first-at ends_authority host 47 first no_end refl
+after_authority-again : (host first : List ℕ) → Lacks ends_authority host → after_authority (host ++ 47 ∷ first) ≡ 47 ∷ first
+unfolding after_authority
+after_authority-again host first no_end = from_first-at ends_authority host 47 first no_end refl
 
 abbrev whole : List ℕ → List ℕ → Bool → List (List ℕ) → Option (List ℕ) → Result Url UrlFault
 whole scheme host is_address path query = Ok (record { scheme = scheme; host = host; path = path; query = query; is_address = is_address })
@@ -143,16 +143,16 @@ same_url scheme host is_address path path' query query' p q =
 
 read_again : (url : Url) → IsRead url → parts_of (text_of url) ≡ Ok url
 read_again url h =
-    let behind = path_text url.path ++ query_text url.query in
-    let first = path_behind url.path (query_text url.query) h.some_path in
-    let rest : behind_scheme (text_of url) ≡ url.host ++ 47 ∷ first.0 = behind_scheme-again url.scheme (url.host ++ behind) h.scheme ∙ ap (λ r. url.host ++ r) first.1 in
+    let later = path_text url.path ++ query_text url.query in
+    let first = path_after url.path (query_text url.query) h.some_path in
+    let rest : after_scheme (text_of url) ≡ url.host ++ 47 ∷ first.0 = after_scheme-again url.scheme (url.host ++ later) h.scheme ∙ ap (λ r. url.host ++ r) first.1 in
     let host : host_at (text_of url) ≡ Some (record { text = url.host; is_address = url.is_address }) = ap (λ r. host_of (authority_of r)) rest ∙ (ap host_of (authority_of-again url.host first.0 h.no_end h.no_at) ∙ h.host) in
-    let tail : behind_authority (behind_scheme (text_of url)) ≡ behind = ap behind_authority rest ∙ (behind_authority-again url.host first.0 h.no_end ∙ sym first.1) in
+    let tail : after_authority (after_scheme (text_of url)) ≡ later = ap after_authority rest ∙ (after_authority-again url.host first.0 h.no_end ∙ sym first.1) in
     let read : HostParts = record { text = url.host; is_address = url.is_address } in
     parts_of-some (text_of url) read host
-    ∙ (ap (λ s. url_at s (Some read) (behind_authority (behind_scheme (text_of url)))) (scheme_of-again url.scheme (url.host ++ behind) h.scheme)
+    ∙ (ap (λ s. url_at s (Some read) (after_authority (after_scheme (text_of url)))) (scheme_of-again url.scheme (url.host ++ later) h.scheme)
     ∙ (ap (λ t. url_at url.scheme (Some read) t) tail
-    ∙ same_url url.scheme url.host url.is_address (path_of (path_part behind)) url.path (query_part behind) url.query (ap path_of (path_part-again url.path url.query h.no_question) ∙ h.path_stays) (query_part-again url.path url.query h.no_question)))
+    ∙ same_url url.scheme url.host url.is_address (path_of (path_part later)) url.path (query_part later) url.query (ap path_of (path_part-again url.path url.query h.no_question) ∙ h.path_stays) (query_part-again url.path url.query h.no_question)))
 
 -- the text is one of bytes, and has no escape
 
@@ -173,12 +173,12 @@ plain_tail : (cs : List (List ℕ)) (query : Option (List ℕ)) → AllByRecursi
 plain_tail [] query h k = k
 plain_tail (c ∷ cs) query h k =
     let more = plain_tail cs query h.1 k in
-    ap has_escape (append_assoc (47 ∷ c) (path_text cs) (query_text query)) ∙ plain-behind (47 ∷ []) (c ++ (path_text cs ++ query_text query)) refl (plain-append c (path_text cs ++ query_text query) h.0 more (path_off cs query))
+    ap has_escape (append_assoc (47 ∷ c) (path_text cs) (query_text query)) ∙ plain-after (47 ∷ []) (c ++ (path_text cs ++ query_text query)) refl (plain-append c (path_text cs ++ query_text query) h.0 more (path_off cs query))
 
 escapeless : (url : Url) → IsRead url → IsPlain (text_of url)
 escapeless url h =
-    plain-behind url.scheme (58 ∷ 47 ∷ 47 ∷ (url.host ++ (path_text url.path ++ query_text url.query))) (Lacks-scheme (λ x. eqb x 37) url.scheme no_percent-scheme h.scheme.bytes)
-    (plain-behind (58 ∷ 47 ∷ 47 ∷ []) (url.host ++ (path_text url.path ++ query_text url.query)) refl (plain-append url.host (path_text url.path ++ query_text url.query) h.plain_host (plain_tail url.path url.query h.plain_path h.plain_query) (path_off url.path url.query)))
+    plain-after url.scheme (58 ∷ 47 ∷ 47 ∷ (url.host ++ (path_text url.path ++ query_text url.query))) (Lacks-scheme (λ x. eqb x 37) url.scheme no_percent-scheme h.scheme.bytes)
+    (plain-after (58 ∷ 47 ∷ 47 ∷ []) (url.host ++ (path_text url.path ++ query_text url.query)) refl (plain-append url.host (path_text url.path ++ query_text url.query) h.plain_host (plain_tail url.path url.query h.plain_path h.plain_query) (path_off url.path url.query)))
 
 long_enough : (xs ys : List ℕ) (y : ℕ) → 0 < length (xs ++ y ∷ ys)
 long_enough [] ys y = omega arith
@@ -233,13 +233,13 @@ unfolding authority_of
 plain-authority_of text h =
     each-last IsPlain (slice_split is_at (before_first ends_authority text)) refl (plain-parts is_at (before_first ends_authority text) (plain-front (before_first ends_authority text) (from_first ends_authority text) (ap has_escape (before-and-from ends_authority text) ∙ h)))
 
-Lacks-behind_authority : (q : ℕ → Bool) (text : List ℕ) → Lacks q text → Lacks q (behind_authority text)
-unfolding behind_authority
-Lacks-behind_authority q text h = Lacks-from_first q ends_authority text h
+Lacks-after_authority : (q : ℕ → Bool) (text : List ℕ) → Lacks q text → Lacks q (after_authority text)
+unfolding after_authority
+Lacks-after_authority q text h = Lacks-from_first q ends_authority text h
 
-plain-behind_authority : (text : List ℕ) → IsPlain text → IsPlain (behind_authority text)
-unfolding behind_authority
-plain-behind_authority text h = plain-back (before_first ends_authority text) (from_first ends_authority text) (ap has_escape (before-and-from ends_authority text) ∙ h)
+plain-after_authority : (text : List ℕ) → IsPlain text → IsPlain (after_authority text)
+unfolding after_authority
+plain-after_authority text h = plain-back (before_first ends_authority text) (from_first ends_authority text) (ap has_escape (before-and-from ends_authority text) ∙ h)
 
 -- the components of what stands before the query
 
@@ -275,15 +275,15 @@ query_at_end text =
     marked : (text : List ℕ) → list_any is_question text ≡ true → 63 ∷ after_first is_question text ≡ from_first is_question text
     marked text some = from_first-some is_question text 63 (λ x e. eqb-true x 63 e) some
 
-is_read : (plain : List ℕ) (host : HostParts) → IsPlain plain → AreBytes plain → host_at plain ≡ Some host → IsRead (record { scheme = scheme_of plain; host = host.text; path = path_of (path_part (behind_authority (behind_scheme plain))); query = query_part (behind_authority (behind_scheme plain)); is_address = host.is_address })
+is_read : (plain : List ℕ) (host : HostParts) → IsPlain plain → AreBytes plain → host_at plain ≡ Some host → IsRead (record { scheme = scheme_of plain; host = host.text; path = path_of (path_part (after_authority (after_scheme plain))); query = query_part (after_authority (after_scheme plain)); is_address = host.is_address })
 is_read plain host escapes bytes is =
-    let rest = behind_scheme plain in
-    let tail = behind_authority rest in
+    let rest = after_scheme plain in
+    let tail = after_authority rest in
     let authority = authority_of rest in
-    let narrow_rest = Lacks-behind_scheme is_wide plain bytes in
-    let plain_rest = plain-behind_scheme plain escapes in
-    let narrow_tail = Lacks-behind_authority is_wide rest narrow_rest in
-    let plain_tail = plain-behind_authority rest plain_rest in
+    let narrow_rest = Lacks-after_scheme is_wide plain bytes in
+    let plain_rest = plain-after_scheme plain escapes in
+    let narrow_tail = Lacks-after_authority is_wide rest narrow_rest in
+    let plain_tail = plain-after_authority rest plain_rest in
     record {
       scheme = scheme_of-is plain;
       host = host_of-again authority host is;

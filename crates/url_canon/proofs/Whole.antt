@@ -3,7 +3,7 @@ use Rattle.std.proofs.Common.{◌≡◌, ℕ, ◌≤◌, ◌<◌, List, [], ◌�
 use Rattle.std.proofs.lemmas.Bool.{cond-true, cond-false, lt-ltb, le-ltb}
 use Rattle.url_canon.specs.Cleaning.{without_fragment, trimmed}
 use Rattle.url_canon.specs.Unescaping.{unescaped}
-use Rattle.url_canon.specs.Parts.{scheme_of, behind_scheme, authority_of, behind_authority}
+use Rattle.url_canon.specs.Parts.{scheme_of, after_scheme, authority_of, after_authority}
 use Rattle.url_canon.specs.Host.{HostParts, host_of}
 use Rattle.url_canon.specs.Url.{Url}
 use Rattle.url_canon.specs.Canonical.{url_at, parts_of, escaped_parts, canonical_of_cleaned, canonical_of, Answers}
@@ -27,15 +27,15 @@ cleaned-some [] h = absurd (omega arith)
 cleaned-some (b ∷ bs) h = refl
 
 abbrev pub host_at : List ℕ → Option HostParts
-host_at plain = host_of (authority_of (behind_scheme plain))
+host_at plain = host_of (authority_of (after_scheme plain))
 
 pub parts_of-none : (plain : List ℕ) → host_at plain ≡ None → parts_of plain ≡ Err NoHost
 unfolding parts_of
-parts_of-none plain e = ap (λ h. url_at (scheme_of plain) h (behind_authority (behind_scheme plain))) e
+parts_of-none plain e = ap (λ h. url_at (scheme_of plain) h (after_authority (after_scheme plain))) e
 
-pub parts_of-some : (plain : List ℕ) (host : HostParts) → host_at plain ≡ Some host → parts_of plain ≡ url_at (scheme_of plain) (Some host) (behind_authority (behind_scheme plain))
+pub parts_of-some : (plain : List ℕ) (host : HostParts) → host_at plain ≡ Some host → parts_of plain ≡ url_at (scheme_of plain) (Some host) (after_authority (after_scheme plain))
 unfolding parts_of
-parts_of-some plain host e = ap (λ h. url_at (scheme_of plain) h (behind_authority (behind_scheme plain))) e
+parts_of-some plain host e = ap (λ h. url_at (scheme_of plain) h (after_authority (after_scheme plain))) e
 
 url_at-short : (scheme rest : List ℕ) (host : Option HostParts) (n : ℕ) → escaped_parts (url_at scheme host rest) ≡ Err (TooLong n) → ⊥
 url_at-short scheme rest None n e = cc
@@ -45,4 +45,4 @@ url_at-short scheme rest (Some host) n e = cc
 pub never_long : (result : Result Url UrlFault) (plain : List ℕ) (n : ℕ) → Answers result (escaped_parts (parts_of plain)) → result ≡ Err (TooLong n) → ⊥
 unfolding parts_of
 never_long result plain n h e =
-    url_at-short (scheme_of plain) (behind_authority (behind_scheme plain)) (host_at plain) n (subst (λ r. Answers r (escaped_parts (parts_of plain))) e h)
+    url_at-short (scheme_of plain) (after_authority (after_scheme plain)) (host_at plain) n (subst (λ r. Answers r (escaped_parts (parts_of plain))) e h)

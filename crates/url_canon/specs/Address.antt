@@ -13,7 +13,7 @@ number_in base digits =
     then Some (fold (λ number digit. base * number + digit_value digit) 0 digits)
     else None
 
--- The number of a part: hexadecimal digits behind `0x` or `0X`, octal digits behind a 0, and else decimal digits. No other part is a number.
+-- The number of a part: hexadecimal digits after `0x` or `0X`, octal digits after a 0, and else decimal digits. No other part is a number.
 unfoldable pub number_of : List ℕ → Option ℕ
 number_of part =
     if starts_with nat_eq part (codes "0x") || starts_with nat_eq part (codes "0X") then number_in 16 (drop 2 part)
@@ -50,7 +50,7 @@ address_in (suc width) (part ∷ next ∷ parts) =
 unfoldable pub address_of : List ℕ → Option ℕ
 address_of host = address_in 4 (slice_split is_dot host)
 
--- the four bytes of an address in decimal digits, parted by dots
+-- the four bytes of an address in decimal digits, separated by dots
 unfoldable pub address_text : ℕ → List ℕ
 address_text address =
     decimal (address / 16777216) ++ (46 ∷ (decimal (address / 65536 % 256)

@@ -3,7 +3,7 @@ use Rattle.std.specs.Prelude.{◌≡◌, ◌≤◌, ℕ, List, [], ◌∷◌, na
 use Rattle.url_canon.specs.Cleaning.{without_fragment, trimmed}
 use Rattle.url_canon.specs.Unescaping.{unescaped}
 use Rattle.url_canon.specs.Escaping.{escaped}
-use Rattle.url_canon.specs.Parts.{scheme_of, behind_scheme, authority_of, behind_authority, path_part, query_part}
+use Rattle.url_canon.specs.Parts.{scheme_of, after_scheme, authority_of, after_authority, path_part, query_part}
 use Rattle.url_canon.specs.Host.{HostParts, host_of}
 use Rattle.url_canon.specs.Path.{path_of}
 use Rattle.url_canon.specs.Url.{Url, text_of}
@@ -18,7 +18,7 @@ url_at scheme (Some host) rest =
 -- the parts of an unescaped text, still unescaped
 unfoldable pub parts_of : List ℕ → Result Url UrlFault
 parts_of plain =
-    let rest = behind_scheme plain in url_at (scheme_of plain) (host_of (authority_of rest)) (behind_authority rest)
+    let rest = after_scheme plain in url_at (scheme_of plain) (host_of (authority_of rest)) (after_authority rest)
 
 -- the host, the path and the query escaped
 abbrev pub escaped_url : Url → Url

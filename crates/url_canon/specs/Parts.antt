@@ -17,8 +17,8 @@ has_scheme text = begins_with is_ascii_alphabetic text && starts_with nat_eq (wi
 unfoldable pub scheme_of : List ℕ → List ℕ
 scheme_of text = if has_scheme text then str_to_ascii_lowercase (take_while is_scheme_byte text) else codes "http"
 
-unfoldable pub behind_scheme : List ℕ → List ℕ
-behind_scheme text = if has_scheme text then drop 3 (without_leading is_scheme_byte text) else text
+unfoldable pub after_scheme : List ℕ → List ℕ
+after_scheme text = if has_scheme text then drop 3 (without_leading is_scheme_byte text) else text
 
 -- The authority ends at the first `/` or `?`.
 abbrev pub ends_authority : ℕ → Bool
@@ -27,13 +27,13 @@ ends_authority byte = byte == 47 || byte == 63
 abbrev pub is_at : ℕ → Bool
 is_at byte = byte == 64
 
--- the authority behind its last `@`
+-- the authority after its last `@`
 unfoldable pub authority_of : List ℕ → List ℕ
 authority_of text = last_part (slice_split is_at (before_first ends_authority text))
 
 -- the path and the query
-unfoldable pub behind_authority : List ℕ → List ℕ
-behind_authority text = from_first ends_authority text
+unfoldable pub after_authority : List ℕ → List ℕ
+after_authority text = from_first ends_authority text
 
 abbrev pub is_question : ℕ → Bool
 is_question byte = byte == 63
@@ -42,6 +42,6 @@ is_question byte = byte == 63
 unfoldable pub path_part : List ℕ → List ℕ
 path_part text = before_first is_question text
 
--- what stands behind the first `?`, where there is one
+-- what stands after the first `?`, where there is one
 unfoldable pub query_part : List ℕ → Option (List ℕ)
 query_part text = if list_any is_question text then Some (after_first is_question text) else None

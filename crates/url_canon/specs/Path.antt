@@ -6,11 +6,11 @@ use Rattle.url_canon.specs.Words.{is_nil, last_part}
 abbrev pub is_slash : ℕ → Bool
 is_slash byte = byte == 47
 
--- each component behind its slash
+-- each component after its slash
 abbrev pub path_text : List (List ℕ) → List ℕ
 path_text components = flat_map (λ component. 47 ∷ component) components
 
--- what stands behind each slash of a path. The empty path has one empty component, as `/` has.
+-- what stands after each slash of a path. The empty path has one empty component, as `/` has.
 abbrev pub components_of : List ℕ → List (List ℕ)
 components_of path = slice_split is_slash (drop 1 path)
 

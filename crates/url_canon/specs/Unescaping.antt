@@ -9,7 +9,7 @@ is_hex byte = nat_lt (digit_value byte) 16
 abbrev pub spelled : ℕ → ℕ → ℕ
 spelled high low = 16 * digit_value high + digit_value low
 
--- One `%` and the two hexadecimal digits behind it become their byte, wherever they stand.
+-- One `%` and the two hexadecimal digits after it become their byte, wherever they stand.
 pub data UnescapesOne : List ℕ → List ℕ → Type 0 where
   here : {high low : ℕ} {rest : List ℕ} → is_hex high ≡ true → is_hex low ≡ true → UnescapesOne (37 ∷ high ∷ low ∷ rest) (spelled high low ∷ rest)
   there : {byte : ℕ} {text result : List ℕ} → UnescapesOne text result → UnescapesOne (byte ∷ text) (byte ∷ result)

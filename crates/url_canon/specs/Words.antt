@@ -30,6 +30,6 @@ last_part (part ∷ []) = part
 last_part (part ∷ next ∷ parts) = last_part (next ∷ parts)
 
 -- Of the code and not of the rule: the parts of the rest that a split left, which has none where there is no rest
-abbrev pub parts_behind : {X : Type 0} → (X → Bool) → Option (List X) → List (List X)
-parts_behind p None = []
-parts_behind p (Some rest) = slice_split p rest
+abbrev pub parts_after : {X : Type 0} → (X → Bool) → Option (List X) → List (List X)
+parts_after p None = []
+parts_after p (Some rest) = slice_split p rest

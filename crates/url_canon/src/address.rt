@@ -31,7 +31,7 @@ fn number_in(base: u64, digits: &[u8]) -> Option<u64>
 }
 
 /// The number that a part of a host spells, or `ADDRESSES` where it is greater: in hexadecimal digits
-/// behind `0x`, in octal digits behind a 0, and else in decimal digits.
+/// after `0x`, in octal digits after a 0, and else in decimal digits.
 #[tactic(auto, unfolding(crate::specs::Address::number_of))]
 fn number_of(part: &[u8]) -> Option<u64>
     ensures { result ≡ option_map (λ number. min number ADDRESSES) (number_of part.now) }
@@ -76,7 +76,7 @@ fn address_in(width: u32, name: &[u8]) -> Option<u64>
     }
 }
 
-/// The IPv4 address that a host's name stands for: one to four numbers, parted by dots, of which each
+/// The IPv4 address that a host's name stands for: one to four numbers, separated by dots, of which each
 /// but the last is one byte, and the last fills the bytes that are left.
 #[tactic(auto, unfolding(crate::specs::Address::address_of))]
 pub fn address_of(name: &[u8]) -> Option<u64>
@@ -94,7 +94,7 @@ fn append_decimal(out: &mut Bytes, number: u64) -> Result<(), OutOfMemory>
     out.append(buffer.format(number).as_bytes())
 }
 
-/// Appends an address as four decimals, parted by dots.
+/// Appends an address as four decimals, separated by dots.
 #[tactic(auto, unfolding(crate::specs::Address::address_text))]
 pub fn append_address(out: &mut Bytes, address: u64) -> Result<(), OutOfMemory>
     requires { address < 2 ^ 32 }

@@ -53,7 +53,7 @@ fn in_brackets(text: &[u8]) -> Option<&[u8]>
     Some(&text[..place + 1])
 }
 
-/// Appends a label behind a dot, which the first label goes without. An empty label is left out.
+/// Appends a label after a dot, which the first label goes without. An empty label is left out.
 fn append_label(out: &mut Bytes, label: &[u8]) -> Result<(), OutOfMemory>
     ensures { OnOk result (out.new ≡ with_label out.old label.now) }
 {

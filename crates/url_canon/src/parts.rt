@@ -2,12 +2,12 @@ ghost use Rattle.std.specs.Prelude.{◌≡◌, ◌+◌, ◌≤◌, ◌<◌, ◌=
 ghost use Rattle.std.specs.List.{prefix_len, position_or_len, before_first, slice_split, starts_with};
 ghost use Rattle.std.specs.Char.{is_ascii_alphabetic};
 ghost use Rattle.std.specs.Str.{str_to_ascii_lowercase};
-ghost use Rattle.url_canon.specs.Words.{begins_with, last_part, parts_behind};
-ghost use Rattle.url_canon.specs.Parts.{is_scheme_byte, has_scheme, scheme_of, behind_scheme, ends_authority, is_at, behind_authority};
+ghost use Rattle.url_canon.specs.Words.{begins_with, last_part, parts_after};
+ghost use Rattle.url_canon.specs.Parts.{is_scheme_byte, has_scheme, scheme_of, after_scheme, ends_authority, is_at, after_authority};
 
 use crate::split::split_at_byte;
 
-/// Whether a byte may stand in a scheme behind its first letter (RFC 3986, section 3.1).
+/// Whether a byte may stand in a scheme after its first letter (RFC 3986, section 3.1).
 fn is_scheme_byte(byte: u8) -> bool
     ensures { result ≡ is_scheme_byte byte }
 {
@@ -55,11 +55,11 @@ fn scheme_len(text: &[u8]) -> Option<usize>
     }
 }
 
-/// The scheme, which is `http` where the text has none, and what stands behind it.
-#[tactic(auto, unfolding(crate::specs::Parts::scheme_of, crate::specs::Parts::behind_scheme))]
+/// The scheme, which is `http` where the text has none, and what stands after it.
+#[tactic(auto, unfolding(crate::specs::Parts::scheme_of, crate::specs::Parts::after_scheme))]
 pub fn split_scheme(text: &[u8]) -> (&[u8], &[u8])
     ensures scheme { str_to_ascii_lowercase result.0.now ≡ scheme_of text.now }
-    ensures behind { result.1.now ≡ behind_scheme text.now }
+    ensures after { result.1.now ≡ after_scheme text.now }
 {
     match scheme_len(text) {
         None => (b"http", text),
@@ -84,16 +84,16 @@ fn authority_len(text: &[u8]) -> usize
 }
 
 /// The authority, which ends at the first `/` or `?`, and the rest from there (RFC 3986, section 3.2).
-#[tactic(auto, using(crate::proofs::Cuts::places), unfolding(crate::specs::Parts::behind_authority))]
+#[tactic(auto, using(crate::proofs::Cuts::places), unfolding(crate::specs::Parts::after_authority))]
 pub fn split_authority(text: &[u8]) -> (&[u8], &[u8])
     ensures authority { result.0.now ≡ before_first ends_authority text.now }
-    ensures behind { result.1.now ≡ behind_authority text.now }
+    ensures after { result.1.now ≡ after_authority text.now }
 {
     let len = authority_len(text);
     (&text[..len], &text[len..])
 }
 
-/// What stands behind the last `@`: the authority without a user and a password.
+/// What stands after the last `@`: the authority without a user and a password.
 pub fn without_user(authority: &[u8]) -> &[u8]
     ensures { result.now ≡ last_part (slice_split is_at authority.now) }
 {

@@ -39,7 +39,7 @@ fn add_component<'a>(kept: &mut Vec<&'a [u8]>, component: &'a [u8]) -> Result<()
     Ok(())
 }
 
-/// Adds an empty component behind a last one that was `.` or `..`.
+/// Adds an empty component after a last one that was `.` or `..`.
 fn add_directory<'a>(kept: &mut Vec<&'a [u8]>, last: &'a [u8]) -> Result<(), OutOfMemory>
     ensures { OnOk result (map (λ c. c.now) kept.new.items
         ≡ map (λ c. c.now) kept.old.items ++ (if is_same last.now || is_parent last.now then [] ∷ [] else [])) }
@@ -68,7 +68,7 @@ fn resolved(alloc: Global, path: &[u8]) -> Result<Vec<&[u8]>, OutOfMemory>
     Ok(kept)
 }
 
-/// Appends a component behind a slash and escaped, unless it is empty and not the last.
+/// Appends a component after a slash and escaped, unless it is empty and not the last.
 fn append_component(out: &mut Bytes, component: &[u8], is_last: bool) -> Result<(), OutOfMemory>
     ensures { OnOk result (out.new ≡ out.old
         ++ (if not (is_nil component.now) || is_last then 47 ∷ escaped component.now else [])) }
@@ -80,7 +80,7 @@ fn append_component(out: &mut Bytes, component: &[u8], is_last: bool) -> Result<
     append_escaped(out, component)
 }
 
-/// Appends the components, each behind a slash and escaped, without empty ones but the last.
+/// Appends the components, each after a slash and escaped, without empty ones but the last.
 fn append_components(out: &mut Bytes, components: &[&[u8]]) -> Result<(), OutOfMemory>
     ensures { OnOk result (out.new
         ≡ out.old ++ path_text (map escaped (without_empty (map (λ c. c.now) components.now)))) }
@@ -97,11 +97,11 @@ fn append_components(out: &mut Bytes, components: &[&[u8]]) -> Result<(), OutOfM
 pub fn path_of(alloc: Global, path: &[u8]) -> Result<Bytes, OutOfMemory>
     ensures { IfOk result (λ out. out ≡ path_text (map escaped (path_of path.now))) }
 {
-    let behind_slash = match path {
+    let after_slash = match path {
         [_, rest @ ..] => rest,
         [] => path,
     };
-    let components = resolved(alloc, behind_slash)?;
+    let components = resolved(alloc, after_slash)?;
     let mut out = Bytes::with_capacity(alloc, path.len() + 1)?;
     append_components(&mut out, components.as_slice())?;
     Ok(out)

@@ -1,4 +1,4 @@
--- One more text behind a list without repeats.
+-- One more text after a list without repeats.
 use Rattle.std.proofs.Common.{Bor, ◌≡◌, ℕ, ◌+◌, ◌<◌, length, get_or, take, append_assoc, List, [], ◌∷◌, ◌++◌, Bool, true, false, not, cond, ◌||◌, refl, sym, ap, ◌∙◌, subst, ◌⊎◌, inl, inr, ⊎_elim}
 use Rattle.std.specs.Prelude.{filter, map}
 use Rattle.std.specs.List.{list_any, flat_map, AllByRecursion, IsDistinct}

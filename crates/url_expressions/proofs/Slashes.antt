@@ -30,27 +30,27 @@ no_slash : (x : ℕ) → x ≢ 47 → eqb x 47 ≡ false
 no_slash x h = grind arith
 
 -- bytes without a slash stand before each front
-behind_bytes : (component rest : List ℕ) → AllByRecursion (λ byte. byte ≢ 47) component → slash_fronts (component ++ rest) ≡ map (λ f. component ++ f) (slash_fronts rest)
+after_bytes : (component rest : List ℕ) → AllByRecursion (λ byte. byte ≢ 47) component → slash_fronts (component ++ rest) ≡ map (λ f. component ++ f) (slash_fronts rest)
 unfolding slash_fronts
-behind_bytes [] rest h = sym (map-id (slash_fronts rest))
-behind_bytes (x ∷ xs) rest h =
+after_bytes [] rest h = sym (map-id (slash_fronts rest))
+after_bytes (x ∷ xs) rest h =
     ap (λ b. cond b ((x ∷ []) ∷ []) [] ++ map (λ f. x ∷ f) (slash_fronts (xs ++ rest))) (no_slash x h.0)
-    ∙ ap (λ fs. map (λ f. x ∷ f) fs) (behind_bytes xs rest h.1)
+    ∙ ap (λ fs. map (λ f. x ∷ f) fs) (after_bytes xs rest h.1)
     ∙ map-map (λ f. x ∷ f) (λ f. xs ++ f) (slash_fronts rest)
 
 -- a component of a path stands before each front but the first
-behind_component : (component rest : List ℕ) → AllByRecursion (λ byte. byte ≢ 47) component → slash_fronts (47 ∷ component ++ rest) ≡ (47 ∷ []) ∷ map (λ f. 47 ∷ component ++ f) (slash_fronts rest)
+after_component : (component rest : List ℕ) → AllByRecursion (λ byte. byte ≢ 47) component → slash_fronts (47 ∷ component ++ rest) ≡ (47 ∷ []) ∷ map (λ f. 47 ∷ component ++ f) (slash_fronts rest)
 unfolding slash_fronts
-behind_component component rest h =
-    ap (λ fs. (47 ∷ []) ∷ fs) (ap (λ fs. map (λ f. 47 ∷ f) fs) (behind_bytes component rest h) ∙ map-map (λ f. 47 ∷ f) (λ f. component ++ f) (slash_fronts rest))
+after_component component rest h =
+    ap (λ fs. (47 ∷ []) ∷ fs) (ap (λ fs. map (λ f. 47 ∷ f) fs) (after_bytes component rest h) ∙ map-map (λ f. 47 ∷ f) (λ f. component ++ f) (slash_fronts rest))
 
 -- each front is the text of a front of the directories
 all_fronts : (path : List (List ℕ)) → AllByRecursion (λ component. AllByRecursion (λ byte. byte ≢ 47) component) path → 0 < length path → slash_fronts (path_text path) ≡ map folder_text (fronts (directories path))
 unfolding slash_fronts
 all_fronts [] h some = absurd (omega arith)
-all_fronts (component ∷ []) h some = behind_component component [] h.0
+all_fronts (component ∷ []) h some = after_component component [] h.0
 all_fronts (component ∷ next ∷ rest) h some =
-    behind_component component (path_text (next ∷ rest)) h.0
+    after_component component (path_text (next ∷ rest)) h.0
     ∙ ap (λ fs. (47 ∷ []) ∷ fs) (ap (λ fs. map (λ f. 47 ∷ component ++ f) fs) (all_fronts (next ∷ rest) h.1 (omega arith)) ∙ map-map (λ f. 47 ∷ component ++ f) folder_text (fronts (directories (next ∷ rest))) ∙ sym (map-map folder_text (λ front. component ∷ front) (fronts (directories (next ∷ rest)))))
 
 recursions : (path : List (List ℕ)) → AllByRecursion (λ component. All (λ byte. byte ≢ 47) component) path → AllByRecursion (λ component. AllByRecursion (λ byte. byte ≢ 47) component) path

@@ -27,7 +27,7 @@ fn first_dot(host: &[u8]) -> Option<usize>
 }
 
 /// The host without its first component.
-fn behind_first_dot(host: &[u8]) -> &[u8]
+fn after_first_dot(host: &[u8]) -> &[u8]
     ensures { 1 < length (components host.now) →
         components result.now ≡ drop 1 (components host.now) }
 {
@@ -44,7 +44,7 @@ fn without_components(host: &[u8], skip: usize) -> &[u8]
 {
     let mut rest = host;
     for _ in 0..skip {
-        rest = behind_first_dot(rest);
+        rest = after_first_dot(rest);
     }
     rest
 }

@@ -1,13 +1,13 @@
 use Rattle.std.proofs.Common.{◌≡◌, ◌∷◌, option_copied}
 use Rattle.std.specs.List.{slice_split}
-use Rattle.url_canon.specs.Words.{last_part, parts_behind}
+use Rattle.url_canon.specs.Words.{last_part, parts_after}
 use Rattle.url_canon.specs.Parts.{is_at}
-use Rattle.url_canon.proofs.Splits.{size_behind}
+use Rattle.url_canon.proofs.Splits.{size_after}
 use Rattle.url_canon.proofs.parts.without_user.Given as goal
 
 abbrev pub invariant-loop-rest : goal.invariant-loop-rest
 invariant-loop-rest l =
-    last_part (l.last ∷ parts_behind is_at (option_copied l.rest)) ≡ last_part (slice_split is_at l.authority)
+    last_part (l.last ∷ parts_after is_at (option_copied l.rest)) ≡ last_part (slice_split is_at l.authority)
 
 abbrev pub decreases-loop-rest : goal.decreases-loop-rest
-decreases-loop-rest l = size_behind (option_copied l.rest)
+decreases-loop-rest l = size_after (option_copied l.rest)

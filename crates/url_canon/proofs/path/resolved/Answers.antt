@@ -1,6 +1,6 @@
 use Rattle.std.proofs.Common.{◌≡◌, ℕ, List, ◌∷◌, ◌++◌, [], map, option_copied, cond, ◌||◌, ap, sym, ◌∙◌}
 use Rattle.std.specs.List.{fold, slice_split}
-use Rattle.url_canon.specs.Words.{last_part, parts_behind}
+use Rattle.url_canon.specs.Words.{last_part, parts_after}
 use Rattle.url_canon.specs.Path.{is_slash, is_same, is_parent, with_component, resolved}
 use Rattle.url_canon.proofs.Splits.{some-slice_split, last_part-more}
 use Rattle.url_canon.proofs.path.resolved.Goals as goal
@@ -20,4 +20,4 @@ returns c =
     let kept = map (λ c. c.now) c.loop-rest.kept.items in
     let last = c.loop-rest.last.now in
     c.in_ok-add_directory.ensures
-    ∙ closed kept parts last (sym (ap (λ rest. fold with_component kept (parts_behind is_slash (option_copied rest))) c.in_default.is) ∙ c.loop-rest.invariant.0) (sym (ap (λ rest. last_part (last ∷ parts_behind is_slash (option_copied rest))) c.in_default.is) ∙ c.loop-rest.invariant.1)
+    ∙ closed kept parts last (sym (ap (λ rest. fold with_component kept (parts_after is_slash (option_copied rest))) c.in_default.is) ∙ c.loop-rest.invariant.0) (sym (ap (λ rest. last_part (last ∷ parts_after is_slash (option_copied rest))) c.in_default.is) ∙ c.loop-rest.invariant.1)

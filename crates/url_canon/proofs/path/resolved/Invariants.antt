@@ -1,13 +1,13 @@
 use Rattle.std.proofs.Common.{◌≡◌, ◌∷◌, [], map, option_copied}
 use Rattle.std.specs.List.{fold, slice_split}
-use Rattle.url_canon.specs.Words.{last_part, parts_behind}
+use Rattle.url_canon.specs.Words.{last_part, parts_after}
 use Rattle.url_canon.specs.Path.{is_slash, with_component}
-use Rattle.url_canon.proofs.Splits.{size_behind}
+use Rattle.url_canon.proofs.Splits.{size_after}
 use Rattle.url_canon.proofs.path.resolved.Given as goal
 
 abbrev pub invariant-loop-rest : goal.invariant-loop-rest
 invariant-loop-rest l =
-    (fold with_component (map (λ c. c.now) l.kept.items) (parts_behind is_slash (option_copied l.rest)) ≡ fold with_component [] (slice_split is_slash l.path)) × (last_part (l.last ∷ parts_behind is_slash (option_copied l.rest)) ≡ last_part (slice_split is_slash l.path))
+    (fold with_component (map (λ c. c.now) l.kept.items) (parts_after is_slash (option_copied l.rest)) ≡ fold with_component [] (slice_split is_slash l.path)) × (last_part (l.last ∷ parts_after is_slash (option_copied l.rest)) ≡ last_part (slice_split is_slash l.path))
 
 abbrev pub decreases-loop-rest : goal.decreases-loop-rest
-decreases-loop-rest l = size_behind (option_copied l.rest)
+decreases-loop-rest l = size_after (option_copied l.rest)

@@ -8,7 +8,7 @@ use Rattle.url_expressions.proofs.hosts.without_components.Goals as goal
 pub loop-preserved : goal.loop-preserved
 loop-preserved c =
     let more : 1 < length (components c.loop.rest.now) = rw c.loop.invariant (omega (arith, length-drop c.loop.counter (components c.args.host.now))) in
-    c.behind_first_dot-rest.ensures more ∙ ap (λ cs. drop 1 cs) c.loop.invariant ∙ drop-drop 1 c.loop.counter (components c.args.host.now)
+    c.after_first_dot-rest.ensures more ∙ ap (λ cs. drop 1 cs) c.loop.invariant ∙ drop-drop 1 c.loop.counter (components c.args.host.now)
 
 pub returns : goal.returns
 returns c =
