@@ -11,6 +11,7 @@ pub use names::{
 };
 pub use row::Row;
 pub use text::Text;
+pub use time::{Duration, Moment};
 
 mod bytes;
 mod history;
@@ -21,3 +22,4 @@ mod row;
 #[cfg(test)]
 mod tests;
 mod text;
+mod time;
