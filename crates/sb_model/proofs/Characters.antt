@@ -1,7 +1,8 @@
 -- Characters of a text, by place.
 use Rattle.std.proofs.Math.Utf8.{encode, encodes}
 use Rattle.std.specs.Char.{IsScalar}
-use Rattle.std.proofs.Common.{append-nil, ◌≡◌, ℕ, zero, suc, ◌<◌, List, [], ◌∷◌, ◌++◌, length, get_or, refl, sym, ap, ◌∙◌, Option, Some, None, arith}
+use Rattle.std.specs.Cmp.Lexicographic.{pointwise, bytes_decides}
+use Rattle.std.proofs.Common.{append-nil, ◌≡◌, ℕ, zero, suc, ◌<◌, List, [], ◌∷◌, ◌++◌, length, get_or, refl, sym, ap, ◌∙◌, Option, Some, None, arith, Bool, true, false, nat_eq}
 use Rattle.std.specs.Prelude.{slice_get, option_map, IsSome}
 use Rattle.std.specs.Str.{chars, IsUtf8}
 use Rattle.std.proofs.lemmas.Str.{chars-nil, encodes-chars, chars-append, chars_past_char, IsUtf8-encode}
@@ -34,3 +35,16 @@ pub chars_push : (bs : List ℕ) (c : ℕ) → IsUtf8 bs → IsScalar c → char
 chars_push bs c u s =
     chars-append bs (encode c) u
     ∙ ap (λ cs. chars bs ++ cs) (chars_past_char (encode c) [] c (IsUtf8-encode c s) (sym (append-nil (encode c))) ∙ ap (λ cs. c ∷ cs) chars-nil)
+
+-- two tests that decide the same are one
+same_test : (b c : Bool) → (b ≡ true → c ≡ true) → (c ≡ true → b ≡ true) → b ≡ c
+same_test true c there back = sym (there refl)
+same_test false true there back = back refl
+same_test false false there back = refl
+
+-- texts have the same bytes exactly where they have the same characters
+pub pointwise-chars : (a b : List ℕ) → IsUtf8 a → IsUtf8 b → pointwise nat_eq a b ≡ pointwise nat_eq (chars a) (chars b)
+pointwise-chars a b ua ub =
+    same_test _ _
+    (λ same. (bytes_decides (chars a) (chars b)).1 (ap chars ((bytes_decides a b).0 same)))
+    (λ same. (bytes_decides a b).1 (sym (encodes-chars a ua) ∙ ap encodes ((bytes_decides (chars a) (chars b)).0 same) ∙ encodes-chars b ub))

@@ -1,6 +1,7 @@
 pub mod Candidate
 pub mod Difference
 pub mod History
+pub mod Lending
 pub mod Names
 pub mod Naming
 pub mod Prefixes

@@ -76,6 +76,16 @@ platform_of word = find (λ p. bytes_eq (platform_word p) word) platforms
 unfoldable pub entry_of : List ℕ → Option EntryType
 entry_of word = find (λ e. bytes_eq (entry_word e) word) entries
 
+-- the type of a code, where the table has it
+unfoldable pub threat_with_code : ℕ → Option ThreatType
+threat_with_code code = find (λ t. threat_code t == code) threats
+
+unfoldable pub platform_with_code : ℕ → Option PlatformType
+platform_with_code code = find (λ p. platform_code p == code) platforms
+
+unfoldable pub entry_with_code : ℕ → Option EntryType
+entry_with_code code = find (λ e. entry_code e == code) entries
+
 -- the slash that parts the words of a name
 abbrev pub slash : ℕ
 slash = 47

@@ -1,7 +1,9 @@
-ghost use Rattle.std.specs.Prelude.{◌≡◌, ℕ, ◌<◌, ◌≤◌, ◌↔◌, List, [], ◌∷◌, ◌++◌, length, take, slice_index, IsTrue, IfOk, OnOk, OnErr};
+ghost use Rattle.std.specs.Prelude.{◌≡◌, ℕ, ◌<◌, ◌≤◌, ◌↔◌, List, [], ◌∷◌, ◌++◌, length, take, nat_eq, slice_index, IsTrue, IfOk, OnOk, OnErr};
+ghost use Rattle.std.specs.Cmp.{partial_equiv_from_equiv};
+ghost use Rattle.std.specs.Cmp.Lexicographic.{pointwise, nat_list_eq_equiv};
 ghost use Rattle.std.specs.Slice.Iter.{iter_rest};
 
-use crate::OutOfMemory;
+use crate::{OutOfMemory, TryCopy};
 use std::alloc::Global;
 use std::marker::Model;
 use std::slice;
@@ -125,4 +127,33 @@ impl Bytes {
     {
         self.items.clear();
     }
+
+    /// The same bytes once more.
+    pub fn copy(&self) -> Result<Bytes, OutOfMemory>
+        ensures { IfOk result (λ copy. copy ≡ self.now) }
+    {
+        Ok(Bytes {
+            items: self.items.clone()?,
+        })
+    }
+}
+
+impl TryCopy for Bytes {
+    fn try_copy(&self) -> Result<Bytes, OutOfMemory> {
+        self.copy()
+    }
+}
+
+impl PartialEq for Bytes {
+    ghost eq = { pointwise nat_eq };
+
+    ghost laws = { partial_equiv_from_equiv nat_list_eq_equiv };
+
+    fn eq(&self, other: &Bytes) -> bool {
+        self.as_slice() == other.as_slice()
+    }
+}
+
+impl Eq for Bytes {
+    ghost laws = { nat_list_eq_equiv };
 }

@@ -1,6 +1,6 @@
-ghost use Rattle.std.specs.Prelude.{◌≡◌, ◌↔◌, IsTrue};
+ghost use Rattle.std.specs.Prelude.{◌≡◌, ℕ, ◌↔◌, IsTrue, Some};
 ghost use Rattle.std.specs.Ordering.{nat_cmp};
-ghost use Rattle.sb_model.specs.Names.{threat_code, platform_code, entry_code, same_name, name_cmp};
+ghost use Rattle.sb_model.specs.Names.{threat_code, platform_code, entry_code, threat_with_code, platform_with_code, entry_with_code, same_name, name_cmp};
 ghost use Rattle.sb_model.specs.declared.names.ListName.{ListName};
 ghost use Rattle.sb_model.specs.declared.names.ThreatType.{ThreatType};
 ghost use Rattle.sb_model.specs.declared.names.PlatformType.{PlatformType};
@@ -16,4 +16,11 @@ pub fn names_go_by_their_codes()
     ensures entries { (a b : EntryType) → ⟦<EntryType as Ord>⟧.cmp a b ≡ nat_cmp (entry_code a) (entry_code b) }
     ensures names { (a b : ListName) → ⟦<ListName as Ord>⟧.cmp a b ≡ name_cmp a b }
     ensures same { (a b : ListName) → IsTrue (same_name a b) ↔ (a ≡ b) }
+{}
+
+/// A type is found by a code exactly where the code is its own.
+pub fn codes_name_types()
+    ensures threats { (code : ℕ) (t : ThreatType) → (threat_with_code code ≡ Some t) ↔ (threat_code t ≡ code) }
+    ensures platforms { (code : ℕ) (p : PlatformType) → (platform_with_code code ≡ Some p) ↔ (platform_code p ≡ code) }
+    ensures entries { (code : ℕ) (e : EntryType) → (entry_with_code code ≡ Some e) ↔ (entry_code e ≡ code) }
 {}

@@ -3,8 +3,9 @@
 #![tactic(auto)]
 
 pub use bytes::Bytes;
+pub use copying::TryCopy;
 pub use history::{Added, Change};
-pub use laws::names_go_by_their_codes;
+pub use laws::{codes_name_types, names_go_by_their_codes};
 pub use memory::OutOfMemory;
 pub use names::{
     EntryType, ListName, NameFault, PlatformType, ThreatType, read_list_name, write_list_name,
@@ -15,6 +16,7 @@ pub use text::Text;
 pub use time::{Duration, Moment};
 
 mod bytes;
+mod copying;
 mod history;
 mod laws;
 mod memory;

@@ -1,5 +1,5 @@
 ghost use Rattle.std.specs.Prelude.{◌≡◌, [], ◌∷◌, IfOk, MatchOption, position};
-ghost use Rattle.sb_model.specs.Names.{threat_word, platform_word, entry_word, threat_code, platform_code, entry_code, threat_of, platform_of, entry_of, is_slash, parts_of, name_of_words, text_of, name_of};
+ghost use Rattle.sb_model.specs.Names.{threat_word, platform_word, entry_word, threat_code, platform_code, entry_code, threat_of, platform_of, entry_of, threat_with_code, platform_with_code, entry_with_code, is_slash, parts_of, name_of_words, text_of, name_of};
 ghost use Rattle.sb_model.specs.declared.names.ListName.{ListName};
 
 use crate::{Bytes, OutOfMemory};
@@ -53,6 +53,14 @@ impl ThreatType {
         ensures { result ≡ threat_code self }
     {
         self as u8
+    }
+
+    /// The type of a code; `None` where no type has it.
+    #[tactic(auto, unfolding(crate::specs::Names::threat_with_code))]
+    pub fn from_code(code: u8) -> Option<Self>
+        ensures { result ≡ threat_with_code code }
+    {
+        Self::ALL.iter().copied().find(|t| t.code() == code)
     }
 }
 
@@ -115,6 +123,14 @@ impl PlatformType {
     {
         self as u8
     }
+
+    /// The type of a code; `None` where no type has it.
+    #[tactic(auto, unfolding(crate::specs::Names::platform_with_code))]
+    pub fn from_code(code: u8) -> Option<Self>
+        ensures { result ≡ platform_with_code code }
+    {
+        Self::ALL.iter().copied().find(|t| t.code() == code)
+    }
 }
 
 /// What the entries of a list stand for. The variants are ordered by their codes, 1 and 2.
@@ -154,6 +170,14 @@ impl EntryType {
         ensures { result ≡ entry_code self }
     {
         self as u8
+    }
+
+    /// The type of a code; `None` where no type has it.
+    #[tactic(auto, unfolding(crate::specs::Names::entry_with_code))]
+    pub fn from_code(code: u8) -> Option<Self>
+        ensures { result ≡ entry_with_code code }
+    {
+        Self::ALL.iter().copied().find(|t| t.code() == code)
     }
 }
 

@@ -1,7 +1,9 @@
-ghost use Rattle.std.specs.Prelude.{◌≡◌, ℕ, ◌<◌, ◌↔◌, List, [], ◌∷◌, ◌++◌, length, slice_get, slice_index, string_bytes, IsTrue, IfOk, OnOk, OnErr};
+ghost use Rattle.std.specs.Prelude.{◌≡◌, ℕ, ◌<◌, ◌↔◌, List, [], ◌∷◌, ◌++◌, length, nat_eq, slice_get, slice_index, string_bytes, IsTrue, IfOk, OnOk, OnErr};
+ghost use Rattle.std.specs.Cmp.{partial_equiv_from_equiv};
+ghost use Rattle.std.specs.Cmp.Lexicographic.{pointwise, nat_list_eq_equiv};
 ghost use Rattle.std.specs.Str.{chars};
 
-use crate::OutOfMemory;
+use crate::{OutOfMemory, TryCopy};
 use std::alloc::Global;
 use std::marker::Model;
 
@@ -48,6 +50,15 @@ impl Text {
         })
     }
 
+    /// The empty text, with room for `capacity` bytes.
+    pub fn with_capacity(alloc: Global, capacity: usize) -> Result<Self, OutOfMemory>
+        ensures { IfOk result (λ t. t ≡ []) }
+    {
+        Ok(Text {
+            text: String::with_capacity(alloc, capacity)?,
+        })
+    }
+
     /// The text of a string, which is moved and not copied.
     pub fn from_string(text: String) -> Self
         ensures { result ≡ chars (string_bytes text) }
@@ -90,4 +101,57 @@ impl Text {
         self.text.push(item)?;
         Ok(())
     }
+
+    /// Appends a text.
+    pub fn append(&mut self, text: &str) -> Result<(), OutOfMemory>
+        ensures ok { OnOk result (self.new ≡ self.old ++ chars text.now) }
+        ensures err { OnErr result (self.new ≡ self.old) }
+    {
+        self.text.push_str(text)?;
+        Ok(())
+    }
+
+    /// Drops all characters, and keeps the memory.
+    pub fn clear(&mut self)
+        ensures { self.new ≡ [] }
+    {
+        self.text.clear();
+    }
+
+    /// The string of the text, which is moved and not copied.
+    pub fn into_string(self) -> String
+        ensures { chars (string_bytes result) ≡ self }
+    {
+        let Text { text } = self;
+        text
+    }
+
+    /// The same text once more.
+    pub fn copy(&self) -> Result<Text, OutOfMemory>
+        ensures { IfOk result (λ copy. copy ≡ self.now) }
+    {
+        Ok(Text {
+            text: self.text.clone()?,
+        })
+    }
+}
+
+impl TryCopy for Text {
+    fn try_copy(&self) -> Result<Text, OutOfMemory> {
+        self.copy()
+    }
+}
+
+impl PartialEq for Text {
+    ghost eq = { pointwise nat_eq };
+
+    ghost laws = { partial_equiv_from_equiv nat_list_eq_equiv };
+
+    fn eq(&self, other: &Text) -> bool {
+        self.as_str().as_bytes() == other.as_str().as_bytes()
+    }
+}
+
+impl Eq for Text {
+    ghost laws = { nat_list_eq_equiv };
 }
