@@ -1,6 +1,7 @@
-ghost use Rattle.std.specs.Prelude.{◌≡◌, ℕ, ◌↔◌, IsTrue, Some};
+ghost use Rattle.std.specs.Prelude.{◌≡◌, ℕ, List, ◌↔◌, IsTrue, Some};
 ghost use Rattle.std.specs.Ordering.{nat_cmp};
 ghost use Rattle.sb_model.specs.Names.{threat_code, platform_code, entry_code, threat_with_code, platform_with_code, entry_with_code, same_name, name_cmp};
+ghost use Rattle.sb_model.specs.Time.{nanos_in, WritesNanos};
 ghost use Rattle.sb_model.specs.declared.names.ListName.{ListName};
 ghost use Rattle.sb_model.specs.declared.names.ThreatType.{ThreatType};
 ghost use Rattle.sb_model.specs.declared.names.PlatformType.{PlatformType};
@@ -23,4 +24,9 @@ pub fn codes_name_types()
     ensures threats { (code : ℕ) (t : ThreatType) → (threat_with_code code ≡ Some t) ↔ (threat_code t ≡ code) }
     ensures platforms { (code : ℕ) (p : PlatformType) → (platform_with_code code ≡ Some p) ↔ (platform_code p ≡ code) }
     ensures entries { (code : ℕ) (e : EntryType) → (entry_with_code code ≡ Some e) ↔ (entry_code e ≡ code) }
+{}
+
+/// A text is read as so many nanoseconds exactly where its digits write them.
+pub fn durations_are_their_digits()
+    ensures { (text : List ℕ) (nanos : ℕ) → (nanos_in text ≡ Some nanos) ↔ WritesNanos text nanos }
 {}
