@@ -271,7 +271,6 @@ decimal_some n h = go (decimal n) refl (decimal_value n h)
     go (d ∷ ds) e v = rw e (omega arith)
     go [] e v = let nothing : decimal 0 ≡ [] = ap decimal v ∙ e in absurd (cc)
 
-
 zeros_digits : (k : ℕ) (ds : List ℕ) → AllDigits 10 ds → AllDigits 10 (replicate k 48 ++ ds)
 zeros_digits zero ds h = h
 zeros_digits (suc k) ds h = (omega arith, zeros_digits k ds h)
@@ -321,18 +320,21 @@ writes_fraction nanos h = none (nat_eq nanos 0) refl
     nine_digits e d k =
         fraction_is 9 1 nanos nanos (omega arith) (omega arith) refl (omega arith) (omega (arith, h)) (length-decimal-le 9 nanos (omega arith) h (omega (arith, h)))
         (rw (e, d, k) refl)
+
     six : (b : Bool) → nat_eq nanos 0 ≡ false → nat_eq (nanos % 1000000) 0 ≡ false → nat_eq (nanos % 1000) 0 ≡ b → WritesFraction nanos
     six false e d k = nine_digits e d k
     six true e d k =
         fraction_is 6 1000 (nanos / 1000) nanos (omega arith) (omega arith) refl (omega (arith, eqb-true _ _ k)) (omega (arith, h))
         (length-decimal-le 6 (nanos / 1000) (omega arith) (omega (arith, h)) (omega (arith, h)))
         (rw (e, d, k) refl)
+
     three : (b : Bool) → nat_eq nanos 0 ≡ false → nat_eq (nanos % 1000000) 0 ≡ b → WritesFraction nanos
     three false e d = six (nat_eq (nanos % 1000) 0) e d refl
     three true e d =
         fraction_is 3 1000000 (nanos / 1000000) nanos (omega arith) (omega arith) refl (omega (arith, eqb-true _ _ d)) (omega (arith, h))
         (length-decimal-le 3 (nanos / 1000000) (omega arith) (omega (arith, h)) (omega (arith, h)))
         (rw (e, d) refl)
+
     none : (b : Bool) → nat_eq nanos 0 ≡ b → WritesFraction nanos
     none false e = three (nat_eq (nanos % 1000000) 0) e refl
     none true e = record { ds = []; nine = omega arith; digits = tt; value = omega (arith, eqb-true _ _ e); text = rw e refl }

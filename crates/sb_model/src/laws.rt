@@ -1,6 +1,8 @@
-ghost use Rattle.std.specs.Prelude.{◌≡◌, ℕ, List, ◌↔◌, IsTrue, Some};
+ghost use Rattle.std.specs.Prelude.{◌≡◌, ℕ, ◌≤◌, List, Option, ◌↔◌, IsTrue, Some, IfSome};
 ghost use Rattle.std.specs.Ordering.{nat_cmp};
 ghost use Rattle.sb_model.specs.Names.{threat_code, platform_code, entry_code, threat_with_code, platform_with_code, entry_with_code, same_name, name_cmp};
+ghost use Rattle.sb_model.specs.History.{History, version_count};
+ghost use Rattle.sb_model.specs.Target.{can_reach, target_version};
 ghost use Rattle.sb_model.specs.Time.{nanos_in, WritesNanos};
 ghost use Rattle.sb_model.specs.declared.names.ListName.{ListName};
 ghost use Rattle.sb_model.specs.declared.names.ThreatType.{ThreatType};
@@ -29,4 +31,16 @@ pub fn codes_name_types()
 /// A text is read as so many nanoseconds exactly where its digits write them.
 pub fn durations_are_their_digits()
     ensures { (text : List ℕ) (nanos : ℕ) → (nanos_in text ≡ Some nanos) ↔ WritesNanos text nanos }
+{}
+
+/// The target is a version that the client may be brought to, and none after it is one.
+pub fn targets_are_the_greatest()
+    ensures reached { (history : History) (list : ListName) (held : Option ℕ) (max_update max_database : ℕ)
+        → IfSome held (λ version. version ≤ version_count history)
+        → IsTrue (can_reach history list held max_update max_database (target_version history list held max_update max_database)) }
+    ensures greatest { (history : History) (list : ListName) (held : Option ℕ) (max_update max_database version : ℕ)
+        → version ≤ version_count history → IsTrue (can_reach history list held max_update max_database version)
+        → version ≤ target_version history list held max_update max_database }
+    ensures last { (history : History) (list : ListName) (held : Option ℕ) (max_update max_database : ℕ)
+        → target_version history list held max_update max_database ≤ version_count history }
 {}

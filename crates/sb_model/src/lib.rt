@@ -6,7 +6,9 @@ pub use bytes::Bytes;
 pub use copying::TryCopy;
 pub use durations::{cache_ms, later, read_duration, wait_ms, write_duration};
 pub use history::{Added, Change};
-pub use laws::{codes_name_types, durations_are_their_digits, names_go_by_their_codes};
+pub use laws::{
+    codes_name_types, durations_are_their_digits, names_go_by_their_codes, targets_are_the_greatest,
+};
 pub use memory::OutOfMemory;
 pub use names::{
     EntryType, ListName, NameFault, PlatformType, ThreatType, read_list_name, write_list_name,
@@ -25,7 +27,5 @@ mod memory;
 mod names;
 mod row;
 mod steps;
-#[cfg(test)]
-mod tests;
 mod text;
 mod time;
