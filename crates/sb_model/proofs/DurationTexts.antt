@@ -1,17 +1,16 @@
 -- Texts of durations, read and written.
-use Rattle.std.proofs.Common.{◌≡◌, ℕ, zero, suc, ◌+◌, ◌-◌, ◌*◌, ◌/◌, ◌%◌, ◌^◌, ◌<◌, ◌≤◌, List, [], ◌∷◌, ◌++◌, Bool, true, false, length, take, drop, get_or, refl, sym, ap, ◌∙◌, subst, arith, cond, Option, Some, None, append_assoc, append-nil, nat_lt, nat_eq}
-use Rattle.std.specs.Prelude.{◌↔◌, not, ◌&&◌, ◌==◌, nat_le, replicate, decimal, position, option_and_then, Ok, if◌then◌else◌}
+use Rattle.std.proofs.Common.{◌≡◌, ℕ, zero, suc, ◌+◌, ◌-◌, ◌*◌, ◌/◌, ◌%◌, ◌^◌, ◌<◌, ◌≤◌, List, [], ◌∷◌, ◌++◌, Bool, true, false, length, take, drop, get_or, refl, sym, ap, ◌∙◌, arith, cond, Option, Some, None, append_assoc, append-nil, nat_lt, nat_eq}
+use Rattle.std.specs.Prelude.{not, ◌&&◌, nat_le, replicate, decimal, option_and_then, Ok}
 use Rattle.std.specs.Option.{option_map}
-use Rattle.std.specs.Char.{is_ascii_digit, digit_value}
+use Rattle.std.specs.Char.{is_ascii_digit}
 use Rattle.std.specs.Fmt.{digits}
-use Rattle.std.specs.List.{list_all, before_first, position_or_len}
-use Rattle.std.specs.Str.Parse.{AllDigits, digits_value, digits_value_after}
+use Rattle.std.specs.List.{list_all, position_or_len}
+use Rattle.std.specs.Str.Parse.{AllDigits, digits_value}
 use Rattle.std.proofs.Math.Seq.{take-append_seam, drop-append_seam, get_or-append_seam}
-use Rattle.std.proofs.lemmas.Bool.{false≢true, and_parts, eqb-true, eq-eqb, ltb-true, ltb-false, leb-true}
+use Rattle.std.proofs.lemmas.Bool.{and_parts, eqb-true, ltb-true, ltb-false, leb-true}
 use Rattle.std.proofs.lemmas.Bool.Decides.{nat_tests}
 use Rattle.std.proofs.lemmas.Fmt.{digits_decimal, digits_value-decimal, length-decimal-le}
-use Rattle.std.proofs.lemmas.List.{length-append, length-drop, length-replicate, take_all, take_more, take-append-drop, drop_more}
-use Rattle.std.proofs.lemmas.List.Folds.{list_all-append}
+use Rattle.std.proofs.lemmas.List.{length-append, length-replicate, take_all, take_more, take-append-drop, drop_more}
 use Rattle.std.proofs.lemmas.Str.Parse.{tells_digits, numerals_by_value, digit_from_value}
 use Rattle.sb_model.specs.Time.{point, unit, is_point, fraction_text, WritesNanos, before_unit, at_point, number_in, seconds_in, fraction_in, nanos_of_parts, nanos_in, duration_within, duration_of, padded, nanos_text, duration_text, most_nanos}
 use Rattle.sb_model.proofs.Numerals.{all_digits}

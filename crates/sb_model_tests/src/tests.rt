@@ -74,7 +74,7 @@ fn list_names_are_written_and_ordered_by_code(rt: HostRuntime) -> Result<(), Fai
 }
 
 #[test]
-fn bytes_and_rows_grow(rt: HostRuntime) -> Result<(), Fail> {
+fn bytes_grow(rt: HostRuntime) -> Result<(), Fail> {
     let mut bytes = Bytes::with_capacity(rt.alloc(), 4)?;
     assert!(rt; bytes.is_empty());
     bytes.push(7)?;
@@ -82,26 +82,37 @@ fn bytes_and_rows_grow(rt: HostRuntime) -> Result<(), Fail> {
     assert_eq!(rt; bytes.len(), 3);
     assert_eq!(rt; bytes.at(1), 8);
     assert_eq!(rt; bytes.as_slice(), [7, 8, 9].as_slice());
-    let copy = Bytes::from_slice(rt.alloc(), bytes.as_slice())?;
+    Ok(())
+}
+
+#[test]
+fn bytes_are_made_of_vectors(rt: HostRuntime) -> Result<(), Fail> {
+    let bytes = Bytes::from_slice(rt.alloc(), &[7, 8, 9])?;
+    let mut bytes = Bytes::from_vec(bytes.into_vec());
+    assert_eq!(rt; bytes.as_slice(), [7, 8, 9].as_slice());
     bytes.clear();
     assert!(rt; bytes.is_empty());
-    assert_eq!(rt;
-        Bytes::from_vec(copy.into_vec()).as_slice(),
-        [7, 8, 9].as_slice()
-    );
+    Ok(())
+}
 
+#[test]
+fn rows_grow(rt: HostRuntime) -> Result<(), Fail> {
     let mut row = Row::with_capacity(rt.alloc(), 2)?;
     row.push(5u16)?;
     row.append(&[6, 300])?;
     assert_eq!(rt; row.len(), 3);
     assert_eq!(rt; *row.at(2), 300);
-    let copy = Row::from_slice(rt.alloc(), row.as_slice())?;
-    assert!(rt; !row.is_empty());
+    assert!(rt; !row.is_empty() && Row::<u16>::new(rt.alloc()).is_empty());
+    Ok(())
+}
+
+#[test]
+fn rows_are_made_of_vectors(rt: HostRuntime) -> Result<(), Fail> {
+    let row = Row::from_slice(rt.alloc(), &[5u16, 6, 300])?;
     assert_eq!(rt;
-        Row::from_vec(copy.into_vec()).as_slice(),
+        Row::from_vec(row.into_vec()).as_slice(),
         [5, 6, 300].as_slice()
     );
-    assert!(rt; Row::<u16>::new(rt.alloc()).is_empty());
     Ok(())
 }
 
@@ -112,12 +123,27 @@ fn texts_are_counted_in_characters(rt: HostRuntime) -> Result<(), Fail> {
     assert_eq!(rt; text.len(), 3);
     assert_eq!(rt; text.at(1), '\u{f6}');
     assert_eq!(rt; text.as_str(), "h\u{f6}\u{20ac}");
+    Ok(())
+}
+
+#[test]
+fn texts_are_made_of_strings(rt: HostRuntime) -> Result<(), Fail> {
     assert!(rt; Text::new(rt.alloc()).is_empty());
-    assert!(rt; !Text::from_string(String::from_str(rt.alloc(), "x")?).is_empty());
-    assert_eq!(rt;
-        format!(in rt.alloc(); "{OutOfMemory}, {}", NameFault::Shape)?.as_str(),
-        "out of memory, not three words separated by slashes"
-    );
+    let text = Text::from_string(String::from_str(rt.alloc(), "x")?);
+    assert!(rt; !text.is_empty());
+    Ok(())
+}
+
+#[test]
+fn faults_are_told(rt: HostRuntime) -> Result<(), Fail> {
+    let told = format!(in rt.alloc();
+        "{OutOfMemory}, {}, {}",
+        NameFault::Shape,
+        DurationFault::Range
+    )?;
+    let words =
+        "out of memory, not three words separated by slashes, more than 315576000000 seconds";
+    assert_eq!(rt; told.as_str(), words);
     Ok(())
 }
 
@@ -172,20 +198,32 @@ fn durations_are_waited_for(rt: HostRuntime) {
 }
 
 #[test]
-fn rows_are_changed_in_place(rt: HostRuntime) -> Result<(), Fail> {
+fn items_of_a_row_are_changed_in_place(rt: HostRuntime) -> Result<(), Fail> {
     let mut row = Row::from_slice(rt.alloc(), &[5u16, 6, 300])?;
-    let copy = row.copy()?;
-    assert!(rt; row == copy);
     *row.at_mut(1) = 7;
-    assert!(rt; row != copy);
     for item in row.iter_mut() {
         *item /= 2;
     }
     assert_eq!(rt; row.as_slice(), [2, 3, 150].as_slice());
     row.as_mut_slice().reverse();
-    assert_eq!(rt; row.pop(), Some(2));
+    assert_eq!(rt; row.as_slice(), [150, 3, 2].as_slice());
+    Ok(())
+}
+
+#[test]
+fn rows_are_copied_and_compared(rt: HostRuntime) -> Result<(), Fail> {
+    let mut row = Row::from_slice(rt.alloc(), &[5u16, 6])?;
+    let copy = row.copy()?;
+    assert!(rt; row == copy);
     row.truncate(1);
-    assert_eq!(rt; row.as_slice(), [150].as_slice());
+    assert!(rt; row != copy);
+    Ok(())
+}
+
+#[test]
+fn rows_shrink(rt: HostRuntime) -> Result<(), Fail> {
+    let mut row = Row::from_slice(rt.alloc(), &[5u16, 6, 300])?;
+    assert_eq!(rt; row.pop(), Some(300));
     row.clear();
     assert_eq!(rt; row.pop(), None);
     Ok(())

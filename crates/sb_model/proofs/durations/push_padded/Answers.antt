@@ -1,4 +1,4 @@
-use Rattle.std.proofs.Common.{◌≡◌, ◌-◌, ◌++◌, ◌≤◌, ap, sym, ◌∙◌, length, arith, append_assoc, List, ℕ}
+use Rattle.std.proofs.Common.{◌≡◌, ◌-◌, ◌++◌, ◌≤◌, ap, ◌∙◌, length, arith, append_assoc, List, ℕ}
 use Rattle.std.specs.Prelude.{replicate, decimal}
 use Rattle.std.proofs.lemmas.Fmt.{length-decimal-le}
 use Rattle.sb_model.specs.Time.{padded}

@@ -1,10 +1,10 @@
-use Rattle.std.proofs.Common.{◌≡◌, ℕ, zero, suc, ◌≤◌, ◌<◌, Bool, true, false, IsTrue, cond, refl, sym, ◌∙◌, arith, Option, Some, None, subst, ap}
-use Rattle.std.specs.Prelude.{IfSome, ◌||◌, ◌&&◌, ◌==◌, nat_le, length}
+use Rattle.std.proofs.Common.{◌≡◌, ℕ, zero, suc, ◌≤◌, Bool, true, false, cond, refl, sym, ◌∙◌, arith, Option, Some, None, ap}
+use Rattle.std.specs.Prelude.{IfSome, ◌==◌}
 use Rattle.std.proofs.lemmas.Bool.{false≢true}
 use Rattle.std.proofs.lemmas.Bool.Decides.{nat_tests}
-use Rattle.sb_model.specs.History.{History, version_count, prefixes_at}
+use Rattle.sb_model.specs.History.{History, version_count}
 use Rattle.sb_model.specs.declared.names.ListName.{ListName}
-use Rattle.sb_model.specs.Target.{greatest_up_to, can_reach, is_within, target_version}
+use Rattle.sb_model.specs.Target.{greatest_up_to, can_reach, is_within}
 use Rattle.sb_model.proofs.laws.targets_are_the_greatest.Goals as goal
 
 -- where some number passes, the greatest one does

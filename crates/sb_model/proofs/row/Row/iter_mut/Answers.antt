@@ -1,4 +1,4 @@
-use Rattle.std.proofs.Common.{◌≡◌, refl, sym, ap, ◌∙◌, take, drop, length, ◌++◌, ℕ, List}
+use Rattle.std.proofs.Common.{◌≡◌, sym, ap, ◌∙◌, take, drop, length, ◌++◌, List}
 use Rattle.sb_model.specs.Lending.{refilled}
 use Rattle.sb_model.proofs.row.Row.iter_mut.Goals as goal
 

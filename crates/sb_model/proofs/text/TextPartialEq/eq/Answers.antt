@@ -1,4 +1,4 @@
-use Rattle.std.proofs.Common.{◌≡◌, ◌∙◌, ap, nat_eq, List, ℕ}
+use Rattle.std.proofs.Common.{◌∙◌, ap, nat_eq, List, ℕ}
 use Rattle.std.specs.Cmp.Lexicographic.{pointwise}
 use Rattle.std.specs.Str.{chars}
 use Rattle.sb_model.proofs.Characters.{pointwise-chars}
