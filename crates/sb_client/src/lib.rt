@@ -15,5 +15,3 @@ mod page;
 mod printing;
 mod replay;
 mod stop;
-#[cfg(test)]
-mod tests;

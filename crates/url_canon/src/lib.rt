@@ -17,7 +17,5 @@ mod parts;
 mod path;
 mod split;
 mod strip;
-#[cfg(test)]
-mod tests;
 mod unescape;
 mod url;

@@ -7,5 +7,3 @@ pub use combinations::expressions;
 mod combinations;
 mod hosts;
 mod paths;
-#[cfg(test)]
-mod tests;

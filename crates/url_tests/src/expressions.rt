@@ -1,6 +1,6 @@
-use super::*;
 use std::test::Fail;
 use url_canon::canonical;
+use url_expressions::expressions;
 
 /// URLs and their expressions.
 const CASES: [(&[u8], &[&[u8]]); 15] = [

@@ -1,6 +1,6 @@
 ghost use Rattle.std.specs.Prelude.{◌<◌};
 
-use crate::{USAGE, run_client};
+use sb_client::{USAGE, run_client};
 use sb_model::{Bytes, OutOfMemory, Row};
 use sb_outside::{MemorySink, MemorySource};
 use std::alloc::{AllocError, Global};

@@ -1,12 +1,11 @@
 //! Texts whose canonical URLs are known from outside: those of the Safe Browsing documentation, the
 //! examples of RFC 3986, and cases worked out by hand from the rules. A table has a case in each line:
 //! the text, a bar, and the text of its canonical URL.
-use crate::split::split_at_byte;
-use crate::{UrlFault, canonical};
 use sb_model::Bytes;
 use std::alloc::Global;
 use std::process::Abort;
 use std::test::Fail;
+use url_canon::{UrlFault, canonical};
 
 /// Compares the text of a canonical URL and the kind of its host, and asks that it is canonical itself.
 fn check(
@@ -26,11 +25,17 @@ fn check(
     Ok(())
 }
 
+/// What stands before and after the first bar of a line.
+fn at_bar(line: &[u8]) -> Option<(&[u8], &[u8])> {
+    let bar = line.iter().position(|byte| *byte == b'|')?;
+    Some((&line[..bar], &line[bar + 1..]))
+}
+
 /// Checks each line of a table, whose hosts are all addresses or all none.
 fn check_table(rt: &impl Abort, alloc: Global, table: &str, is_address: bool) -> Result<(), Fail> {
     for line in table.as_bytes().split(|byte| *byte == b'\n') {
-        let (text, wanted) = split_at_byte(line, b'|');
-        check(rt, alloc, text, wanted.ok_or("no bar")?, is_address)?;
+        let (text, wanted) = at_bar(line).ok_or("no bar")?;
+        check(rt, alloc, text, wanted, is_address)?;
     }
     Ok(())
 }
