@@ -1,2 +1,5 @@
 pub mod Outside
+pub mod Sessions
+pub mod Keeping
+pub mod Connections
 pub mod Memory

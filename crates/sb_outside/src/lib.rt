@@ -1,16 +1,30 @@
-//! The outside as two traits, with their forms in memory and over the standard library: a source of
-//! bytes, and a sink of bytes. Each counts its faults, and tells what it has left or holds where it
-//! can.
+//! The outside as traits, with their forms in memory and over the standard library: sources and sinks of
+//! bytes, links to another side, doors at which connections come in, keepers of a text, clocks, dice and
+//! gates. Each counts its faults, and tells what it has left, holds or has logged where it can.
 #![tactic(auto)]
 
+pub use clocks::Clock;
+pub use doors::{Connection, Door};
+pub use draws::Dice;
+pub use gates::{Gate, OpenGate, Point};
+pub use keepers::{KeepFault, Keeper};
+pub use links::{Kind, Link, Session};
 pub use memory_sink::MemorySink;
 pub use memory_source::MemorySource;
 pub use standard::{StdSink, StdSource};
 pub use traits::{Failed, Sink, Source, write_all};
+pub use wires::Wire;
 
+mod clocks;
+mod doors;
+mod draws;
+mod gates;
+mod keepers;
+mod links;
 mod memory_sink;
 mod memory_source;
 mod standard;
 #[cfg(test)]
 mod tests;
 mod traits;
+mod wires;
