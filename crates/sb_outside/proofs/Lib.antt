@@ -1,2 +1,3 @@
 pub mod Appended
 pub mod Pieces
+pub mod Fronts

@@ -2,7 +2,7 @@
 use Rattle.std.specs.Prelude.{◌≡◌, ℕ, ◌<◌, ◌≤◌, ◌↔◌, List, [], ◌∷◌, ◌++◌, length, drop, Option, Some, false, IfSome, IsTrue, slice_set}
 use Rattle.std.specs.List.{concat}
 use Rattle.std.specs.Option.{option_map}
-use Rattle.sb_outside.specs.Outside.{IfTold, with_entry}
+use Rattle.sb_outside.specs.Outside.{IfTold}
 use Rattle.sb_outside.specs.declared.doors.Connection.{Connection}
 
 -- a connection of which nothing is known yet

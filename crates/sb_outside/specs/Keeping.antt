@@ -1,5 +1,5 @@
 -- What a keeper keeps after a replacement that failed.
-use Rattle.std.specs.Prelude.{◌≡◌, ℕ, ◌<◌, ◌⊎◌, List, length, take, Option, Some}
+use Rattle.std.specs.Prelude.{ℕ, ◌<◌, ◌⊎◌, List, length, take, Option, Some}
 use Rattle.sb_outside.specs.Outside.{IfTold}
 
 -- It keeps what it kept before, the whole new text, or a front of the new text that is not the whole.

@@ -3,3 +3,5 @@ pub mod Sessions
 pub mod Keeping
 pub mod Connections
 pub mod Memory
+pub mod Reading
+pub mod Writing

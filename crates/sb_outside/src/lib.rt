@@ -11,9 +11,11 @@ pub use keepers::{KeepFault, Keeper};
 pub use links::{Kind, Link, Session};
 pub use memory_sink::MemorySink;
 pub use memory_source::MemorySource;
+pub use reading::{InputFault, ReadFault, read_piece, read_to_end};
 pub use standard::{StdSink, StdSource};
 pub use traits::{Failed, Sink, Source, write_all};
 pub use wires::Wire;
+pub use writing::{flush, flush_if_full};
 
 mod clocks;
 mod doors;
@@ -23,8 +25,10 @@ mod keepers;
 mod links;
 mod memory_sink;
 mod memory_source;
+mod reading;
 mod standard;
 #[cfg(test)]
 mod tests;
 mod traits;
 mod wires;
+mod writing;
