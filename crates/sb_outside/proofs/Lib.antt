@@ -1,3 +1,6 @@
 pub mod Appended
 pub mod Pieces
 pub mod Fronts
+pub mod Logs
+pub mod Torn
+pub mod WirePieces

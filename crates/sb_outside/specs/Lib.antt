@@ -5,3 +5,7 @@ pub mod Connections
 pub mod Memory
 pub mod Reading
 pub mod Writing
+pub mod Logs
+pub mod Scripts
+pub mod KeptTexts
+pub mod Wires
