@@ -4,3 +4,4 @@ pub mod Fronts
 pub mod Logs
 pub mod Torn
 pub mod WirePieces
+pub mod PlayedSteps

@@ -9,3 +9,4 @@ pub mod Logs
 pub mod Scripts
 pub mod KeptTexts
 pub mod Wires
+pub mod Plays

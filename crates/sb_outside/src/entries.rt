@@ -54,6 +54,16 @@ impl<T: Drop> Log<T> {
         Some(self.items.as_slice())
     }
 
+    /// The entries, moved out.
+    pub(crate) fn into_entries(self) -> Option<Vec<T>>
+        ensures { option_map (λ entries. entries.items) result ≡ self.0 }
+    {
+        if self.is_past {
+            return None;
+        }
+        Some(self.items)
+    }
+
     /// Tells nothing from now on where no further entry has room.
     pub(crate) fn make_room(&mut self)
         ensures { self.new ≡ (with_room self.old.1 self.old.0, self.old.1) }
