@@ -10,3 +10,4 @@ pub mod Scripts
 pub mod KeptTexts
 pub mod Wires
 pub mod Plays
+pub mod Standard

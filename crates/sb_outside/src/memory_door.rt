@@ -49,12 +49,12 @@ impl MemoryDoor {
         failing: Row<u64>,
     ) -> Result<Self, OutOfMemory>
         ensures { IfOk result (λ door. door ≡ record {
-            coming = coming;
-            log = Some [];
-            room = room;
-            failing = failing;
-            calls = 0;
-            faults = 0
+          coming = coming;
+          log = Some [];
+          room = room;
+          failing = failing;
+          calls = 0;
+          faults = 0;
         }) }
     {
         Ok(MemoryDoor {
@@ -108,9 +108,9 @@ impl Door for MemoryDoor {
         ensures listed { IsErr result ↔ Contains self.old.failing (raised self.old.calls) }
         ensures some { IfOk result (λ next. IfSome next (λ wire.
             self.new ≡ record self.old {
-                coming = self.new.coming;
-                log = logged self.old.room self.old.log open_connection;
-                calls = raised self.old.calls
+              coming = self.new.coming;
+              log = logged self.old.room self.old.log open_connection;
+              calls = raised self.old.calls;
             })) }
         ensures wire { IfOk result (λ next. IfSome next (λ wire. (first : _) × (number : ℕ)
             × (self.old.coming ≡ first ∷ self.new.coming) × (wire ≡ fresh number first))) }

@@ -111,7 +111,11 @@ fn copy_of(alloc: Global, kept: &Option<Bytes>) -> Result<Option<Bytes>, OutOfMe
 }
 
 /// A copy of what is kept of the new text, or `None` where the text before stays.
-fn new_kept(alloc: Global, failure: Option<Remains>, text: &[u8]) -> Result<Option<Bytes>, OutOfMemory>
+fn new_kept(
+    alloc: Global,
+    failure: Option<Remains>,
+    text: &[u8],
+) -> Result<Option<Bytes>, OutOfMemory>
     ensures { IfOk result (λ copy. (before : Option (List ℕ)) →
         option_or copy before ≡ kept_next failure before text.now) }
 {
@@ -161,17 +165,17 @@ impl Keeper for MemoryKeeper {
     fn replace(&mut self, text: &[u8]) -> Result<(), KeepFault>
         ensures unlisted { OnOk result ((failure_at (raised self.old.calls) self.old.failing ≡ None)
             × (self.new ≡ record self.old {
-                kept = Some text.now;
-                handed = self.old.handed ++ text.now ∷ [];
-                calls = raised self.old.calls
+              kept = Some text.now;
+              handed = self.old.handed ++ text.now ∷ [];
+              calls = raised self.old.calls;
             })) }
         ensures listed { IsErrOf result KeepFault.Failed →
             IsSomeAnd (failure_at (raised self.old.calls) self.old.failing) (λ remains.
             self.new ≡ record self.old {
-                kept = kept_after remains self.old.kept text.now;
-                handed = self.old.handed ++ text.now ∷ [];
-                calls = raised self.old.calls;
-                faults = raised self.old.faults
+              kept = kept_after remains self.old.kept text.now;
+              handed = self.old.handed ++ text.now ∷ [];
+              calls = raised self.old.calls;
+              faults = raised self.old.faults;
             }) }
         ensures out_of_memory { IsErrOf result KeepFault.OutOfMemory →
             self.new ≡ record self.old { calls = raised self.old.calls } }

@@ -51,7 +51,7 @@ impl Model for MemoryWire {
     } };
 
     ghost invariant = { λ s. (s.given ≤ length s.sends) × (s.has_ended ≡ true → s.given ≡ length s.sends)
-      × (vec_len s.written ≤ s.room) × (s.room ≤ vec_capacity s.written) × (0 < s.step) };
+        × (vec_len s.written ≤ s.room) × (s.room ≤ vec_capacity s.written) × (0 < s.step) };
 }
 
 impl MemoryWire {
@@ -65,18 +65,18 @@ impl MemoryWire {
         failing_writes: Row<u64>,
     ) -> Result<Self, OutOfMemory>
         ensures { IfOk result (λ wire. wire ≡ record {
-            number = 0;
-            sends = sends;
-            left = pieces_of sends;
-            written = [];
-            room = room;
-            failing_reads = failing_reads;
-            failing_writes = failing_writes;
-            reads = 0;
-            writes = 0;
-            read_faults = 0;
-            write_faults = 0;
-            step = 2 ^ 64 - 1
+          number = 0;
+          sends = sends;
+          left = pieces_of sends;
+          written = [];
+          room = room;
+          failing_reads = failing_reads;
+          failing_writes = failing_writes;
+          reads = 0;
+          writes = 0;
+          read_faults = 0;
+          write_faults = 0;
+          step = 2 ^ 64 - 1;
         }) }
     {
         Ok(MemoryWire {

@@ -53,11 +53,11 @@ impl Play {
         ensures refused { IsTrue result.session.began ↔ ¬ Contains self.failing 1 }
         ensures entry { result.session ≡ (if result.session.began then begun_session at kind else refused_session at kind) }
         ensures rest { result ≡ record {
-            session = result.session;
-            left = self.gives;
-            room = self.room;
-            failing = self.failing;
-            calls = 1
+          session = result.session;
+          left = self.gives;
+          room = self.room;
+          failing = self.failing;
+          calls = 1;
         } }
     {
         let began = !self.failing.as_slice().contains(&1);

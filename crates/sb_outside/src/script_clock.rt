@@ -74,9 +74,9 @@ impl Clock for ScriptClock {
     fn now(&mut self) -> Moment
         ensures answer { result.0 ≡ next_answer self.old.coming self.old.last }
         ensures after { self.new ≡ record self.old {
-            coming = drop 1 self.old.coming;
-            last = result.0;
-            answers = logged self.old.room self.old.answers result
+          coming = drop 1 self.old.coming;
+          last = result.0;
+          answers = logged self.old.room self.old.answers result;
         } }
 
         ensures rises { self.old.last ≤ result.0 }
@@ -93,8 +93,8 @@ impl Clock for ScriptClock {
     fn wait_until(&mut self, moment: Moment) -> Moment
         ensures answer { result.0 ≡ max self.old.last moment.0 }
         ensures after { self.new ≡ record self.old {
-            last = result.0;
-            answers = logged self.old.room self.old.answers result
+          last = result.0;
+          answers = logged self.old.room self.old.answers result;
         } }
 
         ensures reached { moment.0 ≤ result.0 }

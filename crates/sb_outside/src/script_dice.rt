@@ -72,9 +72,9 @@ impl Dice for ScriptDice {
     fn word(&mut self) -> u32
         ensures word { result ≡ next_word self.old.coming self.old.last }
         ensures after { self.new ≡ record self.old {
-            coming = drop 1 self.old.coming;
-            last = result;
-            given = logged self.old.room self.old.given result
+          coming = drop 1 self.old.coming;
+          last = result;
+          given = logged self.old.room self.old.given result;
         } }
         ensures told { IfTold self.new.given (with_entry self.old.given result) }
     {

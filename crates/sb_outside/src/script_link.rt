@@ -41,19 +41,19 @@ impl Model for ScriptLink {
     } };
 
     ghost invariant = { λ s. (s.last ≡ None → s.past.0 ≡ Some [])
-      × (s.last ≢ None → with_room s.past.1 s.past.0 ≡ s.past.0) × (0 < s.step) };
+        × (s.last ≢ None → with_room s.past.1 s.past.0 ≡ s.past.0) × (0 < s.step) };
 }
 
 impl ScriptLink {
     /// A link that plays these sessions, and logs at most `entries` of them. No later call takes memory.
     pub fn new(alloc: Global, coming: Row<Play>, entries: usize) -> Result<Self, OutOfMemory>
         ensures { IfOk result (λ link. link ≡ record {
-            coming = coming;
-            past = Some [];
-            last = None;
-            entries = entries;
-            faults = 0;
-            step = 2 ^ 64 - 1
+          coming = coming;
+          past = Some [];
+          last = None;
+          entries = entries;
+          faults = 0;
+          step = 2 ^ 64 - 1;
         }) }
     {
         Ok(ScriptLink {
@@ -102,11 +102,11 @@ fn begin_next(coming: &mut VecDeque<Play>, alloc: Global, at: Moment, kind: Kind
     ensures rest { coming.new.items ≡ drop 1 coming.old.items }
     ensures plays { IsTrue result.session.began → (play : PlayInMemory) × (coming.old.items ≡ play ∷ coming.new.items)
         × (result ≡ record {
-            session = begun_session at kind;
-            left = play.gives;
-            room = play.room;
-            failing = play.failing;
-            calls = 1
+          session = begun_session at kind;
+          left = play.gives;
+          room = play.room;
+          failing = play.failing;
+          calls = 1;
         }) }
 {
     match coming.pop_front() {
@@ -135,17 +135,17 @@ impl Link for ScriptLink {
             (if is_ok result then begun_session at kind else refused_session at kind) }
         ensures plays { OnOk result ((play : PlayInMemory) × (self.old.coming ≡ play ∷ self.new.coming)
             × (self.new.last ≡ Some (record {
-                session = begun_session at kind;
-                left = play.gives;
-                room = play.room;
-                failing = play.failing;
-                calls = 1
+              session = begun_session at kind;
+              left = play.gives;
+              room = play.room;
+              failing = play.failing;
+              calls = 1;
             }))) }
         ensures after { self.new ≡ record self.old {
-            coming = drop 1 self.old.coming;
-            past = self.new.past;
-            last = self.new.last;
-            faults = (if is_ok result then self.old.faults else raised self.old.faults)
+          coming = drop 1 self.old.coming;
+          past = self.new.past;
+          last = self.new.last;
+          faults = (if is_ok result then self.old.faults else raised self.old.faults);
         } }
 
         ensures kept { OnOk result (self.new.faults ≡ self.old.faults) }
@@ -169,11 +169,11 @@ impl Link for ScriptLink {
     fn send(&mut self, piece: &[u8]) -> Result<(), Failed>
         ensures sends { IsOk result ↔ IsSomeAnd self.old.last (CanSend (length piece.now)) }
         ensures after { OnOk result (self.new ≡ record self.old {
-            last = option_map (after_call (with_sent piece.now)) self.old.last
+          last = option_map (after_call (with_sent piece.now)) self.old.last;
         }) }
         ensures after_err { OnErr result (self.new ≡ record self.old {
-            last = option_map (after_call with_failure) self.old.last;
-            faults = raised self.old.faults
+          last = option_map (after_call with_failure) self.old.last;
+          faults = raised self.old.faults;
         }) }
 
         ensures kept { OnOk result (self.new.faults ≡ self.old.faults) }
@@ -205,18 +205,18 @@ impl Link for ScriptLink {
         ensures count { IfOk result (λ n. IfSome self.old.last (λ played.
             n ≡ min (length buffer.new) (min self.old.step (length played.left)))) }
         ensures some { IfOk result (λ n. 0 < n → self.new ≡ record self.old {
-            last = option_map (after_bytes (take n buffer.new)) self.old.last
+          last = option_map (after_bytes (take n buffer.new)) self.old.last;
         }) }
         ensures front { IfOk result (λ n. IfSome self.old.last (λ played. take n buffer.new ≡ take n played.left)) }
         ensures no_more { IfOk result (λ n. n ≡ 0 → 0 < length buffer.new → self.new ≡ record self.old {
-            last = option_map (after_call with_end) self.old.last
+          last = option_map (after_call with_end) self.old.last;
         }) }
         ensures not_asked { OnOk result (length buffer.new ≡ 0 → self.new ≡ record self.old {
-            last = option_map (after_call (λ session. session)) self.old.last
+          last = option_map (after_call (λ session. session)) self.old.last;
         }) }
         ensures after_err { OnErr result (self.new ≡ record self.old {
-            last = option_map (after_call with_failure) self.old.last;
-            faults = raised self.old.faults
+          last = option_map (after_call with_failure) self.old.last;
+          faults = raised self.old.faults;
         }) }
 
         ensures within { IfOk result (λ n. n ≤ length buffer.new) }
@@ -249,7 +249,7 @@ impl Link for ScriptLink {
 
     fn close(&mut self, at: Moment)
         ensures after { self.new ≡ record self.old {
-            last = option_map (closed_at at) self.old.last
+          last = option_map (closed_at at) self.old.last;
         } }
 
         ensures kept { self.new.faults ≡ self.old.faults }

@@ -15,6 +15,6 @@ returns-in-Ok-clause-end c = λ none room.
     told_after c.args.self.now _ c.in-Some.session c.recv.new.self.session (with_end) was (ap (λ (s : LinkInMemory). s.past) c.self.view_is) (ap (λ (s : SessionInMemory). s.session) (c.in-Ok.ensures.end none room))
 
 pub returns-in-Err-clause-err : goal.returns-in-Err-clause-err
-returns-in-Err-clause-err c = 
+returns-in-Err-clause-err c =
     let was : c.args.self.now.last ≡ Some c.in-Some.session = cc in
     told_after c.args.self.now _ c.in-Some.session c.recv.new.self.session (with_failure) was (ap (λ (s : LinkInMemory). s.past) c.self.view_is) (ap (λ (s : SessionInMemory). s.session) c.in-Err.ensures.err)
