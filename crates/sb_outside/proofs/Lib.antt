@@ -1,2 +1,7 @@
 pub mod Appended
 pub mod Pieces
+pub mod Fronts
+pub mod Logs
+pub mod Torn
+pub mod WirePieces
+pub mod PlayedSteps

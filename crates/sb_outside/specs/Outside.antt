@@ -1,5 +1,5 @@
--- What the calls on an outside object do to its count of faults, to what a source has left and to what a sink holds.
-use Rattle.std.specs.Prelude.{◌≡◌, ℕ, ◌+◌, ◌-◌, ◌^◌, ◌≤◌, min, List, [], ◌∷◌, ◌++◌, Option, IfSome}
+-- What the calls on an outside object do to its count of faults, to what a source has left, to what a sink holds and to a log.
+use Rattle.std.specs.Prelude.{◌≡◌, ℕ, ◌+◌, ◌-◌, ◌^◌, ◌≤◌, min, List, [], ◌∷◌, ◌++◌, Option, None, Some, IfSome}
 use Rattle.std.specs.Option.{option_map}
 
 -- a count that rises by one, and stands still at the greatest u64
@@ -47,3 +47,36 @@ pub record GivesFront (given : List ℕ) (before after : Option (List (List ℕ)
 pub record AnswersEnd (before after : Option (List (List ℕ))) : Type 0 where
   pub at_end : IfSome before (λ pieces. next_piece pieces ≡ [])
   pub later : after ≡ left_after_end before
+
+-- An object in memory tells what it holds, and a real one tells nothing. What is told after a call was told before it.
+
+-- where the first is told, the second is told too and is the same
+abbrev pub IfTold : {A : Type 0} → Option A → Option A → Type 0
+IfTold known value = IfSome known (λ told. value ≡ Some told)
+
+-- a log with one more entry, where it is told
+abbrev pub with_entry : {A : Type 0} → Option (List A) → A → Option (List A)
+with_entry log entry = option_map (λ entries. entries ++ entry ∷ []) log
+
+-- A value that is a source and a sink, as the wire of a connection, has two sides. A read leaves the side of the sink
+-- as it is, and a write the side of the source. Either side knows which connection it is: its number, and the pieces
+-- that it had to give at first.
+
+pub record SinkSide : Type 0 where
+  pub number : ℕ
+  pub start : Option (List (List ℕ))
+  pub contents : Option (List ℕ)
+  pub faults : ℕ
+
+pub record SourceSide : Type 0 where
+  pub number : ℕ
+  pub start : Option (List (List ℕ))
+  pub left : Option (List (List ℕ))
+  pub faults : ℕ
+
+-- the other side of what is a source alone, and of what is a sink alone
+abbrev pub no_sink : SinkSide
+no_sink = record { number = 0; start = None; contents = None; faults = 0 }
+
+abbrev pub no_source : SourceSide
+no_source = record { number = 0; start = None; left = None; faults = 0 }

@@ -1,16 +1,49 @@
-//! The outside as two traits, with their forms in memory and over the standard library: a source of
-//! bytes, and a sink of bytes. Each counts its faults, and tells what it has left or holds where it
-//! can.
+//! The outside as traits, with their forms in memory and over the standard library: sources and sinks of
+//! bytes, links to another side, doors at which connections come in, keepers of a text, clocks, dice and
+//! gates. Each counts its faults, and tells what it has left, holds or has logged where it can.
 #![tactic(auto)]
 
+pub use clocks::Clock;
+pub use doors::{Connection, Door};
+pub use draws::Dice;
+pub use gates::{Gate, OpenGate, Point};
+pub use keepers::{KeepFault, Keeper};
+pub use links::{Kind, Link, Session};
+pub use memory_door::MemoryDoor;
+pub use memory_keeper::{KeepFailure, MemoryKeeper, Remains};
 pub use memory_sink::MemorySink;
 pub use memory_source::MemorySource;
+pub use memory_wire::MemoryWire;
+pub use played_session::Play;
+pub use reading::{InputFault, ReadFault, read_piece, read_to_end};
+pub use script_clock::ScriptClock;
+pub use script_dice::ScriptDice;
+pub use script_link::ScriptLink;
 pub use standard::{StdSink, StdSource};
 pub use traits::{Failed, Sink, Source, write_all};
+pub use wires::Wire;
+pub use writing::{flush, flush_if_full};
 
+mod clocks;
+mod doors;
+mod draws;
+mod entries;
+mod gates;
+mod keepers;
+mod links;
+mod memory_door;
+mod memory_keeper;
 mod memory_sink;
 mod memory_source;
+mod memory_wire;
+mod played_session;
+mod reading;
+mod script_clock;
+mod script_dice;
+mod script_link;
 mod standard;
 #[cfg(test)]
 mod tests;
 mod traits;
+mod wires;
+mod writing;

@@ -73,7 +73,7 @@ impl MemorySource {
 }
 
 /// Copies into the front of the buffer what it has room for, and at most `step` bytes.
-fn copy_front(buffer: &mut [u8], bytes: &[u8], step: usize) -> usize
+pub(crate) fn copy_front(buffer: &mut [u8], bytes: &[u8], step: usize) -> usize
     ensures count { result ≡ min (length buffer.old) (min step (length bytes.now)) }
     ensures front { take result buffer.new ≡ take result bytes.now }
 {

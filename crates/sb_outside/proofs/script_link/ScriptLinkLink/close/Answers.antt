@@ -1,0 +1,10 @@
+use Rattle.std.proofs.Common.{◌≡◌, ◌≤◌, zero, Some, refl, ap}
+use Rattle.sb_outside.specs.Sessions.{with_close}
+use Rattle.sb_outside.specs.Plays.{LinkInMemory, SessionInMemory}
+use Rattle.sb_outside.proofs.PlayedSteps.{told_after}
+use Rattle.sb_outside.proofs.script_link.ScriptLinkLink.close.Goals as goal
+
+pub returns-clause-closed : goal.returns-clause-closed
+returns-clause-closed c =
+    let was : c.args.self.now.last ≡ Some c.in-Some.session = cc in
+    told_after c.args.self.now _ c.in-Some.session c.close.new.self.session (with_close c.args.at) was (ap (λ (s : LinkInMemory). s.past) c.self.view_is) (ap (λ (s : SessionInMemory). s.session) c.close.ensures)

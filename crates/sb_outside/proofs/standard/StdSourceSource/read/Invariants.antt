@@ -1,5 +1,0 @@
-use Rattle.std.proofs.Common.{◌≡◌}
-use Rattle.sb_outside.proofs.standard.StdSourceSource.read.Given as goal
-
-abbrev pub invariant-loop : goal.invariant-loop
-invariant-loop g l = l.self-inside.faults ≡ l.initial.self-inside.faults
