@@ -1,13 +1,14 @@
 -- One line more of a replay.
-use Rattle.std.proofs.Common.{◌≡◌, ℕ, ◌+◌, List, [], ◌∷◌, ◌++◌, Bool, true, false, map, refl, sym, ap, ◌∙◌, append_assoc, append-nil}
+use Rattle.std.proofs.Common.{◌≡◌, ◌≢◌, ℕ, ◌+◌, List, [], ◌∷◌, ◌++◌, Bool, true, false, map, refl, sym, ap, ◌∙◌, append_assoc, append-nil}
 use Rattle.std.specs.Prelude.{◌||◌}
 use Rattle.std.specs.List.{flat_map}
 use Rattle.sb_model.specs.declared.names.ListName.{ListName}
-use Rattle.sb_client.specs.Lines.{lines_of}
+use Rattle.sb_client.specs.Lines.{newline, lines_of}
 use Rattle.sb_client.specs.PlainBody.{Reading, reading_of}
 use Rattle.sb_client.specs.Step.{Held, nothing_held}
 use Rattle.sb_client.specs.Run.{Outcome, after_reading, outcome_of, outcomes_of, lists_after, is_refusal, has_refusal}
 use Rattle.sb_client.specs.Printed.{outcome_line, outcome_lines, list_lines, replay_text}
+use Rattle.sb_client.proofs.Ways.{some_front, ended_some}
 
 pub outcome_lines-cons : (n : ℕ) (o : Outcome) (os : List Outcome) → outcome_lines n (o ∷ os) ≡ outcome_line n o ++ outcome_lines (n + 1) os
 outcome_lines-cons n o os = refl
@@ -54,3 +55,7 @@ text_is input start held name e l =
 pub lines_are : (input : List ℕ) (start : Held) (name : ListName) → start ≡ nothing_held name
     → outcome_lines 1 (outcomes_of (start ∷ []) (map (reading_of start.name) (lines_of input))) ++ flat_map list_lines (lists_after (start ∷ []) (map (reading_of start.name) (lines_of input))) ≡ replay_text name input
 lines_are input start name e = ap (λ (h : Held). outcome_lines 1 (outcomes_of (h ∷ []) (map (reading_of h.name) (lines_of input))) ++ flat_map list_lines (lists_after (h ∷ []) (map (reading_of h.name) (lines_of input)))) e
+
+-- a body makes a line
+pub lines_some : (number : ℕ) (lists : List Held) (r : Reading) (rs : List Reading) → outcome_lines number (outcomes_of lists (r ∷ rs)) ≢ []
+lines_some number lists r rs = some_front (outcome_line number (outcome_of lists r)) _ (ended_some _ newline)

@@ -1,9 +1,9 @@
 -- Texts on their way to a sink, one after the other.
-use Rattle.std.proofs.Common.{◌≡◌, ℕ, List, [], ◌∷◌, ◌++◌, refl, sym, ap, ◌∙◌, Option, Some, None, append_assoc, append-nil, drop, length, get_or, ◌<◌, ◌+◌}
+use Rattle.std.proofs.Common.{◌≡◌, ◌≢◌, ℕ, List, [], ◌∷◌, ◌++◌, refl, sym, ap, ◌∙◌, Option, Some, None, append_assoc, append-nil, drop, length, get_or, ◌<◌, ◌+◌, arith}
 use Rattle.std.specs.List.{flat_map}
-use Rattle.std.proofs.lemmas.List.{drop_more}
+use Rattle.std.proofs.lemmas.List.{drop_more, length-drop}
 use Rattle.sb_outside.specs.Outside.{appended}
-use Rattle.sb_client.specs.Writing.{IsOnItsWay, HasFront}
+use Rattle.sb_outside.specs.Writing.{IsOnItsWay, HasFront}
 
 pub appended-twice : (known : Option (List ℕ)) (a b : List ℕ) → appended (appended known a) b ≡ appended known (a ++ b)
 appended-twice None a b = refl
@@ -12,6 +12,21 @@ appended-twice (Some bytes) a b = ap Some (append_assoc bytes a b)
 pub appended-nil : (known : Option (List ℕ)) → appended known [] ≡ known
 appended-nil None = refl
 appended-nil (Some bytes) = ap Some (append-nil bytes)
+
+-- what has a front or a back that is something is something
+pub some_front : (xs ys : List ℕ) → xs ≢ [] → xs ++ ys ≢ []
+some_front [] ys h = absurd (h refl)
+some_front (x ∷ xs) ys h = λ e. cc
+
+pub some_back : (xs ys : List ℕ) → ys ≢ [] → xs ++ ys ≢ []
+some_back [] ys h = h
+some_back (x ∷ xs) ys h = λ e. cc
+
+pub ended_some : (xs : List ℕ) (y : ℕ) → xs ++ y ∷ [] ≢ []
+ended_some xs y = some_back xs (y ∷ []) (λ e. cc)
+
+pub drop_some : (n : ℕ) (xs : List ℕ) → n < length xs → drop n xs ≢ []
+drop_some n xs h = λ e. let none : length (drop n xs) ≡ 0 = ap length e in absurd (omega (arith, none, length-drop n xs, h))
 
 -- nothing taken yet
 pub way_start : (known : Option (List ℕ)) (page : List ℕ) → IsOnItsWay known known page page
@@ -32,6 +47,7 @@ way_front {a} {b} {c} p done text w v = record {
   lost = v.lost;
   has = v.has ∙ ap (λ known. appended known v.taken) w.has ∙ appended-twice a w.taken v.taken;
   rest = append_assoc w.taken v.taken v.lost ∙ ap (λ bytes. w.taken ++ bytes) v.rest ∙ sym (append_assoc w.taken p text) ∙ ap (λ bytes. bytes ++ text) w.rest;
+  missing = v.missing;
 }
 
 -- a front of a text is one of a longer text
@@ -41,20 +57,22 @@ front_more text later v = record {
   lost = v.lost ++ later;
   has = v.has;
   rest = sym (append_assoc v.taken v.lost later) ∙ ap (λ bytes. bytes ++ later) v.rest;
+  missing = some_front v.lost later v.missing;
 }
 
 -- what is on its way stops there
-pub way_stop : {a b : Option (List ℕ)} (p done later : List ℕ) → IsOnItsWay a b p done → HasFront a b (done ++ later)
-way_stop p done later w = record {
+pub way_stop : {a b : Option (List ℕ)} (p done later : List ℕ) → later ≢ [] → IsOnItsWay a b p done → HasFront a b (done ++ later)
+way_stop p done later some w = record {
   taken = w.taken;
   lost = p ++ later;
   has = w.has;
   rest = sym (append_assoc w.taken p later) ∙ ap (λ bytes. bytes ++ later) w.rest;
+  missing = some_back p later some;
 }
 
 -- nothing was taken
-pub front_none : (known : Option (List ℕ)) (text : List ℕ) → HasFront known known text
-front_none known text = record { taken = []; lost = text; has = sym (appended-nil known); rest = refl }
+pub front_none : (known : Option (List ℕ)) (text : List ℕ) → text ≢ [] → HasFront known known text
+front_none known text some = record { taken = []; lost = text; has = sym (appended-nil known); rest = refl; missing = some }
 
 -- what is left of a text that is made of a list
 pub flat_from : {X : Type 0} (f : X → List ℕ) (xs : List X) (i : ℕ) (x : X) → i < length xs → x ≡ get_or xs i x → flat_map f (drop i xs) ≡ f x ++ flat_map f (drop (i + 1) xs)
@@ -78,6 +96,7 @@ way_lost {a} p done w v = record {
   lost = v.lost;
   has = v.has ∙ ap (λ known. appended known v.taken) w.has ∙ appended-twice a w.taken v.taken;
   rest = append_assoc w.taken v.taken v.lost ∙ ap (λ bytes. w.taken ++ bytes) v.rest ∙ w.rest;
+  missing = v.missing;
 }
 
 pub way_longer : {a b : Option (List ℕ)} (p done text : List ℕ) → IsOnItsWay a b p done → IsOnItsWay a b (p ++ text) (done ++ text)

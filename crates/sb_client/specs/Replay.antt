@@ -6,7 +6,7 @@ use Rattle.sb_client.specs.Lines.{IsWithinLimits}
 use Rattle.sb_client.specs.Step.{nothing_held}
 use Rattle.sb_client.specs.Run.{outcomes_of, has_refusal}
 use Rattle.sb_client.specs.Printed.{readings_of, replay_text}
-use Rattle.sb_client.specs.Writing.{HasFront}
+use Rattle.sb_outside.specs.Writing.{HasFront}
 
 -- whether a replay has a line `refused` or `unreadable`
 abbrev pub is_refused_in : ListName → List ℕ → Bool

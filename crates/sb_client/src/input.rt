@@ -1,11 +1,12 @@
 ghost use Rattle.std.specs.Prelude.{◌≡◌, ◌≢◌, ◌<◌, ◌≤◌, [], ◌∷◌, length, count_by, position, vec_len, IfOk, OnOk, OnErr, IsErrOf};
 ghost use Rattle.sb_outside.specs.Outside.{Rose};
 ghost use Rattle.sb_client.specs.Lines.{is_newline, lines_of, IsWithinLimits};
-ghost use Rattle.sb_client.specs.Input.{ReadsToEnd, GivesWithin, GivesPast};
+ghost use Rattle.sb_outside.specs.Reading.{ReadsToEnd};
+ghost use Rattle.sb_client.specs.Input.{GivesWithin, GivesPast};
 
 use crate::stop::Stop;
 use sb_model::Bytes;
-use sb_outside::Source;
+use sb_outside::{ReadFault, Source, read_piece};
 use std::alloc::{AllocError, Global};
 
 /// The most bytes of an input.
@@ -59,17 +60,14 @@ pub(crate) fn read_input<S: Source>(alloc: Global, input: &mut S) -> Result<Byte
     let mut text = Bytes::new(alloc);
     let mut ended = 0;
     while text.len() <= MAX_INPUT {
-        let Ok(count) = input.read(buffer.as_mut_slice()) else {
-            return Err(Stop::ReadFault);
-        };
-        if count == 0 {
-            return Ok(text);
+        let before = text.len();
+        match read_piece(input, buffer.as_mut_slice(), &mut text) {
+            Ok(0) => return Ok(text),
+            Ok(_) => {}
+            Err(ReadFault::Failed) => return Err(Stop::ReadFault),
+            Err(ReadFault::OutOfMemory) => return Err(Stop::OutOfMemory),
         }
-        let piece = &buffer.as_slice()[..count];
-        if text.append(piece).is_err() {
-            return Err(Stop::OutOfMemory);
-        }
-        ended += count_newlines(piece);
+        ended += count_newlines(&text.as_slice()[before..]);
         if count_lines(text.as_slice(), ended) > MAX_LINES {
             return Err(Stop::PastLimits);
         }

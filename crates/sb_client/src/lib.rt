@@ -11,7 +11,6 @@ mod command;
 mod held;
 mod input;
 mod laws;
-mod page;
 mod printing;
 mod replay;
 mod stop;

@@ -7,18 +7,18 @@ ghost use Rattle.sb_client.specs.PlainBody.{reading_of};
 ghost use Rattle.sb_client.specs.Run.{is_refusal as is_refusal_of, has_refusal, after_reading, outcome_of, lists_after, outcomes_of};
 ghost use Rattle.sb_client.specs.Printed.{outcome_line, outcome_lines, list_lines, prefix_line, replay_text};
 ghost use Rattle.sb_client.specs.Input.{GivesWithin, GivesPast};
-ghost use Rattle.sb_client.specs.Writing.{IsOnItsWay, HasFront, IsStopped};
+ghost use Rattle.sb_outside.specs.Writing.{IsOnItsWay, HasFront};
+ghost use Rattle.sb_client.specs.Writing.{IsStopped};
 ghost use Rattle.sb_client.specs.Views.{held_of, outcome_of_line};
 ghost use Rattle.sb_client.specs.Replay.{is_refused_in, IsPrinted, IsPartlyPrinted};
 
 use crate::body::{Body, read_body};
 use crate::held::{HeldList, UpdateResult};
 use crate::input::{first_line, read_input};
-use crate::page::{flush, turn};
 use crate::printing::{LineOutcome, push_list_line, push_outcome_line, push_prefix_line};
 use crate::stop::Stop;
 use sb_model::{Bytes, ListName, OutOfMemory};
-use sb_outside::{Sink, Source};
+use sb_outside::{Sink, Source, flush, flush_if_full};
 use std::alloc::Global;
 
 /// Takes one line as a response body.
@@ -62,7 +62,7 @@ fn print_outcome<O: Sink>(
         (page.old ++ outcome_line number (outcome_of_line name outcome.now))) }
 {
     match push_outcome_line(page, name, number, outcome) {
-        Ok(()) => turn(out, page),
+        Ok(()) => Ok(flush_if_full(out, page)?),
         Err(_) => Err(Stop::OutOfMemory),
     }
 }
@@ -117,7 +117,7 @@ fn print_prefix<O: Sink>(prefix: &[u8], out: &mut O, page: &mut Bytes) -> Result
         (page.old ++ prefix_line prefix.now)) }
 {
     match push_prefix_line(page, prefix) {
-        Ok(()) => turn(out, page),
+        Ok(()) => Ok(flush_if_full(out, page)?),
         Err(_) => Err(Stop::OutOfMemory),
     }
 }
@@ -152,7 +152,7 @@ fn print_list<O: Sink>(held: &HeldList, out: &mut O, page: &mut Bytes) -> Result
         return Err(Stop::OutOfMemory);
     };
     match print_prefixes(held, out, page) {
-        Ok(()) => flush(out, page),
+        Ok(()) => Ok(flush(out, page)?),
         Err(stop) => Err(stop),
     }
 }

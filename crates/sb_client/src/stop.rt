@@ -1,3 +1,8 @@
+ghost use Rattle.std.specs.Prelude.{◌≡◌};
+ghost use Rattle.sb_client.specs.declared.stop.Stop.TheVariants.{WriteFault};
+
+use sb_outside::Failed;
+
 /// Why a run ends before its end.
 #[derive(Clone, Copy, Debug, PartialEq, Eq)]
 pub(crate) enum Stop {
@@ -8,4 +13,13 @@ pub(crate) enum Stop {
     /// The input has more bytes or more lines than an input may have.
     PastLimits,
     OutOfMemory,
+}
+
+/// What fails while text is written is the sink.
+impl From<Failed> for Stop {
+    ghost from_gives = { λ _ stop. stop ≡ WriteFault };
+
+    fn from(_failed: Failed) -> Stop {
+        Stop::WriteFault
+    }
 }

@@ -4,8 +4,8 @@ use Rattle.sb_outside.specs.Outside.{GivesFront}
 use Rattle.sb_client.specs.Lines.{is_newline, lines_of}
 use Rattle.sb_client.proofs.input.read_input.Given as goal
 
-abbrev pub invariant-loop-input : goal.invariant-loop-input
-invariant-loop-input g l = record {
+abbrev pub invariant-loop-text : goal.invariant-loop-text
+invariant-loop-text g l = record {
   gives : GivesFront l.text (g.S.Source.left l.initial.input) (g.S.Source.left l.input);
   faults : g.S.Source.faults l.input ≡ g.S.Source.faults l.initial.input;
   ended : l.ended ≡ count_by is_newline l.text;
@@ -13,5 +13,5 @@ invariant-loop-input g l = record {
   buffer : vec_len l.buffer ≡ 262144;
 }
 
-abbrev pub decreases-loop-input : goal.decreases-loop-input
-decreases-loop-input g l = 201326593 - length l.text
+abbrev pub decreases-loop-text : goal.decreases-loop-text
+decreases-loop-text g l = 201326593 - length l.text

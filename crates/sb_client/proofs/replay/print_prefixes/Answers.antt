@@ -1,7 +1,7 @@
 use Rattle.std.proofs.Common.{ℕ, List, ◌++◌, ◌+◌, drop, refl, ap, ◌∙◌, subst}
 use Rattle.std.specs.List.{flat_map}
 use Rattle.sb_client.specs.Printed.{prefix_line}
-use Rattle.sb_client.specs.Writing.{HasFront}
+use Rattle.sb_outside.specs.Writing.{HasFront}
 use Rattle.sb_client.proofs.Ways.{way_start, way_more, way_front, front_more, flat_step}
 use Rattle.sb_client.proofs.replay.print_prefixes.Goals as goal
 

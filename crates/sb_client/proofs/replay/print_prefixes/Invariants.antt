@@ -1,7 +1,7 @@
 use Rattle.std.proofs.Common.{◌≡◌, ℕ, List, ◌++◌, drop}
 use Rattle.std.specs.List.{flat_map}
 use Rattle.sb_client.specs.Printed.{prefix_line}
-use Rattle.sb_client.specs.Writing.{IsOnItsWay}
+use Rattle.sb_outside.specs.Writing.{IsOnItsWay}
 use Rattle.sb_client.proofs.replay.print_prefixes.Given as goal
 
 -- the text so far is on its way, and what is left completes it

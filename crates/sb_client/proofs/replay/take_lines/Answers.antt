@@ -6,9 +6,9 @@ use Rattle.sb_client.specs.PlainBody.{Reading, reading_of}
 use Rattle.sb_client.specs.Views.{held_of, outcome_of_line}
 use Rattle.sb_client.specs.Run.{after_reading, outcome_of, outcomes_of, lists_after, has_refusal}
 use Rattle.sb_client.specs.Printed.{outcome_line, outcome_lines}
-use Rattle.sb_client.specs.Writing.{HasFront}
-use Rattle.sb_client.proofs.Ways.{way_start, way_more, way_front, front_more}
-use Rattle.sb_client.proofs.Replays.{text_step, refusal_step, lists_step}
+use Rattle.sb_outside.specs.Writing.{HasFront}
+use Rattle.sb_client.proofs.Ways.{way_start, way_more, way_front, way_stop, front_more}
+use Rattle.sb_client.proofs.Replays.{text_step, refusal_step, lists_step, lines_some}
 use Rattle.sb_client.proofs.replay.take_lines.Goals as goal
 
 pub loop-rest-init : goal.loop-rest-init
@@ -45,6 +45,19 @@ loop-rest-preserved g c =
       c.in_default-print_outcome.ensures.kept ∙ inv.6,
       omega (arith, inv.7, c.first_line.ensures.shorter),
     )
+
+pub returns-in_default-clause-err : goal.returns-in_default-clause-err
+returns-in_default-clause-err g c =
+    let inv = c.loop-rest.invariant in
+    let name = c.args.held.now.name in
+    let r = reading_of name c.first_line.result.0.now in
+    let rs = map (reading_of name) (lines_of c.first_line.result.1.now) in
+    let now = held_of c.loop-rest.held ∷ [] in
+    let number = c.loop-rest.number in
+    let parts = ap (map (reading_of name)) c.first_line.ensures.lines in
+    let text = ap (λ (ps : List Reading). inv.0 ++ outcome_lines number (outcomes_of now ps)) (sym parts) ∙ inv.2 in
+    subst (HasFront (g.O.Sink.contents c.args.out.now) (g.O.Sink.contents c.loop-rest.out)) text
+    (way_stop _ inv.0 (outcome_lines number (outcomes_of now (r ∷ rs))) (lines_some number now r rs) inv.1)
 
 pub returns-in-Err-clause-err : goal.returns-in-Err-clause-err
 returns-in-Err-clause-err g c =

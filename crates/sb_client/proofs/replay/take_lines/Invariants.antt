@@ -5,7 +5,7 @@ use Rattle.sb_client.specs.PlainBody.{reading_of}
 use Rattle.sb_client.specs.Run.{lists_after, outcomes_of, has_refusal}
 use Rattle.sb_client.specs.Printed.{outcome_lines}
 use Rattle.sb_client.specs.Views.{held_of}
-use Rattle.sb_client.specs.Writing.{IsOnItsWay}
+use Rattle.sb_outside.specs.Writing.{IsOnItsWay}
 use Rattle.sb_client.proofs.replay.take_lines.Given as goal
 
 -- what the lines so far did, and what those that are left will do, is what all lines do
