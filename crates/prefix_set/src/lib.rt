@@ -5,6 +5,7 @@ pub use fault::ApplyFault;
 pub use set::{MAX_BYTES, MAX_PREFIXES, PrefixSet};
 
 mod fault;
+mod packed;
 mod set;
 #[cfg(test)]
 mod tests;
