@@ -1,2 +1,9 @@
 pub mod FeedFacts
 pub mod SetFacts
+pub mod PackedFacts
+pub mod PackedList
+pub mod SortFacts
+pub mod SortRising
+pub mod SortedQuads
+pub mod PackedSorted
+pub mod PackedEqual

@@ -2,9 +2,14 @@
 #![tactic(auto)]
 
 pub use fault::ApplyFault;
+pub use iteration::Members;
 pub use set::{MAX_BYTES, MAX_PREFIXES, PrefixSet};
 
 mod fault;
+mod iteration;
+mod layout;
+mod packed;
 mod set;
+mod sorting;
 #[cfg(test)]
 mod tests;
