@@ -10,6 +10,7 @@ pub use names::{
     EntryType, ListName, NameFault, PlatformType, ThreatType, read_list_name, write_list_name,
 };
 pub use row::Row;
+pub use steps::Steps;
 pub use text::Text;
 pub use time::{Duration, Moment};
 
@@ -19,6 +20,7 @@ mod laws;
 mod memory;
 mod names;
 mod row;
+mod steps;
 #[cfg(test)]
 mod tests;
 mod text;
