@@ -1,2 +1,7 @@
+pub mod Apply
+pub mod Edits
+pub mod Index
+pub mod Kept
 pub mod Limits
 pub mod Pieces
+pub mod Search
