@@ -1,2 +1,5 @@
 pub mod FeedFacts
+pub mod KeptFacts
+pub mod MergeFacts
+pub mod SearchFacts
 pub mod SetFacts

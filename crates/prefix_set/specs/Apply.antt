@@ -1,5 +1,5 @@
 -- What a change of a set gives, and why it may give nothing.
-use Rattle.std.specs.Prelude.{◌≡◌, ℕ, ¬◌, List, ◌++◌, length, Option, Some, None, Contains, nat_lt, nat_le, slice_get, if◌then◌else◌}
+use Rattle.std.specs.Prelude.{◌≡◌, ℕ, List, ◌++◌, length, Option, Some, None, Contains, nat_lt, nat_le, slice_get, if◌then◌else◌}
 use Rattle.std.specs.List.{find}
 use Rattle.sb_model.specs.Candidate.{without_places}
 use Rattle.sb_model.specs.Prefixes.{set_of, concatenation}

@@ -1,4 +1,4 @@
-ghost use Rattle.std.specs.Prelude.{◌≡◌, ◌≢◌, ◌<◌, ◌≤◌, ◌↔◌, length, take, slice_index_or, [], IsTrue};
+ghost use Rattle.std.specs.Prelude.{◌≡◌, ◌≢◌, ◌+◌, ◌^◌, ◌<◌, ◌≤◌, ◌↔◌, length, take, slice_get, slice_index_or, [], Some, IsTrue};
 ghost use Rattle.sb_model.specs.Prefixes.{bytes_cmp, IsRising};
 ghost use Rattle.prefix_set.specs.Search.{AreBefore, IsPlaceOf};
 
@@ -88,6 +88,14 @@ pub(crate) fn first_not_before(
     low
 }
 
+/// Whether a prefix stands at a place.
+pub(crate) fn stands_at(members: &PackedPrefixes, index: usize, prefix: &[u8]) -> bool
+    ensures here { IsTrue result ↔ (slice_get members.now index ≡ Some prefix.now) }
+    ensures room { IsTrue result → index + 1 < 2 ^ 64 }
+{
+    index < members.len() && members.at(index) == prefix
+}
+
 /// The place of a prefix among rising members, of which those in front of `from` come before it.
 pub(crate) fn seek(members: &PackedPrefixes, from: usize, prefix: &[u8]) -> Place
     requires rising { IsRising members.now }
@@ -98,9 +106,12 @@ pub(crate) fn seek(members: &PackedPrefixes, from: usize, prefix: &[u8]) -> Plac
 {
     let bounds = gallop(members, from, prefix);
     let index = first_not_before(members, bounds.low, bounds.high, prefix);
-    let found = index < members.len() && members.at(index) == prefix;
     Place {
         index,
-        past: if found { index + 1 } else { index },
+        past: if stands_at(members, index, prefix) {
+            index + 1
+        } else {
+            index
+        },
     }
 }

@@ -15,7 +15,7 @@ use crate::edit::{Edit, EditParts, numbers_of, packed_of};
 use crate::index::{HeadIndex, head_of};
 use crate::merge::merged;
 use crate::packed::PackedPrefixes;
-use crate::search::first_not_before;
+use crate::search::{first_not_before, stands_at};
 use crate::store::{PackedStore, same_members};
 use hash_prefixes::Prefix;
 use sb_model::{OutOfMemory, Steps};
@@ -301,7 +301,7 @@ impl PrefixSet {
             span.end as usize,
             prefix.as_bytes(),
         );
-        place < members.len() && members.at(place) == prefix.as_bytes()
+        stands_at(members, place, prefix.as_bytes())
     }
 
     /// Whether the prefix is a member. It compares the prefix with members that have its first two
