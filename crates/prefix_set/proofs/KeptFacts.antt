@@ -132,7 +132,7 @@ later removals i j up order within = elim (cases_lt i j) [
   | inr ge ↦ let same : i ≡ j = omega arith in subst (λ (n : ℕ). get_or removals i 0 ≤ get_or removals n 0) same (omega arith)
 ]
 
-not_equal : (a b : ℕ) → (a ≡ b → ⊥) → (a == b) ≡ false
+pub not_equal : (a b : ℕ) → (a ≡ b → ⊥) → (a == b) ≡ false
 not_equal a b unlike = elim (eqb_tells a b) [ inl same ↦ absurd (unlike same.1) | inr other ↦ other.0 ]
 
 -- no removal is from one place on and before another, where those done are in front and the next is not before
@@ -224,3 +224,49 @@ same_kept n (x ∷ xs) one other same =
     kept_cons n x xs one
     ∙ (λ i. cond (same_removed one other n (same n) i) (same_kept (n + 1) xs one other same i) (x ∷ same_kept (n + 1) xs one other same i))
     ∙ sym (kept_cons n x xs other)
+
+-- ---- what is kept, by members
+
+-- a member stands at a place that is not removed, where places are counted from a number
+pub record StaysAt (n : ℕ) (xs : List (List ℕ)) (removals z : List ℕ) : Type 0 where
+  pub place : ℕ
+  pub is : slice_get xs place ≡ Some z
+  pub stays : is_removed removals (n + place) ≡ false
+
+pub StaysAt-from_kept : (n : ℕ) (xs : List (List ℕ)) (removals z : List ℕ) → Contains (kept_from n xs removals) z → StaysAt n xs removals z
+StaysAt-from_kept n [] removals z h = absurd (Contains-nil z h)
+StaysAt-from_kept n (x ∷ xs) removals z h =
+    go (is_removed removals n) refl (subst (λ (ys : List (List ℕ)). Contains ys z) (kept_cons n x xs removals) h) (λ k. further (StaysAt-from_kept (n + 1) xs removals z k))
+  where
+    further : StaysAt (n + 1) xs removals z → StaysAt n (x ∷ xs) removals z
+    further s = let later : n + 1 + s.place ≡ n + suc s.place = omega arith in
+        record { place = suc s.place; is = s.is; stays = subst (λ (place : ℕ). is_removed removals place ≡ false) later s.stays }
+
+    go : (b : Bool) → is_removed removals n ≡ b → Contains (cond b (kept_from (n + 1) xs removals) (x ∷ kept_from (n + 1) xs removals)) z
+        → (Contains (kept_from (n + 1) xs removals) z → StaysAt n (x ∷ xs) removals z) → StaysAt n (x ∷ xs) removals z
+    go true is h more = more h
+    go false is h more = elim (Contains-cases x z (kept_from (n + 1) xs removals) h) [
+      | inl same ↦ let here : n ≡ n + 0 = omega arith in
+          record { place = 0; is = (λ i. Some (same i)); stays = subst (λ (place : ℕ). is_removed removals place ≡ false) here is }
+      | inr later ↦ more later
+    ]
+
+kept_at : (n k : ℕ) (xs : List (List ℕ)) (removals z : List ℕ) → slice_get xs k ≡ Some z → is_removed removals (n + k) ≡ false → Contains (kept_from n xs removals) z
+kept_at n k [] removals z is stays = cc
+kept_at n zero (x ∷ xs) removals z is stays =
+    let same : x ≡ z = cc in
+    let here : n + 0 ≡ n = omega arith in
+    subst (λ (ys : List (List ℕ)). Contains ys z)
+    (sym (kept_cons n x xs removals ∙ ap (λ (b : Bool). cond b (kept_from (n + 1) xs removals) (x ∷ kept_from (n + 1) xs removals)) (subst (λ (place : ℕ). is_removed removals place ≡ false) here stays)))
+    (subst (Contains (x ∷ kept_from (n + 1) xs removals)) same (Contains-here x (kept_from (n + 1) xs removals)))
+kept_at n (suc k) (x ∷ xs) removals z is stays =
+    let later : n + suc k ≡ n + 1 + k = omega arith in
+    subst (λ (ys : List (List ℕ)). Contains ys z) (sym (kept_cons n x xs removals))
+    (go (is_removed removals n) (kept_at (n + 1) k xs removals z is (subst (λ (place : ℕ). is_removed removals place ≡ false) later stays)))
+  where
+    go : (b : Bool) → Contains (kept_from (n + 1) xs removals) z → Contains (cond b (kept_from (n + 1) xs removals) (x ∷ kept_from (n + 1) xs removals)) z
+    go true h = h
+    go false h = Contains-there x z (kept_from (n + 1) xs removals) h
+
+pub kept_from_StaysAt : (n : ℕ) (xs : List (List ℕ)) (removals z : List ℕ) → StaysAt n xs removals z → Contains (kept_from n xs removals) z
+kept_from_StaysAt n xs removals z s = kept_at n s.place xs removals z s.is s.stays

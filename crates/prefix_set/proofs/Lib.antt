@@ -1,3 +1,5 @@
+pub mod ApplyFacts
+pub mod DifferenceFacts
 pub mod FeedFacts
 pub mod KeptFacts
 pub mod MergeFacts

@@ -39,7 +39,7 @@ Contains-run_front i j xs z order h =
     subst (λ (n : ℕ). Contains (take n xs) z) whole
     (Contains-drop i (take (i + (j - i)) xs) z (subst (λ (ys : List (List ℕ)). Contains ys z) (sym (drop-take i (j - i) xs)) h))
 
-Contains-run_back : (i j : ℕ) (xs : List (List ℕ)) (z : List ℕ) → Contains (run i j xs) z → Contains (drop i xs) z
+pub Contains-run_back : (i j : ℕ) (xs : List (List ℕ)) (z : List ℕ) → Contains (run i j xs) z → Contains (drop i xs) z
 Contains-run_back i j xs z h = Contains-take (j - i) (drop i xs) z h
 
 -- the front up to a place is a shorter front, and a run
@@ -69,6 +69,14 @@ rising-drop (suc n) (x ∷ xs) up = rising-drop n xs (sorted_tail bytes_cmp x xs
 -- a member comes before what stands behind it
 pub before_rest : (xs : List (List ℕ)) (n : ℕ) (x z : List ℕ) → IsRising xs → slice_get xs n ≡ Some x → Contains (drop (n + 1) xs) z → IsBefore x z
 before_rest xs n x z up is h = after_head x z (drop (n + 1) xs) (subst IsRising (first_of_rest xs n x is) (rising-drop n xs up)) h
+
+-- what stands in front of `past` comes before what comes after the prefix
+before_past : (members : List (List ℕ)) (prefix : List ℕ) (index past : ℕ) (z w : List ℕ) → IsPlaceOf members prefix index past
+    → IsBefore prefix w → Contains (take past members) z → IsBefore z w
+before_past members prefix index past z w p after h = elim (Contains-front_cases index past members z p.order h) [
+  | inl front ↦ before_trans z prefix w (All-contains (λ y. IsBefore y prefix) (take index members) z p.before front) after
+  | inr same ↦ subst (λ (y : List ℕ). IsBefore y w) (sym (All-contains (λ y. y ≡ prefix) (run index past members) z p.here same)) after
+]
 
 -- ---- rising lists
 
@@ -122,11 +130,14 @@ IsMerged-none old removals additions = record {
   old_apart = before_nothing (drop 0 additions);
 }
 
--- the members in front of the place come before the next addition
-pub passed_before : (old : List (List ℕ)) (removals : List ℕ) (additions : List (List ℕ)) (place count : ℕ) (out : List (List ℕ)) (addition : List ℕ)
-    → IsMerged old removals additions place count out → slice_get additions count ≡ Some addition → AreBefore (take place old) addition
-passed_before old removals additions place count out addition merged is k d within =
-    merged.old_apart.before (get_or (take place old) k d) addition (Contains-get_or (take place old) k d within) (Contains-rest additions count addition is)
+-- what is apart from the rest of a list comes before its next member
+pub passed_before : (xs ys : List (List ℕ)) (count : ℕ) (y : List ℕ) → EachBefore xs (drop count ys) → slice_get ys count ≡ Some y → AreBefore xs y
+passed_before xs ys count y apart is k d within = apart.before (get_or xs k d) y (Contains-get_or xs k d within) (Contains-rest ys count y is)
+
+-- what stands in front of the place past a member comes before what is left after it
+pub apart_more : (xs ys : List (List ℕ)) (count index past : ℕ) (y : List ℕ) → IsRising ys → slice_get ys count ≡ Some y → IsPlaceOf xs y index past
+    → EachBefore (take past xs) (drop (count + 1) ys)
+apart_more xs ys count index past y up is p = record { before = λ z w h k. before_past xs y index past z w p (before_rest ys count y w up is k) h }
 
 -- one more addition
 module _ (old : List (List ℕ)) (removals : List ℕ) (additions : List (List ℕ)) (place count next : ℕ) (out new : List (List ℕ)) (addition : List ℕ)
@@ -236,12 +247,6 @@ module _ (old : List (List ℕ)) (removals : List ℕ) (additions : List (List �
   new_before_additions z w (Copied h) k = before_trans z addition w (copied_before z h) (addition_before w k)
   new_before_additions z w (Addition h) k = subst (λ (y : List ℕ). IsBefore y w) h (addition_before w k)
 
-  old_before_additions : (z w : List ℕ) → Contains (take next old) z → Contains (drop (count + 1) additions) w → IsBefore z w
-  old_before_additions z w h k = elim (Contains-front_cases t.index next old z t.place.order h) [
-    | inl front ↦ before_trans z addition w (All-contains (λ y. IsBefore y addition) (take t.index old) z t.place.before front) (addition_before w k)
-    | inr same ↦ subst (λ (y : List ℕ). IsBefore y w) (sym (is_addition z same)) (addition_before w k)
-  ]
-
   pub IsMerged-more : IsMerged old removals additions next (count + 1) new
   IsMerged-more = record {
     within = t.place.within;
@@ -251,7 +256,7 @@ module _ (old : List (List ℕ)) (removals : List ℕ) (additions : List (List �
     added = added_later;
     old_later = record { before = λ z w h k. new_before_old z w (source z h) k };
     additions_later = record { before = λ z w h k. new_before_additions z w (source z h) k };
-    old_apart = record { before = old_before_additions };
+    old_apart = apart_more old additions count t.index next addition up_additions is t.place;
   }
 
 -- what is left of the members follows, and that is the set

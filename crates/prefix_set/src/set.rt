@@ -67,12 +67,7 @@ struct Span {
 fn index_past(len: u32, indices: &[u32]) -> Option<u32>
     ensures { result ≡ first_past len indices.now }
 {
-    for index in indices {
-        if *index >= len {
-            return Some(*index);
-        }
-    }
-    None
+    indices.iter().copied().find(|index| *index >= len)
 }
 
 // Why these rising members are more than a set holds.
@@ -231,8 +226,10 @@ impl PrefixSet {
         ensures applies { IfOk result
             (λ delta. apply_fault self.now delta.removals delta.additions ≡ None) }
     {
-        let removals = places_removed(alloc, self.store.packed(), newer.store.packed())?;
-        let additions = members_added(alloc, self.store.packed(), newer.store.packed())?;
+        let held = self.store.packed();
+        let wanted = newer.store.packed();
+        let removals = places_removed(alloc, held, wanted)?;
+        let additions = members_added(alloc, held, wanted)?;
         Ok(Delta {
             removals,
             additions,

@@ -13,8 +13,7 @@ loop-i-init c = record {
 
 pub take_addition-requires-clause-passed : goal.take_addition-requires-clause-passed
 take_addition-requires-clause-passed c =
-    passed_before c.args.old.now c.args.removals.now c.args.additions.now c.loop-i.done.place c.loop-i.i c.loop-i.out c.at.result.now
-    c.loop-i.invariant.merged c.at.ensures.value
+    passed_before _ c.args.additions.now c.loop-i.i c.at.result.now c.loop-i.invariant.merged.old_apart c.at.ensures.value
 
 pub loop-i-preserved : goal.loop-i-preserved
 loop-i-preserved c = record {
