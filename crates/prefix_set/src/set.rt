@@ -111,7 +111,8 @@ impl PrefixSet {
         ensures no_longer { length (concatenation (set_of prefixes.now))
             ≤ length (concatenation prefixes.now) }
     {
-        PrefixSet::empty(alloc).changed(alloc, Vec::new(alloc), packed_of(alloc, prefixes)?)
+        let members = packed_of(alloc, prefixes)?.into_rising(alloc)?;
+        PrefixSet::of_rising(alloc, members)
     }
 
     /// The set without the members at the places of `removals`, counted from 0, and with the
@@ -162,7 +163,7 @@ impl PrefixSet {
         Ok(Merged { set, digest })
     }
 
-    // The one body of these three.
+    // The one body of the two changes.
     fn changed(
         &self,
         alloc: Global,
