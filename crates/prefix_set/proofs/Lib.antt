@@ -3,6 +3,7 @@ pub mod DifferenceFacts
 pub mod FeedFacts
 pub mod IndexFacts
 pub mod KeptFacts
+pub mod LookupFacts
 pub mod MergeFacts
 pub mod SearchFacts
 pub mod SetFacts

@@ -56,7 +56,7 @@ test_from_not true h = refl
 test_from_not false h = absurd (false≢true (sym h))
 
 -- what comes after a prefix at a place, and what stands behind that place
-after_place : (members : List (List ℕ)) (prefix : List ℕ) (index k : ℕ) (d : List ℕ) → IsRising members → index + k < length members
+pub after_place : (members : List (List ℕ)) (prefix : List ℕ) (index k : ℕ) (d : List ℕ) → IsRising members → index + k < length members
     → IsBefore prefix (get_or members index d) → IsBefore prefix (get_or members (index + k) d)
 after_place members prefix index k d up within before = elim (cases_lt index (index + k)) [
   | inl lt ↦ before_trans prefix (get_or members index d) (get_or members (index + k) d) before (rising_places members index (index + k) d up lt within)

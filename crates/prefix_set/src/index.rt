@@ -1,4 +1,6 @@
 ghost use Rattle.std.specs.Prelude.{◌≡◌, ℕ, ◌<◌, ◌≤◌, List, [], length, slice_index, map, IfOk, OnOk};
+ghost use Rattle.std.specs.List.{AllWithin};
+ghost use Rattle.std.specs.List.Sorted.{IsNonDecreasing};
 ghost use Rattle.sb_model.specs.Prefixes.{IsRising};
 ghost use Rattle.prefix_set.specs.Index.{head_number, HaveHeads, ArePlacesOf, IsIndexOf};
 ghost use Rattle.prefix_set.specs.Limits.{ArePrefixes};
@@ -96,4 +98,14 @@ fn places(alloc: Global, members: &PackedPrefixes) -> Result<Vec<u32>, OutOfMemo
     }
     places.resize(PLACE_COUNT, members.len() as u32)?;
     Ok(places)
+}
+
+/// How many heads are below a number, where they stand in order.
+pub(crate) fn heads_below(heads: &[u16], head: u32) -> usize
+    requires { IsNonDecreasing heads.now }
+    ensures within { result ≤ length heads.now }
+    ensures front { AllWithin (λ other. other < head) heads.now 0 result }
+    ensures back { AllWithin (λ other. head ≤ other) heads.now result (length heads.now) }
+{
+    heads.partition_point(|other| u32::from(*other) < head)
 }

@@ -56,13 +56,8 @@ fn gallop(members: &PackedPrefixes, from: usize, prefix: &[u8]) -> Bounds
     }
 }
 
-/// The place of the first of rising members, between two places, that does not come before a prefix.
-pub(crate) fn first_not_before(
-    members: &PackedPrefixes,
-    from: usize,
-    to: usize,
-    prefix: &[u8],
-) -> usize
+// The place of the first of rising members, between two places, that does not come before a prefix.
+fn first_not_before(members: &PackedPrefixes, from: usize, to: usize, prefix: &[u8]) -> usize
     requires rising { IsRising members.now }
     requires within { to ≤ length members.now }
     requires order { from ≤ to }
@@ -88,12 +83,39 @@ pub(crate) fn first_not_before(
     low
 }
 
-/// Whether a prefix stands at a place.
-pub(crate) fn stands_at(members: &PackedPrefixes, index: usize, prefix: &[u8]) -> bool
+// Whether a prefix stands at a place.
+fn stands_at(members: &PackedPrefixes, index: usize, prefix: &[u8]) -> bool
     ensures here { IsTrue result ↔ (slice_get members.now index ≡ Some prefix.now) }
     ensures room { IsTrue result → index + 1 < 2 ^ 64 }
 {
     index < members.len() && members.at(index) == prefix
+}
+
+/// The place of a prefix among rising members, where it is between two places.
+pub(crate) fn place_between(
+    members: &PackedPrefixes,
+    from: usize,
+    to: usize,
+    prefix: &[u8],
+) -> Place
+    requires rising { IsRising members.now }
+    requires within { to ≤ length members.now }
+    requires order { from ≤ to }
+    requires below { AreBefore (take from members.now) prefix.now }
+    requires above { to < length members.now
+        → bytes_cmp (slice_index_or members.now to []) prefix.now ≢ Ordering.Less }
+    ensures place { IsPlaceOf members.now prefix.now result.index result.past }
+    ensures order { from ≤ result.index }
+{
+    let index = first_not_before(members, from, to, prefix);
+    Place {
+        index,
+        past: if stands_at(members, index, prefix) {
+            index + 1
+        } else {
+            index
+        },
+    }
 }
 
 /// The place of a prefix among rising members, of which those in front of `from` come before it.
@@ -105,13 +127,5 @@ pub(crate) fn seek(members: &PackedPrefixes, from: usize, prefix: &[u8]) -> Plac
     ensures order { from ≤ result.index }
 {
     let bounds = gallop(members, from, prefix);
-    let index = first_not_before(members, bounds.low, bounds.high, prefix);
-    Place {
-        index,
-        past: if stands_at(members, index, prefix) {
-            index + 1
-        } else {
-            index
-        },
-    }
+    place_between(members, bounds.low, bounds.high, prefix)
 }

@@ -6,16 +6,17 @@ ghost use Rattle.sb_model.specs.Candidate.{without_places};
 ghost use Rattle.sb_model.specs.Difference.{removed_places, added_members};
 ghost use Rattle.sha2.specs.Sha256.{sha256};
 ghost use Rattle.prefix_set.specs.Apply.{applied, apply_fault, first_past, limit_fault, Stays};
-ghost use Rattle.prefix_set.specs.Index.{head_number, alike_count, count_below};
+ghost use Rattle.prefix_set.specs.Index.{HaveHeads, alike_count, count_below};
+ghost use Rattle.prefix_set.specs.Search.{IsSpanOf};
 ghost use Rattle.prefix_set.specs.Limits.{ArePrefixes, IsPrefixSet};
 
 use crate::ApplyFault;
 use crate::difference::{Delta, members_added, places_removed, prefix_of};
 use crate::edit::{Edit, EditParts, numbers_of, packed_of};
-use crate::index::{HeadIndex, head_of};
+use crate::index::{HeadIndex, head_of, heads_below};
 use crate::merge::merged;
 use crate::packed::PackedPrefixes;
-use crate::search::{first_not_before, stands_at};
+use crate::search::place_between;
 use crate::store::{PackedStore, same_members};
 use hash_prefixes::Prefix;
 use sb_model::{OutOfMemory, Steps};
@@ -291,15 +292,10 @@ impl PrefixSet {
     pub fn contains(&self, prefix: &Prefix) -> bool
         ensures { IsTrue result ↔ Contains self.now prefix.now }
     {
-        let span = self.span_of(head_of(prefix.as_bytes()));
+        let span = self.span_of(prefix);
         let members = self.store.packed();
-        let place = first_not_before(
-            members,
-            span.start as usize,
-            span.end as usize,
-            prefix.as_bytes(),
-        );
-        stands_at(members, place, prefix.as_bytes())
+        let bytes = prefix.as_bytes();
+        place_between(members, span.start as usize, span.end as usize, bytes).is_found()
     }
 
     /// Whether the prefix is a member. It compares the prefix with members that have its first two
@@ -311,12 +307,13 @@ impl PrefixSet {
         ensures steps { (r : ℕ) × (steps.new ≡ steps.old + r)
             × (2 ^ r ≤ 4 * alike_count self.now prefix.now + 2) }
     {
-        let span = self.span_of(head_of(prefix.as_bytes()));
+        let span = self.span_of(prefix);
+        let store = &self.store;
         let mut low = span.start;
         let mut high = span.end;
         while low < high {
             let middle = low + (high - low) / 2;
-            match self.store.compare(middle, prefix, steps) {
+            match store.compare(middle, prefix, steps) {
                 Ordering::Less => low = middle + 1,
                 Ordering::Equal => return true,
                 Ordering::Greater => high = middle,
@@ -325,15 +322,25 @@ impl PrefixSet {
         false
     }
 
+    // The members with the first two bytes of a prefix.
+    fn span_of(&self, prefix: &Prefix) -> Span
+        ensures { IsSpanOf self.now prefix.now result.start result.end }
+    {
+        let _ = prefix.size();
+        self.span_with(head_of(prefix.as_bytes()))
+    }
+
     // The members with a head.
-    fn span_of(&self, head: u16) -> Span
+    fn span_with(&self, head: u16) -> Span
         ensures start { result.start ≡ count_below self.now head }
         ensures end { result.end ≡ count_below self.now (head + 1) }
+        ensures rising { IsRising self.now }
+        ensures heads { HaveHeads self.now }
     {
         match &self.index {
             HeadIndex::Heads(heads) => Span {
-                start: heads.partition_point(|other| *other < head) as u32,
-                end: heads.partition_point(|other| *other <= head) as u32,
+                start: heads_below(heads, u32::from(head)) as u32,
+                end: heads_below(heads, u32::from(head) + 1) as u32,
             },
             HeadIndex::Places(places) => Span {
                 start: places[head as usize],

@@ -1,6 +1,6 @@
 use Rattle.std.proofs.Common.{arith, ◌≤◌, length, refl}
 use Rattle.prefix_set.proofs.SearchFacts.{place_found, place_missed_by_test}
-use Rattle.prefix_set.proofs.search.seek.Goals as goal
+use Rattle.prefix_set.proofs.search.place_between.Goals as goal
 
 pub returns-then-stands_at-clause-place : goal.returns-then-stands_at-clause-place
 returns-then-stands_at-clause-place c =
