@@ -1,4 +1,12 @@
+pub mod ApplyFacts
+pub mod DifferenceFacts
+pub mod EqualFacts
 pub mod FeedFacts
+pub mod IndexFacts
+pub mod KeptFacts
+pub mod LookupFacts
+pub mod MergeFacts
+pub mod SearchFacts
 pub mod SetFacts
 pub mod PackedFacts
 pub mod PackedList
