@@ -9,11 +9,11 @@ use Rattle.std.proofs.lemmas.Nat.{mod-pow-add, trailing_le, pow_pos, shl_below, 
 use Rattle.std.proofs.lemmas.Nat.Bits.{bit_at_lowest, bit_at-suc, bit_at_ones, bit_at-trailing_ones}
 use lib.Count.{count_trailing_zeros}
 use Rattle.std.specs.Int.{bit_at, w64, trailing_ones}
-use Rattle.rice_coding.specs.Bits.{low_bits}
+use Rattle.rice_coding.specs.Bits.{low_bits, number_of}
 use Rattle.rice_coding.specs.Codes.{code}
 use Rattle.rice_coding.specs.Rice.{HasNoCode}
 use Rattle.rice_coding.proofs.BitFacts.{length-low_bits, low_bits_below}
-use Rattle.rice_coding.specs.Reading.{unary, number_of, delta_at, with_remainder}
+use Rattle.rice_coding.specs.Reading.{unary, delta_at, with_remainder}
 
 abbrev pub found : ℕ → List Bool → Option (ℕ × List Bool)
 found number bits = Some (number, bits)
@@ -170,7 +170,7 @@ unary_ones (suc n) bits =
     let size : 1 + n ≡ suc n = omega arith in
     unary-true (replicate n true ++ false ∷ bits) ∙ ap (after_ones 1) (unary_ones n bits) ∙ ap (λ (m : ℕ). Some (m, bits)) size
 
-number_of-low_bits : (k n : ℕ) → number_of (low_bits k n) ≡ n % 2 ^ k
+pub number_of-low_bits : (k n : ℕ) → number_of (low_bits k n) ≡ n % 2 ^ k
 number_of-low_bits zero n = omega arith
 number_of-low_bits (suc k) n = omega (arith, number_of-low_bits k (n / 2), digit n, mod_suc n k)
 

@@ -1,7 +1,7 @@
 ghost use Rattle.std.specs.Prelude.{◌≡◌, ℕ, ◌+◌, ◌-◌, ◌*◌, ◌^◌, ◌<◌, ◌≤◌, ◌↔◌, ◌==◌, Bool, true, false, List, length, drop, min, slice_index_or, IsTrue, OnSome, IfSome, IfNone, Some, None, take};
 ghost use Rattle.std.specs.Int.{bit_at};
-ghost use Rattle.rice_coding.specs.Bits.{bits_of, bits_from};
-ghost use Rattle.rice_coding.specs.Reading.{unary, number_of, delta_at};
+ghost use Rattle.rice_coding.specs.Bits.{bits_of, bits_from, number_of};
+ghost use Rattle.rice_coding.specs.Reading.{unary, delta_at};
 
 /// A place among the bits of a byte string.
 #[derive(Clone, Copy)]

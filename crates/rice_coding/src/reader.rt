@@ -32,6 +32,7 @@ impl<'a> Model for RiceReader<'a> {
 }
 
 impl<'a> RiceReader<'a> {
+    ghost use Rattle.rice_coding.specs.Decoding.{decoding_of, outcome_of};
     ghost use Rattle.rice_coding.specs.Rice.{IsRiceRecordOf, IsReadingOf, IsFirstFault, CanBegin};
 
     /// A reader of at most `limit` numbers, before the first one. It errs with `Parameter`,
@@ -43,6 +44,10 @@ impl<'a> RiceReader<'a> {
         ensures reading { IfOk result (λ reader. IsReadingOf coding.now reader.values reader.fault) }
         ensures only { IfOk result (λ reader. (values : List ℕ) (fault : Option RiceFault)
             → IsReadingOf coding.now values fault → (values ≡ reader.values) × (fault ≡ reader.fault)) }
+        // All that it gives is what the record is decoded to.
+        ensures decoding { IfOk result (λ reader.
+            decoding_of coding.now limit ≡ outcome_of reader.values reader.fault) }
+        ensures refused { IfErr result (λ fault. decoding_of coding.now limit ≡ Err fault) }
     {
         if coding.count > 0 && (coding.parameter < 2 || coding.parameter > 28) {
             return Err(RiceFault::Parameter(coding.parameter));

@@ -1,5 +1,5 @@
-ghost use Rattle.std.specs.Prelude.{◌≡◌, ℕ, ◌^◌, ◌<◌, ◌≤◌, [], true, false, ◌++◌, replicate, IfOk, OnOk};
-ghost use Rattle.rice_coding.specs.Bits.{low_bits, bits_of};
+ghost use Rattle.std.specs.Prelude.{◌≡◌, ℕ, ◌^◌, ◌<◌, ◌≤◌, [], ◌++◌, IfOk, OnOk};
+ghost use Rattle.rice_coding.specs.Bits.{low_bits, packed};
 ghost use Rattle.rice_coding.specs.Codes.{code};
 
 use sb_model::{Bytes, OutOfMemory};
@@ -17,14 +17,15 @@ pub struct BitWriter {
 }
 
 impl Model for BitWriter {
-    ghost use Rattle.std.specs.Prelude.{List, Bool, ◌++◌, ◌<◌, ◌^◌};
+    ghost use Rattle.std.specs.Prelude.{ℕ, List, Bool, ◌++◌, ◌<◌, ◌^◌, slice_index};
     ghost use Rattle.rice_coding.specs.Bits.{low_bits, bits_of};
 
     ghost Value = { List Bool };
 
     ghost view = { λ w. bits_of w.bytes.items ++ low_bits w.count w.word };
 
-    ghost invariant = { λ w. (w.count < 32) × (w.word < 2 ^ w.count) };
+    ghost invariant = { λ w. (w.count < 64) × (w.word < 2 ^ w.count)
+        × ((i : ℕ) → slice_index w.bytes.items i < 256) };
 }
 
 impl BitWriter {
@@ -33,25 +34,25 @@ impl BitWriter {
         ensures { IfOk result (λ writer. writer ≡ []) }
     {
         Ok(BitWriter {
-            bytes: Vec::with_capacity(alloc, (bits / 8) as usize + 4)?,
+            bytes: Vec::with_capacity(alloc, (bits / 8) as usize + 8)?,
             word: 0,
             count: 0,
         })
     }
 
-    /// Writes this many low bits of a number.
-    fn put(&mut self, number: u32, count: u32) -> Result<(), OutOfMemory>
-        requires few { count ≤ 32 }
+    /// Writes this many low bits of a number. Bytes are written by eights.
+    #[inline]
+    fn put(&mut self, number: u64, count: u32) -> Result<(), OutOfMemory>
+        requires few { count < 64 }
         requires fits { number < 2 ^ count }
         ensures { OnOk result (self.new ≡ self.old ++ low_bits count number) }
     {
-        let word = self.word | (u64::from(number) << self.count);
+        let word = self.word | (number << self.count);
         let total = self.count + count;
-        if total >= 32 {
-            let low = (word & 0xffff_ffff) as u32;
-            self.bytes.extend_from_slice(&low.to_le_bytes())?;
-            self.word = word >> 32;
-            self.count = total - 32;
+        if total >= 64 {
+            self.bytes.extend_from_slice(&word.to_le_bytes())?;
+            self.word = number >> (64 - self.count);
+            self.count = total - 64;
         } else {
             self.word = word;
             self.count = total;
@@ -59,38 +60,35 @@ impl BitWriter {
         Ok(())
     }
 
-    /// Writes this many ones.
-    fn put_ones(&mut self, count: u32) -> Result<(), OutOfMemory>
-        ensures { OnOk result (self.new ≡ self.old ++ replicate count true) }
-    {
-        let mut left = count;
-        while left > 31 {
-            self.put(u32::MAX >> 1, 31)?;
-            left -= 31;
-        }
-        self.put((1 << left) - 1, left)
-    }
-
-    /// Writes the code of a delta.
+    /// Writes the code of a delta: all of it at once where its quotient is below 32, and otherwise
+    /// the ones that are too many before it.
+    #[inline]
     pub fn put_code(&mut self, delta: u32, parameter: u32) -> Result<(), OutOfMemory>
         requires { parameter ≤ 28 }
         ensures { OnOk result (self.new ≡ self.old ++ code parameter delta) }
     {
-        self.put_ones(delta >> parameter)?;
-        self.put((delta & ((1 << parameter) - 1)) << 1, parameter + 1)
+        let mut ones = delta >> parameter;
+        while ones > 31 {
+            self.put(0xffff_ffff, 32)?;
+            ones -= 32;
+        }
+        let low = u64::from(delta & ((1 << parameter) - 1));
+        self.put(
+            (low << (ones + 1)) + ((1 << ones) - 1),
+            ones + parameter + 1,
+        )
     }
 
-    /// The bytes of the bits, of which the last one ends with zeros.
+    /// The bytes that hold the bits.
     pub fn finish(self) -> Result<Bytes, OutOfMemory>
-        ensures { IfOk result (λ bytes. (free : ℕ) × (free < 8)
-            × (bits_of bytes ≡ self ++ replicate free false)) }
+        ensures { IfOk result (λ bytes. bytes ≡ packed self) }
     {
         let BitWriter {
             mut bytes,
             word,
             count,
         } = self;
-        let last = (word as u32).to_le_bytes();
+        let last = word.to_le_bytes();
         bytes.extend_from_slice(&last[..count.div_ceil(8) as usize])?;
         Ok(Bytes::from_vec(bytes))
     }

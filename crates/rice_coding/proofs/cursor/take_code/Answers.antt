@@ -1,6 +1,5 @@
 use Rattle.std.proofs.Common.{◌≡◌, ℕ, ◌+◌, ◌*◌, ◌^◌, ◌%◌, ◌<◌, ◌≤◌, Bool, List, Some, take, arith, ap, sym, ◌∙◌, rules}
-use Rattle.rice_coding.specs.Bits.{bits_from}
-use Rattle.rice_coding.specs.Reading.{number_of}
+use Rattle.rice_coding.specs.Bits.{bits_from, number_of}
 use Rattle.rice_coding.proofs.CodeFacts.{delta_at-no_zero, delta_at-short, delta_at-some, delta_high, shifted_whole, delta_fits, low_lt}
 use Rattle.rice_coding.proofs.cursor.take_code.Goals as goal
 
