@@ -30,7 +30,7 @@ fn word_of(bytes: &[u8]) -> u64
 
 /// A number whose low 57 bits are the next ones, with zeros past the end.
 #[inline]
-fn window(at: Cursor) -> u64
+pub fn window(at: Cursor) -> u64
     ensures { (i : ℕ) → i < 57
         → slice_index_or (bits_from at.entry.bytes.now at.entry.offset) i false ≡ (bit_at result i == 1) }
 {
@@ -116,40 +116,10 @@ fn take_number(at: Cursor, count: u32) -> Option<(u64, Cursor)>
     Some((window(at) & ((1 << count) - 1), skip(at, count)))
 }
 
-/// The delta whose code is next, at most 2 ^ 34, and the place after the code. Most codes stand
-/// whole in one window.
-#[inline]
-pub fn take_code(at: Cursor, parameter: u32) -> Option<(u64, Cursor)>
-    requires some { 0 < parameter }
-    requires few { parameter ≤ 28 }
-    ensures none { IfNone result
-        (delta_at parameter (bits_from at.entry.bytes.now at.entry.offset) ≡ None) }
-    ensures some { IfSome result (λ found. (delta : ℕ)
-        × (delta_at parameter (bits_from at.entry.bytes.now at.entry.offset)
-        ≡ Some (delta, bits_from found.1.bytes.now found.1.offset))
-        × (found.0 ≡ min delta (2 ^ 34))) }
-{
-    if at.bytes.len() >= 8 {
-        let word = window(at);
-        let ones = word.trailing_ones();
-        let count = ones + parameter + 1;
-        if count <= 57 {
-            let low = (word >> (ones + 1)) & ((1 << parameter) - 1);
-            return Some((
-                (u64::from(ones) << parameter) + low,
-                skip(at, count),
-            ));
-        }
-    }
-    // What the call gives is taken apart, so that the way above keeps its parts in registers.
-    let (delta, at) = take_long_code(at, parameter)?;
-    Some((delta, at))
-}
-
-/// The same of any code, the ones first and then the low bits.
+/// The delta whose code is next, at most 2 ^ 34, and the place after the code.
 #[cold]
 #[inline(never)]
-fn take_long_code(at: Cursor, parameter: u32) -> Option<(u64, Cursor)>
+pub fn take_code(at: Cursor, parameter: u32) -> Option<(u64, Cursor)>
     requires some { 0 < parameter }
     requires few { parameter ≤ 28 }
     ensures none { IfNone result

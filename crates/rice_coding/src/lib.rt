@@ -19,6 +19,7 @@ mod encoding;
 mod fault;
 mod laws;
 mod parameter;
+mod place;
 mod reader;
 mod record;
 #[cfg(test)]

@@ -1,7 +1,7 @@
 ghost use Rattle.std.specs.Prelude.{◌≡◌, ◌≢◌, ℕ, ◌↔◌, List, [], ◌∷◌, None, Some, IsOk, IfOk, IfErr, IfSome, IfNone, IsErrOf, Option};
 
-use crate::cursor::Cursor;
-use crate::{RiceFault, RiceRecord, cursor};
+use crate::place::{Place, bits_left, take_delta};
+use crate::{RiceFault, RiceRecord};
 use std::marker::Model;
 
 /// Gives the numbers of a record one at a time, and takes no memory.
@@ -10,7 +10,7 @@ use std::marker::Model;
 #[derive(Drop)]
 pub struct RiceReader<'a> {
     /// Where the next code stands.
-    at: Cursor<'a>,
+    at: Place<'a>,
     parameter: u32,
     /// How many codes are still to be read.
     left: u32,
@@ -26,7 +26,7 @@ impl<'a> Model for RiceReader<'a> {
 
     ghost Value = { Reading };
 
-    ghost view = { λ r. reading_after r.parameter r.left r.given r.value (bits_from r.at.bytes.now r.at.offset) };
+    ghost view = { λ r. reading_after r.parameter r.left r.given r.value (bits_from r.at.bytes.now r.at.bit) };
 
     ghost invariant = { λ r. IsReady r.parameter r.left r.given };
 }
@@ -59,9 +59,9 @@ impl<'a> RiceReader<'a> {
             return Err(RiceFault::Range(0));
         }
         Ok(RiceReader {
-            at: Cursor {
+            at: Place {
                 bytes: coding.coded.as_slice(),
-                offset: 0,
+                bit: 0,
             },
             parameter: coding.parameter,
             left: coding.count,
@@ -88,13 +88,13 @@ impl<'a> RiceReader<'a> {
             return Ok(Some(self.value));
         }
         if self.left == 0 {
-            let bits = cursor::remaining(self.at);
+            let bits = bits_left(self.at);
             if bits >= 8 {
                 return Err(RiceFault::LeftOver(bits));
             }
             return Ok(None);
         }
-        let Some((delta, at)) = cursor::take_code(self.at, self.parameter) else {
+        let Some((delta, at)) = take_delta(self.at, self.parameter) else {
             return Err(RiceFault::Ended(self.given));
         };
         let value = u64::from(self.value) + delta;
