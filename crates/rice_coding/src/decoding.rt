@@ -33,7 +33,6 @@ pub fn decode(alloc: Global, coding: &RiceRecord, limit: u32) -> Result<Row<u32>
 }
 
 /// The values, and after them all that the reader gives.
-#[inline(never)]
 fn read_all(reader: RiceReader, values: Row<u32>) -> Result<Row<u32>, RiceFault>
     ensures values { IfOk result (λ all. all ≡ values ++ reader.entry.values) }
     ensures whole { OnOk result (reader.entry.fault ≡ None) }
@@ -44,6 +43,7 @@ fn read_all(reader: RiceReader, values: Row<u32>) -> Result<Row<u32>, RiceFault>
     let mut values = values;
     while let Some(value) = reader.next()? {
         values.push(value)?;
+        reader.read_on(&mut values)?;
     }
     Ok(values)
 }

@@ -22,6 +22,7 @@ mod parameter;
 mod place;
 mod reader;
 mod record;
+mod run;
 #[cfg(test)]
 mod tests;
 mod writer;

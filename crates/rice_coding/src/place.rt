@@ -33,7 +33,7 @@ pub fn bits_left(at: Place) -> u64
 /// The delta whose code is next, and the place after the code, where the code stands whole in one
 /// window.
 #[inline]
-fn take_short_code(at: Place, parameter: u32) -> Option<(u64, Place)>
+pub fn take_short_code(at: Place, parameter: u32) -> Option<(u64, Place)>
     requires some { 0 < parameter }
     requires few { parameter ≤ 28 }
     ensures { IfSome result (λ found. (delta : ℕ)

@@ -1,7 +1,9 @@
-ghost use Rattle.std.specs.Prelude.{◌≡◌, ◌≢◌, ℕ, ◌↔◌, List, [], ◌∷◌, None, Some, IsOk, IfOk, IfErr, IfSome, IfNone, IsErrOf, Option};
+ghost use Rattle.std.specs.Prelude.{◌≡◌, ◌≢◌, ℕ, ◌≤◌, ◌↔◌, List, [], ◌∷◌, ◌++◌, length, None, Some, IsOk, IfOk, IfErr, IfSome, IfNone, OnOk, IsErrOf, Option};
 
 use crate::place::{Place, bits_left, take_delta};
+use crate::run::read_run;
 use crate::{RiceFault, RiceRecord};
+use sb_model::{OutOfMemory, Row};
 use std::marker::Model;
 
 /// Gives the numbers of a record one at a time, and takes no memory.
@@ -106,5 +108,23 @@ impl<'a> RiceReader<'a> {
         self.given += 1;
         self.value = value as u32;
         Ok(Some(self.value))
+    }
+
+    /// Appends numbers as long as each code stands whole in one window. It is faster than `next`,
+    /// which goes on after it. After an `Err` the reader is not used again.
+    pub(crate) fn read_on(&mut self, values: &mut Row<u32>) -> Result<(), OutOfMemory>
+        ensures values { OnOk result (values.new ++ self.new.values ≡ values.old ++ self.old.values) }
+        ensures fault { OnOk result (self.new.fault ≡ self.old.fault) }
+        ensures longer { OnOk result (length values.old ≤ length values.new) }
+    {
+        if self.given == 0 || self.left == 0 {
+            return Ok(());
+        }
+        let run = read_run(self.at, self.left, self.value, self.parameter, values)?;
+        self.given += u64::from(self.left - run.left);
+        self.at = run.at;
+        self.left = run.left;
+        self.value = run.value;
+        Ok(())
     }
 }
