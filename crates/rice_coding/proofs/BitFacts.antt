@@ -4,7 +4,7 @@ use Rattle.std.specs.Prelude.{OnOk}
 use Rattle.rice_coding.specs.Codes.{code}
 use Rattle.std.proofs.lemmas.List.{append_assoc, length-append, replicate-append-replicate, get_or_append_left, get_or-append_right, length-drop, length-take, get_or-take, get_or_past, drop-drop, drop_at, take_at, take_rest}
 use Rattle.std.proofs.Math.Nat.{pow-suc, pow-le-pow_right, mul-mod_left}
-use Rattle.std.proofs.lemmas.Nat.{pow-add, shr-shr, shr_high, shr_split, shl_whole, shr_below, pow_pos, one_shl, mod_below, and_mask, or_comm, or_shifted, mul-add-lt, mod-pow-add, shl-shr, from_le_bytes-to_le_bytes_8}
+use Rattle.std.proofs.lemmas.Nat.{pow-add, shr-shr, shr_high, shr_split, shl_whole, shl_below, shr_below, pow_pos, one_shl, mod_below, and_mask, or_comm, or_shifted, mul-add-lt, mod-pow-add, shl-shr, from_le_bytes-to_le_bytes_8}
 use Rattle.std.proofs.lemmas.Nat.Bits.{bit_at_lowest, bit_at-suc, bit_at-zero}
 use Rattle.std.proofs.lemmas.Bool.{cases_lt}
 use Rattle.std.specs.Int.{bit_at, w64, from_le_bytes, to_le_bytes}
@@ -303,33 +303,33 @@ ones_more now next total left many is whole =
 pub low_part : (parameter delta : ℕ) → parameter ≤ 28 → bit_and delta (1 * 2 ^ parameter % 2 ^ 32 - 1) ≡ delta % 2 ^ parameter
 low_part parameter delta few = ap (λ (n : ℕ). bit_and delta (n - 1)) (one_shl parameter 32 (omega arith)) ∙ and_mask delta parameter
 
--- low bits stand whole above so many ones and a zero
-pub above_ones : (parameter low ones : ℕ) → low < 2 ^ parameter → parameter ≤ 28 → ones ≤ 31 → low * 2 ^ (ones + 1) % 2 ^ 64 ≡ low * 2 ^ (ones + 1)
-above_ones parameter low ones below few many = shl_whole low parameter (ones + 1) 64 below (omega arith)
+-- low bits, a one below them and so many zeros stand whole in a word
+above_ones : (parameter low ones : ℕ) → low < 2 ^ parameter → parameter ≤ 28 → ones ≤ 31 → (2 * low + 1) * 2 ^ ones % 2 ^ 64 ≡ low * 2 * 2 ^ ones + 2 ^ ones
+above_ones parameter low ones below few many =
+    let odd : 2 * low + 1 < 2 ^ (parameter + 1) = omega (arith, below, pow-add 2 parameter 1) in
+    shl_whole (2 * low + 1) (parameter + 1) ones 64 odd (omega arith) ∙ omega arith
 
-pub code_fits : (parameter low ones : ℕ) → low < 2 ^ parameter → parameter ≤ 28 → ones ≤ 31 → low * 2 ^ (ones + 1) % 2 ^ 64 + (1 * 2 ^ ones % 2 ^ 64 - 1) < 2 ^ (ones + parameter + 1)
+pub code_some : (parameter low ones : ℕ) → low < 2 ^ parameter → parameter ≤ 28 → ones ≤ 31 → 1 ≤ (2 * low + 1) * 2 ^ ones % 2 ^ 64
+code_some parameter low ones below few many = omega (arith, above_ones parameter low ones below few many, pow_pos ones)
+
+pub code_fits : (parameter low ones : ℕ) → low < 2 ^ parameter → parameter ≤ 28 → ones ≤ 31 → (2 * low + 1) * 2 ^ ones % 2 ^ 64 - 1 < 2 ^ (ones + parameter + 1)
 code_fits parameter low ones below few many =
-    let one : 1 * 2 ^ ones % 2 ^ 64 ≡ 2 ^ ones = one_shl ones 64 (omega arith) in
-    let twice : 2 ^ (ones + 1) ≡ 2 ^ ones * 2 = pow-add 2 ones 1 in
-    let size : ones + parameter + 1 ≡ ones + 1 + parameter = omega arith in
-    let some : 0 < 2 ^ ones = pow_pos ones in
-    let whole = above_ones parameter low ones below few many in
-    let P : ℕ → Type 0 = λ n. low * 2 ^ (ones + 1) % 2 ^ 64 + (1 * 2 ^ ones % 2 ^ 64 - 1) < 2 ^ n in
-    subst P (sym size) (omega (arith, one, whole, twice, some, mul-add-lt low (2 ^ (ones + 1)) (2 ^ ones - 1) (2 ^ parameter) below (omega arith), pow-add 2 (ones + 1) parameter))
+    let odd : 2 * low + 1 < 2 ^ (parameter + 1) = omega (arith, below, pow-add 2 parameter 1) in
+    let size : parameter + 1 + ones ≡ ones + parameter + 1 = omega arith in
+    let high : (2 * low + 1) * 2 ^ ones < 2 ^ (parameter + 1 + ones) = shl_below (2 * low + 1) (parameter + 1) ones odd in
+    let whole : (2 * low + 1) * 2 ^ ones % 2 ^ 64 ≡ (2 * low + 1) * 2 ^ ones = shl_whole (2 * low + 1) (parameter + 1) ones 64 odd (omega arith) in
+    let P : ℕ → Type 0 = λ n. (2 * low + 1) * 2 ^ ones % 2 ^ 64 - 1 < 2 ^ n in
+    subst P size (omega (arith, high, whole))
 
 pub low_bits_code : (parameter delta ones : ℕ) → parameter ≤ 28 → ones ≤ 31
-    → low_bits (ones + parameter + 1) (delta % 2 ^ parameter * 2 ^ (ones + 1) % 2 ^ 64 + (1 * 2 ^ ones % 2 ^ 64 - 1)) ≡ replicate ones true ++ false ∷ low_bits parameter delta
+    → low_bits (ones + parameter + 1) ((2 * (delta % 2 ^ parameter) + 1) * 2 ^ ones % 2 ^ 64 - 1) ≡ replicate ones true ++ false ∷ low_bits parameter delta
 low_bits_code parameter delta ones few many =
     let low = delta % 2 ^ parameter in
     let below : low < 2 ^ parameter = mod_below delta (2 ^ parameter) (pow_pos parameter) in
-    let twice : 2 ^ (ones + 1) ≡ 2 ^ ones * 2 = pow-add 2 ones 1 in
     let some : 0 < 2 ^ ones = pow_pos ones in
-    let one : 1 * 2 ^ ones % 2 ^ 64 ≡ 2 ^ ones = one_shl ones 64 (omega arith) in
     let size : ones + parameter + 1 ≡ ones + suc parameter = omega arith in
-    let shifted : low * 2 ^ (ones + 1) ≡ low * 2 * 2 ^ ones = ap (λ (n : ℕ). low * n) twice ∙ omega arith in
-    let parts : low * 2 ^ (ones + 1) % 2 ^ 64 + (1 * 2 ^ ones % 2 ^ 64 - 1) ≡ 2 ^ ones - 1 + low * 2 * 2 ^ ones =
-    omega (arith, one, above_ones parameter low ones below few many, shifted) in
-    ap (λ (n : ℕ). low_bits n (low * 2 ^ (ones + 1) % 2 ^ 64 + (1 * 2 ^ ones % 2 ^ 64 - 1))) size
+    let parts : (2 * low + 1) * 2 ^ ones % 2 ^ 64 - 1 ≡ 2 ^ ones - 1 + low * 2 * 2 ^ ones = omega (arith, some, above_ones parameter low ones below few many) in
+    ap (λ (n : ℕ). low_bits n ((2 * low + 1) * 2 ^ ones % 2 ^ 64 - 1)) size
     ∙ ap (low_bits (ones + suc parameter)) parts
     ∙ low_bits-cat ones (suc parameter) (2 ^ ones - 1) (low * 2) (omega arith)
     ∙ ap (λ (bits : List Bool). bits ++ low_bits (suc parameter) (low * 2)) (low_bits_ones ones)

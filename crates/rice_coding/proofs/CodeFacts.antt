@@ -92,16 +92,16 @@ number_of_word (suc k) (b ∷ bits) n same long =
     let first : cond b 1 0 ≡ n % 2 = ap (λ (b : Bool). cond b 1 0) lowest ∙ digit n in
     omega (arith, mod_suc n k)
 
--- A word whose low 57 bits are the next ones: the ones that it begins with, and the zero after them.
-pub run_ones : (bits : List Bool) (word run : ℕ) → word < 2 ^ 64 → ((i : ℕ) → i < 57 → get_or bits i false ≡ eqb (bit_at word i) 1) → run ≡ trailing_ones w64 word
-    → (i : ℕ) → i < 57 → i < run → get_or bits i false ≡ true
-run_ones bits word run fits same is i within below =
+-- A word whose low bits are the next ones: the ones that it begins with, and the zero after them.
+pub run_ones : (bits : List Bool) (word valid run : ℕ) → word < 2 ^ 64 → ((i : ℕ) → i < valid → get_or bits i false ≡ eqb (bit_at word i) 1) → run ≡ trailing_ones w64 word
+    → (i : ℕ) → i < valid → i < run → get_or bits i false ≡ true
+run_ones bits word valid run fits same is i within below =
     let set : bit_at word i ≡ 1 = trailing_ones_set word fits i (omega arith) in
     same i within ∙ ap (λ (b : ℕ). eqb b 1) set
 
-pub run_zero : (bits : List Bool) (word run : ℕ) → word < 2 ^ 64 → ((i : ℕ) → i < 57 → get_or bits i false ≡ eqb (bit_at word i) 1) → run ≡ trailing_ones w64 word
-    → run < 57 → get_or bits run false ≡ false
-run_zero bits word run fits same is within =
+pub run_zero : (bits : List Bool) (word valid run : ℕ) → word < 2 ^ 64 → valid ≤ 64 → ((i : ℕ) → i < valid → get_or bits i false ≡ eqb (bit_at word i) 1) → run ≡ trailing_ones w64 word
+    → run < valid → get_or bits run false ≡ false
+run_zero bits word valid run fits few same is within =
     let clear : bit_at word (trailing_ones w64 word) ≡ 0 = trailing_ones_clear word fits (omega arith) in
     same run within ∙ ap (λ (n : ℕ). eqb (bit_at word n) 1) is ∙ ap (λ (b : ℕ). eqb b 1) clear
 
@@ -167,20 +167,27 @@ delta_fits ones parameter low few small bound =
 bit_at-shr : (n j i : ℕ) → bit_at n (j + i) ≡ bit_at (n / 2 ^ j) i
 bit_at-shr n j i = ap (λ (m : ℕ). m % 2) (sym (shr-shr n j i))
 
-pub word_code : (bits : List Bool) (word k ones : ℕ) → word < 2 ^ 64 → ((i : ℕ) → i < 57 → get_or bits i false ≡ eqb (bit_at word i) 1) → ones ≡ trailing_ones w64 word
-    → 57 ≤ length bits → ones + k + 1 ≤ 57 → delta_at k bits ≡ Some (ones * 2 ^ k + word / 2 ^ (ones + 1) % 2 ^ k, drop (ones + k + 1) bits)
-word_code bits word k ones fits same is long room =
+pub word_code : (bits : List Bool) (word valid k ones : ℕ) → word < 2 ^ 64 → valid ≤ 64 → ((i : ℕ) → i < valid → get_or bits i false ≡ eqb (bit_at word i) 1)
+    → ones ≡ trailing_ones w64 word → valid ≤ length bits → ones + k + 1 ≤ valid → delta_at k bits ≡ Some (ones * 2 ^ k + word / 2 ^ (ones + 1) % 2 ^ k, drop (ones + k + 1) bits)
+word_code bits word valid k ones fits few same is long room =
     let rest = drop (ones + 1) bits in
     let first : unary bits ≡ Some (ones, rest) =
-    unary_some bits ones (λ i below. run_ones bits word ones fits same is i (omega arith) below) (omega arith) (run_zero bits word ones fits same is (omega arith)) in
+    unary_some bits ones (λ i below. run_ones bits word valid ones fits same is i (omega arith) below) (omega arith) (run_zero bits word valid ones fits few same is (omega arith)) in
     let left : k ≤ length rest = omega (arith, length-drop (ones + 1) bits) in
     let low : number_of (take k rest) ≡ word / 2 ^ (ones + 1) % 2 ^ k =
     number_of_word k rest (word / 2 ^ (ones + 1)) (λ i below.
     get_or-drop (ones + 1) bits i false ∙ same (ones + 1 + i) (omega arith) ∙ ap (λ (b : ℕ). eqb b 1) (bit_at-shr word (ones + 1) i)) left in
     let size : ones + 1 + k ≡ ones + k + 1 = omega arith in
-    delta_at-some k ones bits rest first left
-    ∙ ap (λ (n : ℕ). Some (ones * 2 ^ k + n, drop k rest)) low
-    ∙ ap (λ (bits : List Bool). Some (ones * 2 ^ k + word / 2 ^ (ones + 1) % 2 ^ k, bits)) (drop-drop k (ones + 1) bits ∙ ap (λ (n : ℕ). drop n bits) size)
+    let after : drop k rest ≡ drop (ones + k + 1) bits = drop-drop k (ones + 1) bits ∙ ap (λ (n : ℕ). drop n bits) size in
+    let delta = ones * 2 ^ k + word / 2 ^ (ones + 1) % 2 ^ k in
+    let read : delta_at k bits ≡ Some (delta, drop k rest) = delta_at-some k ones bits rest first left ∙ ap (λ (n : ℕ). Some (ones * 2 ^ k + n, drop k rest)) low in
+    read ∙ ap (λ (bits : List Bool). Some (delta, bits)) after
+
+-- the bits after some of a word's
+pub word_after : (bits : List Bool) (word valid count : ℕ) → count ≤ valid → ((i : ℕ) → i < valid → get_or bits i false ≡ eqb (bit_at word i) 1)
+    → (i : ℕ) → i < valid - count → get_or (drop count bits) i false ≡ eqb (bit_at (word / 2 ^ count) i) 1
+word_after bits word valid count within same i below =
+    get_or-drop count bits i false ∙ same (count + i) (omega arith) ∙ ap (λ (b : ℕ). eqb b 1) (bit_at-shr word count i)
 
 -- and its delta
 pub word_delta : (k ones rest : ℕ) → k ≤ 28 → ones ≤ 56 → ones * 2 ^ k + rest % 2 ^ k < 2 ^ 34

@@ -25,4 +25,5 @@ mod record;
 mod run;
 #[cfg(test)]
 mod tests;
+mod window;
 mod writer;

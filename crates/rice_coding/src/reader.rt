@@ -110,8 +110,8 @@ impl<'a> RiceReader<'a> {
         Ok(Some(self.value))
     }
 
-    /// Appends numbers as long as each code stands whole in one window. It is faster than `next`,
-    /// which goes on after it. After an `Err` the reader is not used again.
+    /// Appends numbers as long as two codes at a time stand whole in one window. It is faster than
+    /// `next`, which goes on after it. After an `Err` the reader is not used again.
     pub(crate) fn read_on(&mut self, values: &mut Row<u32>) -> Result<(), OutOfMemory>
         ensures values { OnOk result (values.new ++ self.new.values ≡ values.old ++ self.old.values) }
         ensures fault { OnOk result (self.new.fault ≡ self.old.fault) }

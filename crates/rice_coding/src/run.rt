@@ -2,7 +2,7 @@ ghost use Rattle.std.specs.Prelude.{◌≡◌, ℕ, ◌+◌, ◌-◌, ◌<◌, �
 ghost use Rattle.rice_coding.specs.Bits.{bits_from};
 ghost use Rattle.rice_coding.specs.Reading.{reading};
 
-use crate::place::{Place, take_short_code};
+use crate::place::{Place, take_pair};
 use sb_model::{OutOfMemory, Row};
 
 /// The codes that are still to be read.
@@ -16,8 +16,8 @@ pub struct Run<'a> {
     pub value: u32,
 }
 
-/// Appends the numbers of so many codes, as long as each stands whole in one window, and gives the
-/// codes that are left.
+/// Appends the numbers of so many codes, as long as two at a time stand whole in one window, and
+/// gives the codes that are left.
 #[inline(never)]
 pub fn read_run<'a>(
     start: Place<'a>,
@@ -26,7 +26,6 @@ pub fn read_run<'a>(
     parameter: u32,
     values: &mut Row<u32>,
 ) -> Result<Run<'a>, OutOfMemory>
-    requires some { 0 < parameter }
     requires few { parameter ≤ 28 }
     ensures left { IfOk result (λ run. run.left ≤ count) }
     ensures longer { length values.old ≤ length values.new }
@@ -44,18 +43,20 @@ pub fn read_run<'a>(
     let mut at = start;
     let mut left = count;
     let mut value = first;
-    while left > 0 {
-        let Some((delta, after)) = take_short_code(at, parameter) else {
+    while left > 1 {
+        let Some(pair) = take_pair(at, parameter) else {
             break;
         };
-        let next = u64::from(value) + delta;
-        if next > u64::from(u32::MAX) {
+        let next = u64::from(value) + pair.first;
+        let last = next + pair.second;
+        if last > u64::from(u32::MAX) {
             break;
         }
         values.push(next as u32)?;
-        at = after;
-        left -= 1;
-        value = next as u32;
+        values.push(last as u32)?;
+        at = pair.after;
+        left -= 2;
+        value = last as u32;
     }
     Ok(Run { at, left, value })
 }

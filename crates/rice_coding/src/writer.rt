@@ -73,10 +73,9 @@ impl BitWriter {
             ones -= 32;
         }
         let low = u64::from(delta & ((1 << parameter) - 1));
-        self.put(
-            (low << (ones + 1)) + ((1 << ones) - 1),
-            ones + parameter + 1,
-        )
+        // The ones are the lowest bits, then comes the zero, and above it the low bits of the delta.
+        let number = ((2 * low + 1) << ones) - 1;
+        self.put(number, ones + parameter + 1)
     }
 
     /// The bytes that hold the bits.
