@@ -1,6 +1,6 @@
 -- Lemmas on the bits of numbers and of byte strings.
 use Rattle.std.proofs.Common.{◌≡◌, inl, inr, ℕ, zero, suc, ◌+◌, ◌-◌, ◌*◌, ◌/◌, ◌%◌, ◌^◌, ◌<◌, ◌≤◌, Bool, true, false, eqb, List, [], ◌∷◌, ◌++◌, length, get_or, take, drop, replicate, refl, sym, ap, ◌∙◌, subst, arith, bit_and, bit_or, Result, Ok, Err}
-use Rattle.std.specs.Prelude.{OnOk}
+use Rattle.std.specs.Prelude.{IfOk}
 use Rattle.rice_coding.specs.Codes.{code}
 use Rattle.std.proofs.lemmas.List.{append_assoc, length-append, replicate-append-replicate, get_or_append_left, get_or-append_right, length-drop, length-take, get_or-take, get_or_past, drop-drop, drop_at, take_at, take_rest}
 use Rattle.std.proofs.Math.Nat.{pow-suc, pow-le-pow_right, mul-mod_left}
@@ -240,18 +240,15 @@ shl_cut number count room size =
     ap (λ (n : ℕ). number * 2 ^ count % 2 ^ n) turned ∙ mod-pow-add (number * 2 ^ count) room count
     ∙ ap (λ (n : ℕ). n % 2 ^ room * 2 ^ count + number * 2 ^ count % 2 ^ count) (shl-shr number count) ∙ omega (arith, none)
 
-pub full_word : (word count number room : ℕ) → word < 2 ^ count → count + room ≡ 64
-    → (bit_or word (number * 2 ^ count % 2 ^ 64) < 2 ^ 64) × (low_bits 64 (bit_or word (number * 2 ^ count % 2 ^ 64)) ≡ low_bits count word ++ low_bits room number)
+full_word : (word count number room : ℕ) → word < 2 ^ count → count + room ≡ 64 → low_bits 64 (bit_or word (number * 2 ^ count % 2 ^ 64)) ≡ low_bits count word ++ low_bits room number
 full_word word count number room fits size =
     let low = number % 2 ^ room in
     let below : low < 2 ^ room = mod_below number (2 ^ room) (pow_pos room) in
     let small : low * 2 ^ count % 2 ^ 64 ≡ number * 2 ^ count % 2 ^ 64 = shl_whole low room count 64 below (omega arith) ∙ sym (shl_cut number count room size) in
-    let P : ℕ → ℕ → Type 0 = λ shifted n. bit_or word shifted < 2 ^ n in
-    let bits : low_bits (count + room) (bit_or word (low * 2 ^ count % 2 ^ 64)) ≡ low_bits count word ++ low_bits room low = put_bits word count low room fits (omega arith) below in (
-      subst (P (number * 2 ^ count % 2 ^ 64)) size (subst (λ shifted. P shifted (count + room)) small (put_fits word count low room fits (omega arith) below)),
-      ap (λ (n : ℕ). low_bits n (bit_or word (number * 2 ^ count % 2 ^ 64))) (sym size)
-          ∙ ap (λ (n : ℕ). low_bits (count + room) (bit_or word n)) (sym small) ∙ bits ∙ ap (λ (bits : List Bool). low_bits count word ++ bits) (low_bits_mod room number),
-    )
+    ap (λ (n : ℕ). low_bits n (bit_or word (number * 2 ^ count % 2 ^ 64))) (sym size)
+    ∙ ap (λ (n : ℕ). low_bits (count + room) (bit_or word n)) (sym small)
+    ∙ put_bits word count low room fits (omega arith) below
+    ∙ ap (λ (bits : List Bool). low_bits count word ++ bits) (low_bits_mod room number)
 
 -- and the others stand in the next one
 pub next_word : (count number bits : ℕ) → count < 64 → 64 ≤ count + bits → number < 2 ^ bits → number / 2 ^ (64 - count) < 2 ^ (count + bits - 64)
@@ -260,22 +257,18 @@ next_word count number bits small long below =
     let P : ℕ → Type 0 = λ n. number < 2 ^ n in
     shr_below number (count + bits - 64) (64 - count) (subst P (sym size) below)
 
-pub put_out : (bytes longer : List ℕ) (word count number bits : ℕ) → word < 2 ^ count → count < 64 → 64 ≤ count + bits
-    → longer ≡ bytes ++ to_le_bytes w64 (bit_or word (number * 2 ^ count % 2 ^ 64))
-    → bits_of longer ++ low_bits (count + bits - 64) (number / 2 ^ (64 - count)) ≡ (bits_of bytes ++ low_bits count word) ++ low_bits bits number
-put_out bytes longer word count number bits fits small long is =
+pub put_out : (old new : List Bool) (word count number bits : ℕ) → word < 2 ^ count → count < 64 → 64 ≤ count + bits
+    → new ≡ old ++ low_bits 64 (bit_or word (number * 2 ^ count % 2 ^ 64))
+    → new ++ low_bits (count + bits - 64) (number / 2 ^ (64 - count)) ≡ (old ++ low_bits count word) ++ low_bits bits number
+put_out old new word count number bits fits small long is =
     let room = 64 - count in
     let rest = count + bits - 64 in
-    let whole = bit_or word (number * 2 ^ count % 2 ^ 64) in
-    let full = full_word word count number room fits (omega arith) in
     let size : room + rest ≡ bits = omega arith in
-    let written : bits_of longer ≡ (bits_of bytes ++ low_bits count word) ++ low_bits room number =
-    ap bits_of is ∙ bits_of-append bytes (to_le_bytes w64 whole)
-    ∙ ap (λ (bits : List Bool). bits_of bytes ++ bits) (bits_of-word whole full.0 ∙ full.1)
-    ∙ sym (append_assoc (bits_of bytes) (low_bits count word) (low_bits room number)) in
+    let written : new ≡ (old ++ low_bits count word) ++ low_bits room number =
+    is ∙ ap (λ (bits : List Bool). old ++ bits) (full_word word count number room fits (omega arith)) ∙ sym (append_assoc old (low_bits count word) (low_bits room number)) in
     ap (λ (bits : List Bool). bits ++ low_bits rest (number / 2 ^ room)) written
-    ∙ append_assoc (bits_of bytes ++ low_bits count word) (low_bits room number) (low_bits rest (number / 2 ^ room))
-    ∙ ap (λ (more : List Bool). (bits_of bytes ++ low_bits count word) ++ more) (sym (low_bits-split room rest number) ∙ ap (λ (n : ℕ). low_bits n number) size)
+    ∙ append_assoc (old ++ low_bits count word) (low_bits room number) (low_bits rest (number / 2 ^ room))
+    ∙ ap (λ (more : List Bool). (old ++ low_bits count word) ++ more) (sym (low_bits-split room rest number) ∙ ap (λ (n : ℕ). low_bits n number) size)
 
 -- the last bits are written out in whole bytes
 pub put_last : (bytes longer : List ℕ) (count word whole : ℕ) → count < 64 → word < 2 ^ count → 8 * whole < count + 8 → count ≤ 8 * whole
@@ -343,6 +336,6 @@ put_code_is old now new parameter delta ones same is =
     ∙ ap (λ (bits : List Bool). bits ++ false ∷ low_bits parameter delta) same
     ∙ append_assoc old (replicate (delta / 2 ^ parameter) true) (false ∷ low_bits parameter delta)
 
-pub on_ok_then : {A E : Type 0} (r : Result A E) {P Q : Type 0} → OnOk r P → (P → Q) → OnOk r Q
-on_ok_then (Ok x) p f = f p
-on_ok_then (Err e) p f = tt
+pub if_ok_then : {A E : Type 0} (r : Result A E) {P Q : A → Type 0} → IfOk r P → ((x : A) → P x → Q x) → IfOk r Q
+if_ok_then (Ok x) p f = f x p
+if_ok_then (Err e) p f = tt

@@ -1,10 +1,9 @@
 -- The differences of rising numbers, and how many bits their codes take.
-use Rattle.std.proofs.Common.{◌≡◌, ◌⊎◌, inl, inr, ℕ, zero, suc, ◌+◌, ◌-◌, ◌*◌, ◌/◌, ◌^◌, ◌<◌, ◌≤◌, Bool, true, false, List, [], ◌∷◌, ◌++◌, length, get_or, drop, replicate, refl, sym, ap, ◌∙◌, subst, None, Result, Ok, Err, take, arith, add-one, cond, nat_le}
+use Rattle.std.proofs.Common.{◌≡◌, ◌⊎◌, inl, inr, ℕ, zero, suc, ◌+◌, ◌-◌, ◌*◌, ◌/◌, ◌^◌, ◌<◌, ◌≤◌, Bool, true, false, List, [], ◌∷◌, ◌++◌, length, get_or, drop, replicate, refl, sym, ap, ◌∙◌, subst, None, take, arith, add-one, cond, nat_le}
 use Rattle.std.proofs.lemmas.Bool.{cases_lt, cases_eq}
 use Rattle.std.proofs.lemmas.Bool.Decides.{nat_tests}
 use Rattle.std.proofs.lemmas.Nat.{shr-shr}
 use Rattle.std.proofs.lemmas.List.{at_drop_more, length-append, length-replicate, append_cancel_left, take_all}
-use Rattle.std.specs.Prelude.{IfOk}
 use Rattle.std.specs.List.{AllByRecursion}
 use Rattle.std.specs.List.Sorted.{IsStrictlyIncreasing}
 use Rattle.rice_coding.specs.declared.record.RiceRecord.{RiceRecord}
@@ -305,10 +304,6 @@ encoding_laws (first ∷ rest) some rising fits =
       single_is first rest,
       made_zeros r rest made,
     )
-
-pub if_ok_then : {A E : Type 0} (r : Result A E) {P Q : A → Type 0} → IfOk r P → ((x : A) → P x → Q x) → IfOk r Q
-if_ok_then (Ok x) p f = f x p
-if_ok_then (Err e) p f = tt
 
 -- the first number and those after it
 pub first_and_rest : (values : List ℕ) → 0 < length values → get_or values 0 0 ∷ take (length values - 1) (drop 1 values) ≡ values

@@ -7,7 +7,7 @@ ghost use Rattle.rice_coding.specs.Rice.{IsRiceRecordOf};
 
 use crate::RiceRecord;
 use crate::parameter::{Choice, best_parameter};
-use crate::writer::BitWriter;
+use crate::writer::{BitWriter, Pending};
 use sb_model::{Bytes, OutOfMemory};
 use std::alloc::Global;
 
@@ -67,10 +67,11 @@ fn write_codes(
         ≡ packed (codes choice.parameter (differences first rest.now))) }
 {
     let mut writer = BitWriter::with_room(alloc, choice.bits)?;
+    let mut pending = Pending::none();
     let mut previous = first;
     for value in rest {
-        writer.put_code(*value - previous, choice.parameter)?;
+        pending = pending.put_code(&mut writer, *value - previous, choice.parameter)?;
         previous = *value;
     }
-    writer.finish()
+    writer.finish(pending)
 }

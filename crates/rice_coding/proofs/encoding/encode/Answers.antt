@@ -3,7 +3,8 @@ use Rattle.std.specs.Prelude.{IfOk}
 use Rattle.rice_coding.specs.declared.record.RiceRecord.{RiceRecord}
 use Rattle.rice_coding.specs.Encoding.{encoding_of, StandsForOnly, HasBestParameter, HasZerosAfter}
 use Rattle.rice_coding.specs.Rice.{AreInRange, IsRiceRecordOf}
-use Rattle.rice_coding.proofs.EncodeFacts.{encoding_laws, in_range, if_ok_then, first_and_rest}
+use Rattle.rice_coding.proofs.BitFacts.{if_ok_then}
+use Rattle.rice_coding.proofs.EncodeFacts.{encoding_laws, in_range, first_and_rest}
 use Rattle.rice_coding.proofs.encoding.encode.Goals as goal
 
 pub returns : goal.returns
