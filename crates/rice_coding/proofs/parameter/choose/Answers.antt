@@ -2,7 +2,7 @@ use Rattle.std.proofs.Common.{◌≡◌, ◌+◌, ◌-◌, ◌/◌, ◌^◌, get
 use Rattle.std.proofs.lemmas.Nat.{shr_le}
 use Rattle.rice_coding.specs.Codes.{coded_length, differences}
 use Rattle.rice_coding.proofs.EncodeFacts.{coded_length-more, differences-drop, get_or-next}
-use Rattle.rice_coding.proofs.parameter.count_bits.Goals as goal
+use Rattle.rice_coding.proofs.parameter.choose.Goals as goal
 
 pub loop-value-preserved : goal.loop-value-preserved
 loop-value-preserved c =

@@ -1,6 +1,6 @@
 use Rattle.std.proofs.Common.{◌≡◌, ◌+◌, ◌*◌, ◌^◌, ◌≤◌, ◌∷◌, get_or, drop}
 use Rattle.rice_coding.specs.Codes.{coded_length, differences}
-use Rattle.rice_coding.proofs.parameter.count_bits.Given as goal
+use Rattle.rice_coding.proofs.parameter.choose.Given as goal
 
 abbrev pub invariant-loop-value : goal.invariant-loop-value
 invariant-loop-value l =
