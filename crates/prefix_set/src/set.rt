@@ -14,6 +14,7 @@ use crate::ApplyFault;
 use crate::difference::{Delta, members_added, places_removed, prefix_of};
 use crate::edit::{Edit, EditParts, numbers_of, packed_of};
 use crate::index::{HeadIndex, head_of, heads_below};
+use crate::iteration::Members;
 use crate::merge::merged;
 use crate::packed::PackedPrefixes;
 use crate::search::place_between;
@@ -279,6 +280,13 @@ impl PrefixSet {
         ensures { result.now ≡ self.now }
     {
         &self.store
+    }
+
+    /// The members as their bytes, rising.
+    pub fn iter(&self) -> Members<'_>
+        ensures { result ≡ self.now }
+    {
+        self.store.packed().iter()
     }
 
     /// The SHA-256 of the members one after the other, in rising order.
