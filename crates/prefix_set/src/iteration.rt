@@ -60,3 +60,10 @@ impl<'a> Iterator for Members<'a> {
         (left, Some(left))
     }
 }
+
+impl<'a> ExactSizeIterator for Members<'a> {
+    #[inline]
+    fn len(&self) -> usize {
+        self.end - self.next
+    }
+}

@@ -65,6 +65,20 @@ impl PackedPrefixes {
         })
     }
 
+    /// These prefixes, in their order.
+    pub(crate) fn from_prefixes(
+        alloc: Global,
+        prefixes: &[Prefix],
+    ) -> Result<PackedPrefixes, OutOfMemory>
+        ensures { IfOk result (λ packed. packed ≡ prefixes.now) }
+    {
+        let mut packed = PackedPrefixes::with_capacity(alloc, 4 * prefixes.len())?;
+        for prefix in prefixes {
+            packed.push_each(prefix.size(), prefix.as_bytes())?;
+        }
+        Ok(packed)
+    }
+
     /// How many prefixes there are.
     #[inline]
     pub(crate) fn len(&self) -> usize
@@ -229,8 +243,10 @@ impl PackedPrefixes {
     /// The prefixes, in their order.
     #[inline]
     pub(crate) fn iter(&self) -> Members<'_>
-        ensures { result ≡ self.now }
+        ensures rest { result ≡ self.now }
+        ensures sizes { All (λ member. IsPrefixSize (length member)) self.now }
     {
+        let _ = &self.bytes;
         Members::of(self)
     }
 
@@ -289,17 +305,6 @@ impl PackedPrefixes {
         Ok(prefixes)
     }
 
-    // These prefixes one after the other.
-    fn of_prefixes(alloc: Global, prefixes: &[Prefix]) -> Result<PackedPrefixes, OutOfMemory>
-        ensures { IfOk result (λ packed. packed ≡ prefixes.now) }
-    {
-        let mut packed = PackedPrefixes::new(alloc);
-        for prefix in prefixes {
-            packed.push_each(prefix.size(), prefix.as_bytes())?;
-        }
-        Ok(packed)
-    }
-
     // The rising list of the prefixes, by way of a copy of each.
     fn sorted_members(&self, alloc: Global) -> Result<PackedPrefixes, OutOfMemory>
         ensures { IfOk result (λ rising. rising ≡ set_of self.now) }
@@ -307,7 +312,7 @@ impl PackedPrefixes {
         let mut prefixes = self.to_prefixes(alloc)?;
         prefixes.sort_unstable();
         prefixes.dedup();
-        PackedPrefixes::of_prefixes(alloc, &prefixes)
+        PackedPrefixes::from_prefixes(alloc, &prefixes)
     }
 
     /// The rising list of the prefixes, without repeats. Where they rise already nothing is sorted

@@ -6,7 +6,7 @@ use Rattle.prefix_set.proofs.packed.PackedPrefixes.sorted_members.Goals as goal
 
 pub returns : goal.returns
 returns c =
-    IfOk-weaker c.of_prefixes.result _ _
+    IfOk-weaker c.from_prefixes.result _ _
     (λ packed is. is ∙ c.deref.ensures.value
     ∙ sorted_without_repeats _ _ _ c.sort_unstable.ensures.permutation c.sort_unstable.ensures.sorted c.dedup.ensures.filtered ∙ ap set_of c.in_ok-prefixes.ensures)
-    c.of_prefixes.ensures
+    c.from_prefixes.ensures

@@ -2,7 +2,7 @@ use Rattle.std.proofs.Common.{◌≡◌, ◌∷◌, [], ◌++◌, List, ℕ, tak
 use Rattle.std.proofs.lemmas.List.{take_more}
 use Rattle.prefix_set.specs.Pieces.{pieces_of}
 use Rattle.prefix_set.proofs.PackedFacts.{pieces_of-itself}
-use Rattle.prefix_set.proofs.packed.PackedPrefixes.of_prefixes.Goals as goal
+use Rattle.prefix_set.proofs.packed.PackedPrefixes.from_prefixes.Goals as goal
 
 pub loop-prefix-preserved : goal.loop-prefix-preserved
 loop-prefix-preserved c =

@@ -1,5 +1,5 @@
 use Rattle.std.proofs.Common.{◌≡◌, take}
-use Rattle.prefix_set.proofs.packed.PackedPrefixes.of_prefixes.Given as goal
+use Rattle.prefix_set.proofs.packed.PackedPrefixes.from_prefixes.Given as goal
 
 -- the prefixes so far
 abbrev pub invariant-loop-prefix : goal.invariant-loop-prefix
