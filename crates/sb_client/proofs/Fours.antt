@@ -47,7 +47,7 @@ fours_are bs =
 
 -- ---- why members make no set
 
-record AreFew (set : List (List ℕ)) : Type 0 where
+pub record AreFew (set : List (List ℕ)) : Type 0 where
   pub count : length set ≤ 1048576
   pub bytes : length (concatenation set) ≤ 8388608
 

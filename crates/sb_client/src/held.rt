@@ -80,6 +80,7 @@ impl HeldList {
             → (result ≡ Ok (UpdateResult.Refused (UpdateFault.TooMany n))) × (self.new ≡ record self.old { resync = true }) }
         ensures large { (n : ℕ) → fault ≡ ApplyFault.TooLarge n
             → (result ≡ Ok (UpdateResult.Refused (UpdateFault.TooLarge n))) × (self.new ≡ record self.old { resync = true }) }
+        ensures index { (index len : ℕ) → fault ≡ ApplyFault.IndexRange index len → IsErr result }
         ensures memory { fault ≡ ApplyFault.OutOfMemory → IsErr result }
         ensures err { OnErr result (self.new ≡ self.old) }
     {
@@ -107,7 +108,7 @@ impl HeldList {
             return self.refuse(UpdateFault::Checksum { computed, given });
         }
         let entries = set.len();
-        self.set = merged.set;
+        self.set = set;
         self.token = new_state;
         self.resync = false;
         UpdateResult::Installed(entries)
