@@ -62,15 +62,13 @@ fn members_rise_without_repeats(rt: HostRuntime) {
 
 #[test]
 fn sizes_may_differ(rt: HostRuntime) {
-    let given = [
-        prefix(&rt, b"bbbb"),
-        prefix(&rt, b"aaaaa"),
-        prefix(&rt, b"aaaa"),
-    ];
-    let set = set_of(rt.alloc(), &rt, &given);
-    assert!(rt; has_members(&set, &[given[2], given[1], given[0]]));
+    let last = prefix(&rt, b"bbbb");
+    let longer = prefix(&rt, b"aaaaa");
+    let first = prefix(&rt, b"aaaa");
+    let set = set_of(rt.alloc(), &rt, &[last, longer, first]);
+    assert!(rt; has_members(&set, &[first, longer, last]));
     assert!(rt; set.has_size(4) && set.has_size(5) && !set.has_size(6));
-    assert!(rt; set.contains(&given[1]) && !set.contains(&prefix(&rt, b"aaaaaa")));
+    assert!(rt; set.contains(&longer) && !set.contains(&prefix(&rt, b"aaaaaa")));
 }
 
 #[test]
