@@ -8,3 +8,10 @@ pub mod LookupFacts
 pub mod MergeFacts
 pub mod SearchFacts
 pub mod SetFacts
+pub mod PackedFacts
+pub mod PackedList
+pub mod SortFacts
+pub mod SortRising
+pub mod SortedQuads
+pub mod PackedSorted
+pub mod PackedEqual

@@ -3,5 +3,6 @@ pub mod Edits
 pub mod Index
 pub mod Kept
 pub mod Limits
+pub mod Packing
 pub mod Pieces
 pub mod Search

@@ -5,6 +5,7 @@
 pub use difference::Delta;
 pub use edit::Edit;
 pub use fault::ApplyFault;
+pub use iteration::Members;
 pub use set::{MAX_BYTES, MAX_PREFIXES, Merged, PrefixSet};
 pub use store::PackedStore;
 
@@ -12,10 +13,13 @@ mod difference;
 mod edit;
 mod fault;
 mod index;
+mod iteration;
+mod layout;
 mod merge;
 mod packed;
 mod search;
 mod set;
+mod sorting;
 mod store;
 #[cfg(test)]
 mod tests;
