@@ -101,18 +101,6 @@ impl Edit {
     }
 }
 
-// These prefixes one after the other.
-pub(crate) fn packed_of(alloc: Global, prefixes: &[Prefix]) -> Result<PackedPrefixes, OutOfMemory>
-    ensures { IfOk result (λ packed. packed ≡ prefixes.now) }
-{
-    let mut packed = PackedPrefixes::new(alloc);
-    for prefix in prefixes {
-        let _ = prefix.size();
-        packed.push(prefix.as_bytes())?;
-    }
-    Ok(packed)
-}
-
 // A copy of these numbers.
 pub(crate) fn numbers_of(alloc: Global, numbers: &[u32]) -> Result<Vec<u32>, OutOfMemory>
     ensures { IfOk result (λ copy. copy.items ≡ numbers.now) }

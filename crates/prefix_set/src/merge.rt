@@ -66,7 +66,7 @@ fn merge_rising(
     requires additions { IsRising additions.now }
     ensures { IfOk result (λ set. set ≡ applied old.now removals.now additions.now) }
 {
-    let mut out = PackedPrefixes::new(alloc);
+    let mut out = PackedPrefixes::with_capacity(alloc, old.byte_len())?;
     let mut done = Walked {
         place: 0,
         removals: 0,

@@ -10,15 +10,15 @@ ghost use Rattle.prefix_set.specs.Index.{HaveHeads, alike_count, count_below};
 ghost use Rattle.prefix_set.specs.Search.{IsSpanOf};
 ghost use Rattle.prefix_set.specs.Limits.{ArePrefixes, IsPrefixSet};
 
-use crate::ApplyFault;
 use crate::difference::{Delta, members_added, places_removed, prefix_of};
-use crate::edit::{Edit, EditParts, numbers_of, packed_of};
+use crate::edit::{Edit, EditParts, numbers_of};
 use crate::index::{HeadIndex, head_of, heads_below};
 use crate::iteration::Members;
 use crate::merge::merged;
 use crate::packed::PackedPrefixes;
 use crate::search::place_between;
-use crate::store::{PackedStore, same_members};
+use crate::store::PackedStore;
+use crate::{ApplyFault, Members};
 use hash_prefixes::Prefix;
 use sb_model::{OutOfMemory, Steps};
 use std::alloc::Global;
@@ -113,7 +113,7 @@ impl PrefixSet {
         ensures no_longer { length (concatenation (set_of prefixes.now))
             ≤ length (concatenation prefixes.now) }
     {
-        let members = packed_of(alloc, prefixes)?.into_rising(alloc)?;
+        let members = PackedPrefixes::from_prefixes(alloc, prefixes)?.into_rising(alloc)?;
         PrefixSet::of_rising(alloc, members)
     }
 
@@ -136,7 +136,7 @@ impl PrefixSet {
         ensures members { IfOk result (λ set. (x : List ℕ) → Contains set x
             ↔ (Stays self.now removals.now x ⊎ Contains additions.now x)) }
     {
-        let additions = packed_of(alloc, additions)?;
+        let additions = PackedPrefixes::from_prefixes(alloc, additions)?;
         self.changed(alloc, numbers_of(alloc, removals)?, additions)
     }
 
@@ -267,6 +267,14 @@ impl PrefixSet {
         prefix_of(self.store.packed().at(index as usize))
     }
 
+    /// The members, rising, each as its bytes.
+    pub fn iter(&self) -> Members<'_>
+        ensures members { result ≡ self.now }
+        ensures prefixes { ArePrefixes self.now }
+    {
+        self.store.packed().iter()
+    }
+
     /// Whether some member has this many bytes. It takes no memory.
     pub fn has_size(&self, size: u8) -> bool
         ensures { IsTrue result
@@ -364,7 +372,7 @@ impl PartialEq for PrefixSet {
     ghost laws = { partial_equiv_from_equiv (lists_equiv nat_list_eq_equiv) };
 
     fn eq(&self, other: &PrefixSet) -> bool {
-        same_members(self.store.packed(), other.store.packed())
+        self.store.packed() == other.store.packed()
     }
 }
 

@@ -74,18 +74,3 @@ impl PackedStore {
         self.packed.at(index as usize).cmp(prefix.as_bytes())
     }
 }
-
-/// Whether two lists of prefixes are one.
-pub(crate) fn same_members(one: &PackedPrefixes, other: &PackedPrefixes) -> bool
-    ensures { result ≡ pointwise (pointwise nat_eq) one.now other.now }
-{
-    if one.len() != other.len() {
-        return false;
-    }
-    for i in 0..one.len() {
-        if one.at(i) != other.at(i) {
-            return false;
-        }
-    }
-    true
-}

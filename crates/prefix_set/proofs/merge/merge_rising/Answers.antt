@@ -6,7 +6,7 @@ use Rattle.prefix_set.proofs.merge.merge_rising.Goals as goal
 
 pub loop-i-init : goal.loop-i-init
 loop-i-init c = record {
-  merged = subst (IsMerged c.args.old.now c.args.removals.now c.args.additions.now 0 0) (sym c.new-out.ensures)
+  merged = subst (IsMerged c.args.old.now c.args.removals.now c.args.additions.now 0 0) (sym c.in_ok-out.ensures)
       (IsMerged-none c.args.old.now c.args.removals.now c.args.additions.now);
   done = done_none c.args.removals.now;
 }
