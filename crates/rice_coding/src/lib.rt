@@ -3,7 +3,8 @@
 //!
 //! `encode` makes the record of a list, `decode` gives the list of a record, and `RiceReader` gives
 //! it one number at a time. `specs/Rice.antt` says which record stands for which list, and `laws`
-//! that `encoding_of` and `decoding_of`, which the contracts cite, go by it.
+//! that `encoding_of` and `decoding_of`, which the contracts cite, go by it. The tests stand in the
+//! crate `rice_coding_tests`.
 #![tactic(auto)]
 
 pub use decoding::decode;
@@ -23,7 +24,5 @@ mod place;
 mod reader;
 mod record;
 mod run;
-#[cfg(test)]
-mod tests;
 mod window;
 mod writer;

@@ -83,12 +83,7 @@ impl Pending {
 
     /// Adds this many low bits of a number, and writes a word where there are 64.
     #[inline]
-    fn put(
-        self,
-        writer: &mut BitWriter,
-        number: u64,
-        count: u32,
-    ) -> Result<Pending, OutOfMemory>
+    fn put(self, writer: &mut BitWriter, number: u64, count: u32) -> Result<Pending, OutOfMemory>
         requires few { count < 64 }
         requires fits { number < 2 ^ count }
         ensures { IfOk result (λ pending.
