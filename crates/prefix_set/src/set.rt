@@ -290,13 +290,6 @@ impl PrefixSet {
         &self.store
     }
 
-    /// The members as their bytes, rising.
-    pub fn iter(&self) -> Members<'_>
-        ensures { result ≡ self.now }
-    {
-        self.store.packed().iter()
-    }
-
     /// The SHA-256 of the members one after the other, in rising order.
     pub fn digest(&self) -> [u8; 32]
         ensures { result ≡ sha256 (concatenation self.now) }

@@ -7,7 +7,7 @@ use Rattle.sb_client.proofs.replay.print_prefixes.Goals as goal
 
 pub loop-prefix-init : goal.loop-prefix-init
 loop-prefix-init g c =
-    let all = c.into_iter-prefix-iterator.ensures.into_iter_gives ∙ c.iter-prefix-items.ensures in
+    let all = c.into_iter-prefix-iterator.ensures.into_iter_gives ∙ c.iter-prefix-items.ensures.members in
     (c.args.page.now, way_start _ _, ap (λ (ps : List (List ℕ)). c.args.page.now ++ flat_map prefix_line ps) all, refl)
 
 pub loop-prefix-preserved : goal.loop-prefix-preserved
