@@ -1,20 +1,19 @@
 -- When a change has no fault, and what a set without one keeps.
-use Rattle.std.proofs.Common.{◌≡◌, ◌≢◌, ℕ, ◌+◌, ◌<◌, ◌≤◌, ◌⊎◌, inl, inr, Bool, true, false, cond, List, [], ◌∷◌, ◌++◌, length, get_or, refl, sym, ap, subst, ◌∙◌, arith}
-use Rattle.std.specs.Prelude.{◌↔◌, nat_le, nat_lt, slice_get, Some, None, Option}
-use Rattle.std.specs.List.{All, Contains, find}
+use Rattle.std.proofs.Common.{◌≡◌, ℕ, ◌+◌, ◌<◌, ◌⊎◌, inl, inr, Bool, true, false, cond, List, [], ◌∷◌, ◌++◌, length, refl, sym, ap, subst, ◌∙◌, arith}
+use Rattle.std.specs.Prelude.{◌↔◌, nat_lt, Some, None, Option}
+use Rattle.std.specs.List.{All, Contains}
 use Rattle.std.proofs.lemmas.Bool.{false≢true, ltb-false, le-ltb, lt-leb}
 use Rattle.std.proofs.lemmas.List.Elements.{All-nil, All-head, All-tail, Contains-append_left, Contains-append_right, Contains-append_cases}
 use Rattle.sb_model.specs.Candidate.{without_places}
 use Rattle.sb_model.specs.Difference.{removed_places, added_members}
-use Rattle.sb_model.specs.Prefixes.{IsRising, set_of, concatenation}
+use Rattle.sb_model.specs.Prefixes.{concatenation}
 use Rattle.sb_model.specs.History.{IsPrefixSize}
-use Rattle.prefix_set.specs.declared.fault.ApplyFault.{ApplyFault}
-use Rattle.prefix_set.specs.declared.fault.ApplyFault.TheVariants.{IndexRange, TooMany, TooLarge}
+use Rattle.prefix_set.specs.declared.fault.ApplyFault.TheVariants.{TooMany, TooLarge}
 use Rattle.prefix_set.specs.Apply.{applied, first_past, limit_fault, fault_of, apply_fault, Stays}
-use Rattle.prefix_set.specs.Limits.{IsPrefixSet, IsWithinLimits, ArePrefixes}
+use Rattle.prefix_set.specs.Limits.{IsPrefixSet, IsWithinLimits}
 use Rattle.prefix_set.proofs.DifferenceFacts.{leads_to_newer, removed_within}
 use Rattle.prefix_set.proofs.KeptFacts.{is_removed, StaysAt, StaysAt-from_kept, kept_from_StaysAt, is_removed_Contains, Contains-is_removed}
-use Rattle.prefix_set.proofs.SetFacts.{rising_nil, rising-set_of, members-set_of}
+use Rattle.prefix_set.proofs.SetFacts.{rising_nil, members-set_of}
 
 -- the set without a member is within the limits
 pub IsPrefixSet-nil : IsPrefixSet []

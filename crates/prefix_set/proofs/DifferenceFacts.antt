@@ -1,23 +1,22 @@
 -- The places that a newer set lacks and the members that an older one lacks, and that they lead from one to the other.
 use Rattle.std.proofs.Common.{◌≡◌, ℕ, zero, suc, ◌+◌, ◌<◌, ◌≤◌, ◌⊎◌, inl, inr, Bool, true, false, cond, not, List, [], ◌∷◌, ◌++◌, length, take, drop, map, get_or, refl, sym, ap, subst, ◌∙◌, arith, append-nil}
-use Rattle.std.specs.Prelude.{◌↔◌, IsTrue, ◌==◌, ◌||◌, nat_le, slice_get, Some, None, if◌then◌else◌}
-use Rattle.std.specs.List.{All, Any, Contains, list_any, enumerate_from, filter, find}
+use Rattle.std.specs.Prelude.{◌↔◌, IsTrue, ◌==◌, ◌||◌, slice_get, Some}
+use Rattle.std.specs.List.{All, Any, Contains, enumerate_from, filter}
 use Rattle.std.specs.Str.{bytes_eq}
 use Rattle.std.specs.Cmp.Lexicographic.{bytes_decides}
-use Rattle.std.proofs.lemmas.Bool.{cases_lt, eqb-true, eq-eqb, false≢true}
-use Rattle.std.proofs.lemmas.List.{take-append-drop, length_push, length-take-le}
+use Rattle.std.proofs.lemmas.Bool.{cases_lt, eq-eqb, false≢true}
+use Rattle.std.proofs.lemmas.List.{take-append-drop, length-take-le}
 use Rattle.std.proofs.lemmas.List.Elements.{All-nil, All-cons, All-weaker, All-filter, All-contains, All-contains_itself, Contains-get_or, Contains-append_left, Contains-append_right, Contains-append_cases, filter_more}
-use Rattle.std.proofs.lemmas.List.Folds.{list_any-from_Any, Any-from_list_any, list_any_none}
+use Rattle.std.proofs.lemmas.List.Folds.{list_any-from_Any, Any-from_list_any}
 use Rattle.std.proofs.lemmas.Option.{get_or_from_slice_get, slice_get_within, slice_get-get_or}
 use Rattle.sb_model.specs.Candidate.{without_places}
 use Rattle.sb_model.specs.Difference.{has_member, removed_places, added_members}
-use Rattle.sb_model.specs.Prefixes.{bytes_cmp, IsRising, set_of}
+use Rattle.sb_model.specs.Prefixes.{IsRising}
 use Rattle.prefix_set.specs.Apply.{applied}
-use Rattle.prefix_set.specs.Kept.{kept_from}
 use Rattle.prefix_set.specs.Search.{run, IsPlaceOf}
 use Rattle.prefix_set.proofs.KeptFacts.{is_removed, length-run, not_equal, StaysAt, StaysAt-from_kept, kept_from_StaysAt}
 use Rattle.prefix_set.proofs.MergeFacts.{Contains-drop, Contains-run_back, front_more}
-use Rattle.prefix_set.proofs.SetFacts.{IsBefore, before_itself, Contains-here, Contains-there, Contains-cases, Contains-nil, rising-set_of, members-set_of, rising_unique}
+use Rattle.prefix_set.proofs.SetFacts.{IsBefore, before_itself, Contains-here, Contains-there, Contains-cases, rising-set_of, members-set_of, rising_unique}
 
 -- ---- members, by the test
 

@@ -1,20 +1,18 @@
 -- An index of rising members by their first two bytes.
-use Rattle.std.proofs.Common.{◌≡◌, ℕ, zero, suc, ◌+◌, ◌-◌, ◌*◌, ◌<◌, ◌≤◌, ◌⊎◌, inl, inr, Bool, true, false, cond, List, [], ◌∷◌, ◌++◌, length, take, drop, map, replicate, get_or, refl, sym, ap, subst, ◌∙◌, arith}
-use Rattle.std.specs.Prelude.{slice_get, slice_index, Some, nat_lt, nat_le}
+use Rattle.std.proofs.Common.{◌≡◌, ℕ, ◌+◌, ◌-◌, ◌<◌, ◌≤◌, ◌⊎◌, inl, inr, Bool, true, cond, List, [], ◌∷◌, ◌++◌, length, take, map, replicate, get_or, refl, sym, ap, subst, ◌∙◌, arith}
+use Rattle.std.specs.Prelude.{slice_get, slice_index, Some, nat_lt}
 use Rattle.std.specs.List.{All, Contains, count_by}
 use Rattle.std.specs.declared.cmp.Ordering.{Ordering}
-use Rattle.std.specs.declared.cmp.Ordering.TheVariants.{Less, Equal, Greater}
+use Rattle.std.specs.declared.cmp.Ordering.TheVariants.{Less}
 use Rattle.std.specs.Ordering.{nat_cmp, ordering_then}
-use Rattle.std.proofs.lemmas.Bool.{cases_lt, ltb-false, ltb-true, le-ltb, lt-ltb}
+use Rattle.std.proofs.lemmas.Bool.{cases_lt, le-ltb, lt-ltb}
 use Rattle.std.proofs.lemmas.Cmp.{by_ranked, ranked}
 use Rattle.std.proofs.lemmas.List.{map_more, take_all, get_or_append_left, get_or-append_right, get_or-replicate, length-append, length-replicate, length-take-le}
 use Rattle.std.proofs.lemmas.List.Elements.{All-more, All-nil, All-weaker, All-contains}
 use Rattle.std.proofs.lemmas.List.Sums.{sum_by-cons, count_by_more_no}
 use Rattle.std.proofs.lemmas.Option.{get_or_from_slice_get, slice_get_within}
-use Rattle.sb_model.specs.History.{IsPrefixSize}
 use Rattle.sb_model.specs.Prefixes.{bytes_cmp, IsRising}
-use Rattle.prefix_set.specs.Index.{head_number, count_below, HaveHeads, ArePlacesOf}
-use Rattle.prefix_set.specs.Limits.{ArePrefixes}
+use Rattle.prefix_set.specs.Index.{head_number, count_below, ArePlacesOf}
 use Rattle.prefix_set.proofs.SearchFacts.{rising_places}
 use Rattle.prefix_set.proofs.SetFacts.{IsBefore, Contains-here, Contains-there}
 

@@ -1,13 +1,12 @@
 -- What is kept of a list when the members at some places are left out.
-use Rattle.std.proofs.Common.{◌≡◌, ℕ, zero, suc, ◌+◌, ◌-◌, ◌<◌, ◌≤◌, ◌⊎◌, inl, inr, Bool, true, false, cond, not, List, [], ◌∷◌, ◌++◌, length, take, drop, map, get_or, refl, sym, ap, subst, ◌∙◌, arith, append_assoc, append-nil, length-append, length-drop}
-use Rattle.std.specs.Prelude.{◌↔◌, ◌==◌, slice_get, Some, slice_index}
-use Rattle.std.specs.List.{All, Any, AllByRecursion, Contains, list_any, enumerate_from, filter}
+use Rattle.std.proofs.Common.{◌≡◌, ℕ, zero, suc, ◌+◌, ◌-◌, ◌<◌, ◌≤◌, ◌⊎◌, inl, inr, Bool, true, false, cond, not, List, [], ◌∷◌, ◌++◌, length, take, drop, map, get_or, refl, sym, ap, subst, ◌∙◌, arith, append_assoc, append-nil, length-drop}
+use Rattle.std.specs.Prelude.{◌↔◌, ◌==◌, slice_get, Some}
+use Rattle.std.specs.List.{Any, AllByRecursion, Contains, list_any, enumerate_from, filter}
 use Rattle.std.specs.List.Sorted.{IsStrictlyIncreasing}
 use Rattle.std.proofs.lemmas.Bool.{cases_lt, eqb-true, eq-eqb}
 use Rattle.std.proofs.lemmas.Bool.Decides.{eqb_tells}
 use Rattle.std.proofs.lemmas.List.{drop-drop, length-take-le, take_all, get_or_default}
 use Rattle.std.proofs.lemmas.Option.{slice_get-get_or}
-use Rattle.std.proofs.lemmas.List.Elements.{Contains-append_left, Contains-append_right, Contains-append_cases}
 use Rattle.std.proofs.lemmas.List.Folds.{list_any-from_Any, Any-from_list_any, list_any_none}
 use Rattle.std.proofs.lemmas.List.Kept.{AllPairs-from_increasing}
 use Rattle.std.proofs.lemmas.Map.Keys.{sorted_head, sorted_tail}
@@ -15,7 +14,7 @@ use Rattle.std.proofs.Math.Seq.{take-add}
 use Rattle.sb_model.specs.Prefixes.{bytes_cmp, IsRising}
 use Rattle.prefix_set.specs.Kept.{kept_from, kept_between, AreDone}
 use Rattle.prefix_set.specs.Search.{run}
-use Rattle.prefix_set.proofs.SetFacts.{IsBefore, rising_cons, rising_nil, Contains-here, Contains-there, Contains-cases, Contains-nil}
+use Rattle.prefix_set.proofs.SetFacts.{IsBefore, rising_cons, Contains-here, Contains-there, Contains-cases, Contains-nil}
 
 -- whether a place is among the removals
 abbrev pub is_removed : List ℕ → ℕ → Bool

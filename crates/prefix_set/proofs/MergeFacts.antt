@@ -1,7 +1,7 @@
 -- A merge of a rising list with removals and rising additions: what holds after each addition, and at the end.
-use Rattle.std.proofs.Common.{◌≡◌, ℕ, zero, suc, ◌+◌, ◌-◌, ◌<◌, ◌≤◌, ◌⊎◌, inl, inr, List, [], ◌∷◌, ◌++◌, length, take, drop, get_or, refl, sym, ap, subst, ◌∙◌, arith, append_assoc, append-nil, length-drop}
+use Rattle.std.proofs.Common.{◌≡◌, ℕ, zero, suc, ◌+◌, ◌-◌, ◌≤◌, ◌⊎◌, inl, inr, List, [], ◌∷◌, ◌++◌, length, take, drop, get_or, sym, ap, subst, ◌∙◌, arith}
 use Rattle.std.specs.Prelude.{◌↔◌, slice_get, Some}
-use Rattle.std.specs.List.{All, AllByRecursion, Contains}
+use Rattle.std.specs.List.{AllByRecursion, Contains}
 use Rattle.std.proofs.lemmas.List.{drop-drop, drop-take, take-append-drop, take_more, drop_more, take_all}
 use Rattle.std.proofs.lemmas.List.Elements.{All-append, All-from_recursion, recursion_from_All, All-contains, Contains-get_or, Contains-append_left, Contains-append_right, Contains-append_cases, Contains-push, Contains-push_cases}
 use Rattle.std.proofs.lemmas.Map.Keys.{sorted_head, sorted_tail}
@@ -11,7 +11,7 @@ use Rattle.sb_model.specs.Candidate.{without_places}
 use Rattle.sb_model.specs.Prefixes.{bytes_cmp, IsRising, set_of}
 use Rattle.prefix_set.specs.Apply.{applied}
 use Rattle.prefix_set.specs.Kept.{kept_from, kept_between, TakesAddition}
-use Rattle.prefix_set.specs.Search.{run, AreBefore, AreAfter, IsPlaceOf}
+use Rattle.prefix_set.specs.Search.{run, AreBefore, IsPlaceOf}
 use Rattle.prefix_set.proofs.KeptFacts.{run_all, kept_split, same_kept, Contains-kept, rising-kept}
 use Rattle.prefix_set.proofs.SetFacts.{IsBefore, before_trans, rising_cons, rising_nil, after_head, Contains-here, Contains-there, Contains-cases, Contains-nil, rising-set_of, members-set_of, rising_unique}
 

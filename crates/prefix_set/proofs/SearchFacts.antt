@@ -1,6 +1,6 @@
 -- Members of a rising list before a prefix, up to a place.
-use Rattle.std.proofs.Common.{◌≡◌, ◌≢◌, ℕ, ◌+◌, ◌-◌, ◌<◌, ◌≤◌, ◌⊎◌, inl, inr, List, [], ◌∷◌, length, take, drop, get_or, Some, refl, sym, subst, ◌∙◌, arith}
-use Rattle.std.specs.List.{All, slice_get}
+use Rattle.std.proofs.Common.{◌≡◌, ◌≢◌, ℕ, ◌+◌, ◌-◌, ◌<◌, ◌≤◌, inl, inr, List, [], length, take, drop, get_or, Some, refl, sym, subst, ◌∙◌, arith}
+use Rattle.std.specs.List.{slice_get}
 use Rattle.std.specs.declared.cmp.Ordering.{Ordering}
 use Rattle.std.specs.declared.cmp.Ordering.TheVariants.{Less, Equal, Greater}
 use Rattle.std.proofs.Common.{Bool, true, false, not}
@@ -13,7 +13,7 @@ use Rattle.std.proofs.lemmas.Option.{get_or_from_slice_get, slice_get_within, sl
 use Rattle.std.proofs.lemmas.Map.Keys.{Less-from_sorted}
 use Rattle.std.proofs.lemmas.Map.Lookups.{exact_bytes}
 use Rattle.sb_model.specs.Prefixes.{bytes_cmp, IsRising}
-use Rattle.prefix_set.specs.Search.{run, AreBefore, AreAfter, IsPlaceOf}
+use Rattle.prefix_set.specs.Search.{AreBefore, IsPlaceOf}
 use Rattle.prefix_set.proofs.SetFacts.{IsBefore, before_trans, before_flip}
 
 -- a member comes before each that stands after it, and each that stands before it

@@ -1,9 +1,9 @@
 use Rattle.std.proofs.Common.{◌≡◌, ℕ, ◌+◌, ◌-◌, ◌<◌, ◌≤◌, List, ◌++◌, length, take, replicate, slice_index, arith, sym, ap, subst, ◌∙◌}
 use Rattle.std.proofs.lemmas.List.{take_all}
 use Rattle.sb_model.specs.History.{IsPrefixSize}
-use Rattle.prefix_set.specs.Index.{head_number, HaveHeads, ArePlacesOf}
+use Rattle.prefix_set.specs.Index.{HaveHeads, ArePlacesOf}
 use Rattle.prefix_set.specs.Limits.{ArePrefixes}
-use Rattle.prefix_set.proofs.IndexFacts.{ArePlacesSoFar, All-next, no_places, places_kept, places_grown, places_all, resized}
+use Rattle.prefix_set.proofs.IndexFacts.{ArePlacesSoFar, All-next, places_kept, places_grown, places_all, resized}
 use Rattle.prefix_set.proofs.index.places.Goals as goal
 use Rattle.prefix_set.proofs.index.places.Goals.{then-head-len+in_ok-resize, else-head-len}
 

@@ -1,4 +1,4 @@
-use Rattle.std.proofs.Common.{◌≡◌, ◌<◌, ◌≤◌, ◌++◌, length, get_or, arith, refl}
+use Rattle.std.proofs.Common.{get_or, arith, refl}
 use Rattle.prefix_set.proofs.KeptFacts.{kept_nothing, kept_run, kept_removed, done_more}
 use Rattle.prefix_set.proofs.merge.copy_kept.Goals as goal
 use Rattle.prefix_set.proofs.merge.copy_kept.Goals.{then-removal-start+in_ok-push_range, else-removal-start, then-loop-removed-test+else-removals-removed, else-loop-removed-test}

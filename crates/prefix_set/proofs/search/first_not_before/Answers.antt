@@ -1,4 +1,4 @@
-use Rattle.std.proofs.Common.{arith, rules, ◌∙◌, sym}
+use Rattle.std.proofs.Common.{arith, ◌∙◌, sym}
 use Rattle.prefix_set.proofs.SearchFacts.{before_upto, less_from_test, not_before_at}
 use Rattle.prefix_set.proofs.search.first_not_before.Goals as goal
 

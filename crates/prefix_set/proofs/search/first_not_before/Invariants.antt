@@ -1,4 +1,4 @@
-use Rattle.std.proofs.Common.{◌≡◌, ◌≢◌, ◌<◌, ◌≤◌, ◌-◌, length, take, slice_index_or, []}
+use Rattle.std.proofs.Common.{◌≢◌, ◌<◌, ◌≤◌, ◌-◌, length, take, slice_index_or, []}
 use Rattle.std.specs.declared.cmp.Ordering.TheVariants.{Less}
 use Rattle.sb_model.specs.Prefixes.{bytes_cmp}
 use Rattle.prefix_set.specs.Search.{AreBefore}

@@ -1,5 +1,5 @@
-use Rattle.std.proofs.Common.{arith, rules, ◌∙◌, sym, ◌≡◌, false}
-use Rattle.prefix_set.proofs.SearchFacts.{before_upto, less_from_test, not_before_at, test_from_not}
+use Rattle.std.proofs.Common.{arith, ◌∙◌, sym}
+use Rattle.prefix_set.proofs.SearchFacts.{before_upto, less_from_test, test_from_not}
 use Rattle.prefix_set.proofs.search.gallop.Goals as goal
 
 pub loop-step-preserved : goal.loop-step-preserved

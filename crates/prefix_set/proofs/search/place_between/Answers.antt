@@ -1,4 +1,4 @@
-use Rattle.std.proofs.Common.{arith, ◌≤◌, length, refl}
+use Rattle.std.proofs.Common.{arith, ◌≤◌, length}
 use Rattle.prefix_set.proofs.SearchFacts.{place_found, place_missed_by_test}
 use Rattle.prefix_set.proofs.search.place_between.Goals as goal
 

@@ -1,11 +1,11 @@
-use Rattle.std.proofs.Common.{◌≡◌, ◌≢◌, ℕ, ◌+◌, ◌-◌, ◌*◌, ◌/◌, ◌^◌, ◌<◌, ◌≤◌, List, [], length, take, drop, get_or, arith, refl, sym, subst, ◌∙◌}
+use Rattle.std.proofs.Common.{◌≡◌, ℕ, ◌+◌, ◌-◌, ◌*◌, ◌/◌, ◌^◌, ◌<◌, ◌≤◌, List, [], length, drop, get_or, arith, refl, sym, subst}
 use Rattle.std.specs.Prelude.{◌↔◌, IsTrue, true, false}
 use Rattle.std.specs.List.{Contains}
 use Rattle.std.proofs.lemmas.List.Sums.{count_by-le-length}
 use Rattle.std.proofs.lemmas.Bool.{false≢true}
 use Rattle.std.proofs.lemmas.Option.{slice_get-get_or}
 use Rattle.prefix_set.specs.Index.{alike_count, begins_alike}
-use Rattle.prefix_set.specs.Search.{AreBefore, AreAfter}
+use Rattle.prefix_set.specs.Search.{AreAfter}
 use Rattle.prefix_set.proofs.LookupFacts.{HasHalved, halved_more, halved_bound, steps_small, found_here, found_nowhere, after_from}
 use Rattle.prefix_set.proofs.SearchFacts.{before_upto}
 use Rattle.prefix_set.proofs.set.PrefixSet.contains_counted.Goals as goal
