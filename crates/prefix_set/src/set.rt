@@ -13,7 +13,6 @@ ghost use Rattle.prefix_set.specs.Limits.{ArePrefixes, IsPrefixSet};
 use crate::difference::{Delta, members_added, places_removed, prefix_of};
 use crate::edit::{Edit, EditParts, numbers_of};
 use crate::index::{HeadIndex, head_of, heads_below};
-use crate::iteration::Members;
 use crate::merge::merged;
 use crate::packed::PackedPrefixes;
 use crate::search::place_between;
