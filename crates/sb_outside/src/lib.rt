@@ -57,8 +57,6 @@ mod tcp_door;
 mod tcp_limits;
 mod tcp_link;
 mod tcp_wire;
-#[cfg(test)]
-mod tests;
 mod traits;
 mod wires;
 mod writing;

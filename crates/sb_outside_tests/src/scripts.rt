@@ -1,5 +1,6 @@
-use crate::*;
+use crate::calls::*;
 use sb_model::{Bytes, Moment, OutOfMemory, Row};
+use sb_outside::*;
 use std::alloc::Global;
 use std::test::Fail;
 
@@ -14,10 +15,10 @@ fn clock_of(alloc: Global, readings: &[u64], room: usize) -> Result<ScriptClock,
 #[test]
 fn a_clock_does_not_go_back(rt: HostRuntime) -> Result<(), Fail> {
     let mut clock = clock_of(rt.alloc(), &[5, 3, 9], 4)?;
-    assert_eq!(rt; clock.now(), Moment(5));
-    assert_eq!(rt; clock.now(), Moment(5));
-    assert_eq!(rt; clock.wait_until(Moment(7)), Moment(7));
-    assert_eq!(rt; clock.now(), Moment(9));
+    assert_eq!(rt; now(&mut clock), 5);
+    assert_eq!(rt; now(&mut clock), 5);
+    assert_eq!(rt; wait_until(&mut clock, 7), 7);
+    assert_eq!(rt; now(&mut clock), 9);
     let answers = [Moment(5), Moment(5), Moment(7), Moment(9)];
     assert_eq!(rt; clock.answers(), Some(answers.as_slice()));
     Ok(())
@@ -26,9 +27,9 @@ fn a_clock_does_not_go_back(rt: HostRuntime) -> Result<(), Fail> {
 #[test]
 fn a_clock_stands_after_its_readings(rt: HostRuntime) -> Result<(), Fail> {
     let mut clock = clock_of(rt.alloc(), &[5], 2)?;
-    assert_eq!(rt; clock.wait_until(Moment(4)), Moment(4));
-    assert_eq!(rt; clock.now(), Moment(5));
-    assert_eq!(rt; clock.now(), Moment(5));
+    assert_eq!(rt; wait_until(&mut clock, 4), 4);
+    assert_eq!(rt; now(&mut clock), 5);
+    assert_eq!(rt; now(&mut clock), 5);
     assert_eq!(rt; clock.answers(), None);
     Ok(())
 }
@@ -37,11 +38,11 @@ fn a_clock_stands_after_its_readings(rt: HostRuntime) -> Result<(), Fail> {
 fn dice_stand_after_their_words(rt: HostRuntime) -> Result<(), Fail> {
     let alloc = rt.alloc();
     let mut dice = ScriptDice::new(alloc, Row::from_slice(alloc, &[8, 1])?, 3)?;
-    assert_eq!(rt; dice.word(), 8);
-    assert_eq!(rt; dice.word(), 1);
-    assert_eq!(rt; dice.word(), 1);
+    assert_eq!(rt; word(&mut dice), 8);
+    assert_eq!(rt; word(&mut dice), 1);
+    assert_eq!(rt; word(&mut dice), 1);
     assert_eq!(rt; dice.given(), Some([8, 1, 1].as_slice()));
-    dice.word();
+    word(&mut dice);
     assert_eq!(rt; dice.given(), None);
     Ok(())
 }
@@ -55,8 +56,8 @@ fn keeper_of(alloc: Global, failing: &[KeepFailure]) -> Result<MemoryKeeper, Out
 #[test]
 fn a_keeper_keeps_what_it_is_handed(rt: HostRuntime) -> Result<(), Fail> {
     let mut keeper = keeper_of(rt.alloc(), &[])?;
-    keeper.replace(b"new")?;
-    let loaded = keeper.load(rt.alloc())?;
+    replace(&mut keeper, b"new")?;
+    let loaded = load(&mut keeper, rt.alloc())?;
     assert_eq!(rt;
         loaded.as_ref().map(|text| text.as_slice()),
         Some(b"new".as_slice())
@@ -72,8 +73,8 @@ fn a_keeper_may_be_left_with_a_front(rt: HostRuntime) -> Result<(), Fail> {
         remains: Remains::Front(2),
     }];
     let mut keeper = keeper_of(rt.alloc(), &failing)?;
-    keeper.load(rt.alloc())?;
-    assert_eq!(rt; keeper.replace(b"new"), Err(KeepFault::Failed));
+    load(&mut keeper, rt.alloc())?;
+    assert_eq!(rt; replace(&mut keeper, b"new"), Err(KeepFault::Failed));
     assert_eq!(rt;
         keeper.kept().map(|text| text.as_slice()),
         Some(b"ne".as_slice())
@@ -90,7 +91,7 @@ fn a_keeper_may_be_left_with_the_old_text(rt: HostRuntime) -> Result<(), Fail> {
         remains: Remains::Old,
     }];
     let mut keeper = keeper_of(rt.alloc(), &failing)?;
-    assert_eq!(rt; keeper.replace(b"new"), Err(KeepFault::Failed));
+    assert_eq!(rt; replace(&mut keeper, b"new"), Err(KeepFault::Failed));
     assert_eq!(rt;
         keeper.kept().map(|text| text.as_slice()),
         Some(b"old".as_slice())
@@ -101,7 +102,7 @@ fn a_keeper_may_be_left_with_the_old_text(rt: HostRuntime) -> Result<(), Fail> {
 #[test]
 fn an_empty_keeper_keeps_nothing(rt: HostRuntime) -> Result<(), Fail> {
     let mut keeper = MemoryKeeper::new(rt.alloc(), None, Row::new(rt.alloc()));
-    assert!(rt; keeper.load(rt.alloc())?.is_none());
+    assert!(rt; load(&mut keeper, rt.alloc())?.is_none());
     OpenGate.pass(Point::Round(1));
     Ok(())
 }

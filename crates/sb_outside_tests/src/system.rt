@@ -1,5 +1,6 @@
-use crate::*;
+use crate::calls::*;
 use sb_model::Moment;
+use sb_outside::*;
 use std::io::ErrorKind;
 use std::test::Fail;
 use std::time::{Duration, Instant};
@@ -8,10 +9,10 @@ use std::{fs, io, time};
 #[test]
 fn a_file_keeps_the_last_text(rt: HostRuntime) -> Result<(), Fail> {
     let mut keeper = FileKeeper::new(&rt, rt.alloc(), "sb_outside_kept.bin")?;
-    assert!(rt; keeper.load(rt.alloc())?.is_none());
-    keeper.replace(b"a long first text")?;
-    keeper.replace(b"second")?;
-    let text = keeper.load(rt.alloc())?;
+    assert!(rt; load(&mut keeper, rt.alloc())?.is_none());
+    replace(&mut keeper, b"a long first text")?;
+    replace(&mut keeper, b"second")?;
+    let text = load(&mut keeper, rt.alloc())?;
     assert_eq!(rt;
         text.as_ref().map(|text| text.as_slice()),
         Some(b"second".as_slice())
@@ -25,8 +26,8 @@ fn a_file_keeps_the_last_text(rt: HostRuntime) -> Result<(), Fail> {
 #[test]
 fn a_text_that_cannot_be_written_is_a_fault(rt: HostRuntime) -> Result<(), Fail> {
     let mut keeper = FileKeeper::new(&rt, rt.alloc(), "no_such_folder/kept.bin")?;
-    assert!(rt; keeper.load(rt.alloc())?.is_none());
-    assert_eq!(rt; keeper.replace(b"text"), Err(KeepFault::Failed));
+    assert!(rt; load(&mut keeper, rt.alloc())?.is_none());
+    assert_eq!(rt; replace(&mut keeper, b"text"), Err(KeepFault::Failed));
     assert_eq!(rt; keeper.faults(), 1);
     Ok(())
 }
@@ -34,7 +35,7 @@ fn a_text_that_cannot_be_written_is_a_fault(rt: HostRuntime) -> Result<(), Fail>
 #[test]
 fn a_folder_is_no_file_to_load(rt: HostRuntime) -> Result<(), Fail> {
     let mut keeper = FileKeeper::new(&rt, rt.alloc(), ".")?;
-    let loaded = keeper.load(rt.alloc());
+    let loaded = load(&mut keeper, rt.alloc());
     assert_eq!(rt; loaded.err(), Some(KeepFault::Failed));
     Ok(())
 }
@@ -42,9 +43,9 @@ fn a_folder_is_no_file_to_load(rt: HostRuntime) -> Result<(), Fail> {
 #[test]
 fn a_keeper_with_no_path_fails(rt: HostRuntime) {
     let mut keeper = FileKeeper::unusable(&rt);
-    let loaded = keeper.load(rt.alloc());
+    let loaded = load(&mut keeper, rt.alloc());
     assert_eq!(rt; loaded.err(), Some(KeepFault::Failed));
-    assert_eq!(rt; keeper.replace(b"text"), Err(KeepFault::Failed));
+    assert_eq!(rt; replace(&mut keeper, b"text"), Err(KeepFault::Failed));
     assert_eq!(rt; keeper.faults(), 2);
 }
 
@@ -76,9 +77,9 @@ impl time::Clock for NoClock {
 #[test]
 fn a_clock_that_cannot_be_read_stands(rt: HostRuntime) {
     let mut clock = SystemClock::new(&NoClock);
-    assert_eq!(rt; clock.now(), Moment(0));
-    assert_eq!(rt; clock.wait_until(Moment(7)), Moment(7));
-    assert_eq!(rt; clock.now(), Moment(7));
+    assert_eq!(rt; now(&mut clock), 0);
+    assert_eq!(rt; wait_until(&mut clock, 7), 7);
+    assert_eq!(rt; now(&mut clock), 7);
 }
 
 /// The first words are the upper halves of 7806831264735756412 and 9396908728118811419, which were computed
@@ -86,8 +87,8 @@ fn a_clock_that_cannot_be_read_stands(rt: HostRuntime) {
 #[test]
 fn dice_count_on_from_their_seed(rt: HostRuntime) {
     let mut dice = SystemDice::from_seed(1);
-    assert_eq!(rt; dice.word(), 1_817_669_548);
-    assert_eq!(rt; dice.word(), 2_187_888_307);
+    assert_eq!(rt; word(&mut dice), 1_817_669_548);
+    assert_eq!(rt; word(&mut dice), 2_187_888_307);
     let mut by_the_clock = SystemDice::new(&NoClock);
-    assert_eq!(rt; by_the_clock.word(), 335_903_614);
+    assert_eq!(rt; word(&mut by_the_clock), 335_903_614);
 }

@@ -1,11 +1,19 @@
-use super::pieces_of;
-use crate::*;
+use crate::calls::*;
 use sb_model::{Bytes, OutOfMemory, Row};
+use sb_outside::*;
 use std::alloc::Global;
 use std::fs::File;
 use std::io::{ErrorKind, Read, Write};
 use std::test::Fail;
 use std::{fs, io};
+
+fn pieces_of(alloc: Global, texts: &[&[u8]]) -> Result<Row<Bytes>, OutOfMemory> {
+    let mut pieces = Row::new(alloc);
+    for text in texts {
+        pieces.push(Bytes::from_slice(alloc, text)?)?;
+    }
+    Ok(pieces)
+}
 
 #[test]
 fn memory_source_gives_pieces_and_ends(rt: HostRuntime) -> Result<(), Fail> {
@@ -14,20 +22,20 @@ fn memory_source_gives_pieces_and_ends(rt: HostRuntime) -> Result<(), Fail> {
     let failing = Row::from_slice(alloc, &[2])?;
     let mut source = MemorySource::new(pieces, failing).with_step(3);
     let mut buffer = [0; 4];
-    assert_eq!(rt; source.read(&mut buffer), Ok(3));
+    assert_eq!(rt; read(&mut source, &mut buffer), Ok(3));
     assert_eq!(rt; buffer[..3], b"hel"[..]);
-    assert_eq!(rt; source.read(&mut buffer), Err(Failed));
+    assert_eq!(rt; read(&mut source, &mut buffer), Err(Failed));
     assert_eq!(rt; source.faults(), 1);
-    assert_eq!(rt; source.read(&mut buffer[..0]), Ok(0));
-    assert_eq!(rt; source.read(&mut buffer), Ok(2));
+    assert_eq!(rt; read(&mut source, &mut buffer[..0]), Ok(0));
+    assert_eq!(rt; read(&mut source, &mut buffer), Ok(2));
     assert_eq!(rt; buffer[..2], b"lo"[..]);
     for _ in 0..2 {
-        assert_eq!(rt; source.read(&mut buffer), Ok(0));
+        assert_eq!(rt; read(&mut source, &mut buffer), Ok(0));
     }
-    assert_eq!(rt; source.read(&mut buffer), Ok(2));
+    assert_eq!(rt; read(&mut source, &mut buffer), Ok(2));
     assert_eq!(rt; buffer[..2], b"ok"[..]);
     for _ in 0..2 {
-        assert_eq!(rt; source.read(&mut buffer), Ok(0));
+        assert_eq!(rt; read(&mut source, &mut buffer), Ok(0));
     }
     Ok(())
 }
@@ -37,12 +45,12 @@ fn memory_sink_takes_until_its_room_is_full(rt: HostRuntime) -> Result<(), Fail>
     let alloc = rt.alloc();
     let failing = Row::from_slice(alloc, &[3])?;
     let mut sink = MemorySink::new(alloc, 8, failing)?.with_step(3);
-    write_all(&mut sink, b"hello")?;
-    assert_eq!(rt; write_all(&mut sink, b"x"), Err(Failed));
-    write_all(&mut sink, b"x")?;
+    write_whole(&mut sink, b"hello")?;
+    assert_eq!(rt; write_whole(&mut sink, b"x"), Err(Failed));
+    write_whole(&mut sink, b"x")?;
     assert_eq!(rt; sink.faults(), 1);
-    assert_eq!(rt; write_all(&mut sink, b"abc"), Err(Failed));
-    assert_eq!(rt; sink.write(b""), Ok(0));
+    assert_eq!(rt; write_whole(&mut sink, b"abc"), Err(Failed));
+    assert_eq!(rt; write(&mut sink, b""), Ok(0));
     assert_eq!(rt; sink.bytes(), b"hellox".as_slice());
     assert_eq!(rt; sink.faults(), 2);
     Ok(())
@@ -51,15 +59,15 @@ fn memory_sink_takes_until_its_room_is_full(rt: HostRuntime) -> Result<(), Fail>
 #[test]
 fn a_file_takes_bytes_and_gives_them_back(rt: HostRuntime) -> Result<(), Fail> {
     let mut sink = StdSink::new(File::create(&rt, "sb_outside_test.bin")?);
-    write_all(&mut sink, b"one file")?;
+    write_whole(&mut sink, b"one file")?;
     sink.flush()?;
     assert_eq!(rt; sink.faults(), 0);
     drop(sink);
     let mut source = StdSource::new(File::open(&rt, "sb_outside_test.bin")?);
     let mut buffer = [0; 16];
-    assert_eq!(rt; source.read(&mut buffer), Ok(8));
+    assert_eq!(rt; read(&mut source, &mut buffer), Ok(8));
     assert_eq!(rt; buffer[..8], b"one file"[..]);
-    assert_eq!(rt; source.read(&mut buffer), Ok(0));
+    assert_eq!(rt; read(&mut source, &mut buffer), Ok(0));
     assert_eq!(rt; source.faults(), 0);
     fs::remove_file(&rt, "sb_outside_test.bin")?;
     Ok(())
@@ -116,11 +124,11 @@ fn a_reader_that_fails_is_a_fault_and_no_end(rt: HostRuntime) {
     ];
     let mut source = StdSource::new(Reads(&calls));
     let mut buffer = [0; 3];
-    assert_eq!(rt; source.read(&mut buffer), Ok(2));
+    assert_eq!(rt; read(&mut source, &mut buffer), Ok(2));
     assert_eq!(rt; buffer, *b"xx\0");
-    assert_eq!(rt; source.read(&mut buffer), Err(Failed));
-    assert_eq!(rt; source.read(&mut buffer), Ok(1));
-    assert_eq!(rt; source.read(&mut buffer), Ok(0));
+    assert_eq!(rt; read(&mut source, &mut buffer), Err(Failed));
+    assert_eq!(rt; read(&mut source, &mut buffer), Ok(1));
+    assert_eq!(rt; read(&mut source, &mut buffer), Ok(0));
     assert_eq!(rt; source.faults(), 1);
 }
 
@@ -134,11 +142,11 @@ fn a_writer_that_fails_or_takes_nothing_is_a_fault(rt: HostRuntime) {
         Ok(0),
     ];
     let mut sink = StdSink::new(Writes(&calls));
-    assert_eq!(rt; sink.write(b"abc"), Ok(2));
-    assert_eq!(rt; sink.write(b"abc"), Err(Failed));
-    assert_eq!(rt; sink.write(b"abc"), Ok(3));
+    assert_eq!(rt; write(&mut sink, b"abc"), Ok(2));
+    assert_eq!(rt; write(&mut sink, b"abc"), Err(Failed));
+    assert_eq!(rt; write(&mut sink, b"abc"), Ok(3));
     assert_eq!(rt; sink.flush(), Ok(()));
-    assert_eq!(rt; sink.write(b"abc"), Err(Failed));
+    assert_eq!(rt; write(&mut sink, b"abc"), Err(Failed));
     assert_eq!(rt; sink.flush(), Err(Failed));
     assert_eq!(rt; sink.faults(), 3);
 }
@@ -147,8 +155,8 @@ fn a_writer_that_fails_or_takes_nothing_is_a_fault(rt: HostRuntime) {
 fn what_could_not_be_had_fails_always(rt: HostRuntime) {
     let mut source = StdSource::<File>::unusable();
     let mut sink = StdSink::<File>::unusable();
-    assert_eq!(rt; source.read(&mut []), Err(Failed));
-    assert_eq!(rt; sink.write(b""), Err(Failed));
+    assert_eq!(rt; read(&mut source, &mut []), Err(Failed));
+    assert_eq!(rt; write(&mut sink, b""), Err(Failed));
     assert_eq!(rt; sink.flush(), Err(Failed));
     assert_eq!(rt; source.faults(), 1);
     assert_eq!(rt; sink.faults(), 2);

@@ -1,5 +1,6 @@
-use crate::*;
+use crate::calls::*;
 use sb_model::{Bytes, Moment, OutOfMemory, Row};
+use sb_outside::*;
 use std::alloc::Global;
 use std::process::Abort;
 use std::test::Fail;
@@ -30,13 +31,13 @@ fn a_session_is_logged(rt: HostRuntime) -> Result<(), Fail> {
     let play = play_of(rt.alloc(), b"answer", 8, &[])?;
     let mut link = link_of(rt.alloc(), play, 1)?.with_step(4);
     let mut buffer = [0; 16];
-    assert_eq!(rt; link.begin(Moment(10), Kind::Find), Ok(()));
-    assert_eq!(rt; link.send(b"question"), Ok(()));
-    assert_eq!(rt; link.recv(&mut buffer), Ok(4));
-    assert_eq!(rt; link.recv(&mut buffer), Ok(2));
+    assert_eq!(rt; begin(&mut link, 10), Ok(()));
+    assert_eq!(rt; send(&mut link, b"question"), Ok(()));
+    assert_eq!(rt; recv(&mut link, &mut buffer), Ok(4));
+    assert_eq!(rt; recv(&mut link, &mut buffer), Ok(2));
     assert_eq!(rt; buffer[..2], b"er"[..]);
-    assert_eq!(rt; link.recv(&mut buffer), Ok(0));
-    link.close(Moment(20));
+    assert_eq!(rt; recv(&mut link, &mut buffer), Ok(0));
+    close(&mut link, 20);
     let log = link.into_log().ok_or("the log is not told")?;
     assert_eq!(rt; log.len(), 1);
     assert_session(&rt, log.at(0));
@@ -49,10 +50,10 @@ fn calls_fail_where_they_are_listed_and_where_the_room_is_passed(
 ) -> Result<(), Fail> {
     let play = play_of(rt.alloc(), b"answer", 3, &[3])?;
     let mut link = link_of(rt.alloc(), play, 1)?;
-    assert_eq!(rt; link.begin(Moment(1), Kind::Update), Ok(()));
-    assert_eq!(rt; link.send(b"four"), Err(Failed));
-    assert_eq!(rt; link.recv(&mut [0]), Err(Failed));
-    assert_eq!(rt; link.recv(&mut [0]), Ok(1));
+    assert_eq!(rt; begin(&mut link, 1), Ok(()));
+    assert_eq!(rt; send(&mut link, b"four"), Err(Failed));
+    assert_eq!(rt; recv(&mut link, &mut [0]), Err(Failed));
+    assert_eq!(rt; recv(&mut link, &mut [0]), Ok(1));
     assert_eq!(rt; link.faults(), 2);
     Ok(())
 }
@@ -61,12 +62,12 @@ fn calls_fail_where_they_are_listed_and_where_the_room_is_passed(
 fn calls_fail_where_no_session_is_open(rt: HostRuntime) -> Result<(), Fail> {
     let play = play_of(rt.alloc(), b"answer", 3, &[])?;
     let mut link = link_of(rt.alloc(), play, 2)?;
-    assert_eq!(rt; link.send(b""), Err(Failed));
-    assert_eq!(rt; link.begin(Moment(1), Kind::Update), Ok(()));
-    link.close(Moment(2));
-    assert_eq!(rt; link.recv(&mut [0]), Err(Failed));
-    assert_eq!(rt; link.begin(Moment(3), Kind::Update), Err(Failed));
-    assert_eq!(rt; link.send(b"x"), Err(Failed));
+    assert_eq!(rt; send(&mut link, b""), Err(Failed));
+    assert_eq!(rt; begin(&mut link, 1), Ok(()));
+    close(&mut link, 2);
+    assert_eq!(rt; recv(&mut link, &mut [0]), Err(Failed));
+    assert_eq!(rt; begin(&mut link, 3), Err(Failed));
+    assert_eq!(rt; send(&mut link, b"x"), Err(Failed));
     assert_eq!(rt; link.faults(), 4);
     Ok(())
 }
@@ -75,8 +76,8 @@ fn calls_fail_where_no_session_is_open(rt: HostRuntime) -> Result<(), Fail> {
 fn a_link_logs_as_many_sessions_as_have_room(rt: HostRuntime) -> Result<(), Fail> {
     let play = play_of(rt.alloc(), b"", 0, &[1])?;
     let mut link = link_of(rt.alloc(), play, 1)?;
-    assert_eq!(rt; link.begin(Moment(1), Kind::Update), Err(Failed));
-    assert_eq!(rt; link.begin(Moment(2), Kind::Update), Err(Failed));
+    assert_eq!(rt; begin(&mut link, 1), Err(Failed));
+    assert_eq!(rt; begin(&mut link, 2), Err(Failed));
     assert!(rt; link.into_log().is_none());
     Ok(())
 }
