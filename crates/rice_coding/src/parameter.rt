@@ -39,7 +39,7 @@ fn likely_parameter(first: u32, rest: &[u32]) -> u32
     mean.max(4).ilog2().min(28)
 }
 
-/// The parameter with the fewest bits of those down to 2 that no better one parts from a given one.
+/// Goes down from a parameter as long as the next one takes no more bits.
 fn walk_down(first: u32, rest: &[u32], start: Choice) -> Choice
     requires rising { IsStrictlyIncreasing (first ∷ rest.now) }
     requires few { length rest.now < 2 ^ 20 }
@@ -65,7 +65,8 @@ fn walk_down(first: u32, rest: &[u32], start: Choice) -> Choice
     best
 }
 
-/// The best parameter, where those below a given one take more bits than it does.
+/// Goes up from a parameter as long as the next one takes fewer bits. Where the one below it takes
+/// more, this ends at the best parameter.
 fn walk_up(first: u32, rest: &[u32], start: Choice) -> Choice
     requires rising { IsStrictlyIncreasing (first ∷ rest.now) }
     requires few { length rest.now < 2 ^ 20 }
