@@ -2,7 +2,6 @@ use crate::calls::*;
 use sb_model::{Bytes, OutOfMemory, Row};
 use sb_outside::*;
 use std::alloc::Global;
-use std::test::Fail;
 
 fn wire_of(alloc: Global, sends: &[u8], failing_writes: &[u64]) -> Result<MemoryWire, OutOfMemory> {
     let failing = Row::from_slice(alloc, failing_writes)?;
@@ -42,54 +41,56 @@ fn flags(door: &MemoryDoor, number: usize) -> Option<(bool, bool, bool)> {
 }
 
 #[test]
-fn connections_come_one_after_the_other(rt: HostRuntime) -> Result<(), Fail> {
-    let mut door = door_of(rt.alloc(), 2)?;
-    assert!(rt; next(&mut door)?.is_some());
+fn connections_come_one_after_the_other(rt: HostRuntime) {
+    let mut door = door_of(rt.alloc(), 2).expect(&rt, "it failed");
+    assert!(rt; next(&mut door).expect(&rt, "it failed").is_some());
     assert!(rt; next(&mut door).is_err());
-    assert!(rt; next(&mut door)?.is_some());
-    assert!(rt; next(&mut door)?.is_none());
+    assert!(rt; next(&mut door).expect(&rt, "it failed").is_some());
+    assert!(rt; next(&mut door).expect(&rt, "it failed").is_none());
     assert_eq!(rt; door.faults(), 1);
-    Ok(())
 }
 
 #[test]
-fn a_connection_is_logged_when_it_comes_back(rt: HostRuntime) -> Result<(), Fail> {
-    let mut door = door_of(rt.alloc(), 2)?;
-    let mut wire = next(&mut door)?.ok_or("no connection came")?;
+fn a_connection_is_logged_when_it_comes_back(rt: HostRuntime) {
+    let mut door = door_of(rt.alloc(), 2).expect(&rt, "it failed");
+    let mut wire = next(&mut door)
+        .expect(&rt, "it failed")
+        .expect(&rt, "no connection came");
     let mut buffer = [0; 16];
     assert_eq!(rt; read(&mut wire, &mut buffer), Ok(3));
     assert_eq!(rt; read(&mut wire, &mut buffer), Ok(0));
-    write_whole(&mut wire, b"bye")?;
+    assert_eq!(rt; write_whole(&mut wire, b"bye"), Ok(()));
     done(&mut door, wire);
     assert!(rt; logs(&door, 0, b"one", b"bye"));
     assert_eq!(rt; flags(&door, 0), Some((true, false, false)));
-    Ok(())
 }
 
 #[test]
-fn connections_come_back_in_any_order(rt: HostRuntime) -> Result<(), Fail> {
-    let mut door = door_of(rt.alloc(), 2)?;
-    let first = next(&mut door)?.ok_or("no connection came")?;
+fn connections_come_back_in_any_order(rt: HostRuntime) {
+    let mut door = door_of(rt.alloc(), 2).expect(&rt, "it failed");
+    let first = next(&mut door)
+        .expect(&rt, "it failed")
+        .expect(&rt, "no connection came");
     assert!(rt; next(&mut door).is_err());
-    let mut second = next(&mut door)?.ok_or("no connection came")?;
+    let mut second = next(&mut door)
+        .expect(&rt, "it failed")
+        .expect(&rt, "no connection came");
     assert_eq!(rt; read(&mut second, &mut [0; 16]), Ok(4));
-    write_whole(&mut second, b"abcd")?;
+    assert_eq!(rt; write_whole(&mut second, b"abcd"), Ok(()));
     assert_eq!(rt; write_whole(&mut second, b"e"), Err(Failed));
     done(&mut door, second);
     done(&mut door, first);
     assert!(rt; logs(&door, 0, b"", b""));
     assert!(rt; logs(&door, 1, b"seco", b"abcd"));
     assert_eq!(rt; flags(&door, 1), Some((false, false, true)));
-    Ok(())
 }
 
 #[test]
-fn a_door_logs_as_many_connections_as_have_room(rt: HostRuntime) -> Result<(), Fail> {
-    let mut door = door_of(rt.alloc(), 1)?;
-    assert!(rt; next(&mut door)?.is_some());
+fn a_door_logs_as_many_connections_as_have_room(rt: HostRuntime) {
+    let mut door = door_of(rt.alloc(), 1).expect(&rt, "it failed");
+    assert!(rt; next(&mut door).expect(&rt, "it failed").is_some());
     assert!(rt; next(&mut door).is_err());
     assert!(rt; door.log().is_some());
-    assert!(rt; next(&mut door)?.is_some());
+    assert!(rt; next(&mut door).expect(&rt, "it failed").is_some());
     assert!(rt; door.log().is_none());
-    Ok(())
 }

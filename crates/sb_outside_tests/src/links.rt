@@ -3,7 +3,6 @@ use sb_model::{Bytes, Moment, OutOfMemory, Row};
 use sb_outside::*;
 use std::alloc::Global;
 use std::process::Abort;
-use std::test::Fail;
 
 fn play_of(alloc: Global, gives: &[u8], room: usize, failing: &[u64]) -> Result<Play, OutOfMemory> {
     let failing = Row::from_slice(alloc, failing)?;
@@ -27,9 +26,11 @@ fn assert_session(rt: &impl Abort, session: &Session) {
 }
 
 #[test]
-fn a_session_is_logged(rt: HostRuntime) -> Result<(), Fail> {
-    let play = play_of(rt.alloc(), b"answer", 8, &[])?;
-    let mut link = link_of(rt.alloc(), play, 1)?.with_step(4);
+fn a_session_is_logged(rt: HostRuntime) {
+    let play = play_of(rt.alloc(), b"answer", 8, &[]).expect(&rt, "it failed");
+    let mut link = link_of(rt.alloc(), play, 1)
+        .expect(&rt, "it failed")
+        .with_step(4);
     let mut buffer = [0; 16];
     assert_eq!(rt; begin(&mut link, 10), Ok(()));
     assert_eq!(rt; send(&mut link, b"question"), Ok(()));
@@ -38,30 +39,26 @@ fn a_session_is_logged(rt: HostRuntime) -> Result<(), Fail> {
     assert_eq!(rt; buffer[..2], b"er"[..]);
     assert_eq!(rt; recv(&mut link, &mut buffer), Ok(0));
     close(&mut link, 20);
-    let log = link.into_log().ok_or("the log is not told")?;
+    let log = link.into_log().expect(&rt, "the log is not told");
     assert_eq!(rt; log.len(), 1);
     assert_session(&rt, log.at(0));
-    Ok(())
 }
 
 #[test]
-fn calls_fail_where_they_are_listed_and_where_the_room_is_passed(
-    rt: HostRuntime,
-) -> Result<(), Fail> {
-    let play = play_of(rt.alloc(), b"answer", 3, &[3])?;
-    let mut link = link_of(rt.alloc(), play, 1)?;
+fn listed_calls_fail_and_those_that_pass_the_room(rt: HostRuntime) {
+    let play = play_of(rt.alloc(), b"answer", 3, &[3]).expect(&rt, "it failed");
+    let mut link = link_of(rt.alloc(), play, 1).expect(&rt, "it failed");
     assert_eq!(rt; begin(&mut link, 1), Ok(()));
     assert_eq!(rt; send(&mut link, b"four"), Err(Failed));
     assert_eq!(rt; recv(&mut link, &mut [0]), Err(Failed));
     assert_eq!(rt; recv(&mut link, &mut [0]), Ok(1));
     assert_eq!(rt; link.faults(), 2);
-    Ok(())
 }
 
 #[test]
-fn calls_fail_where_no_session_is_open(rt: HostRuntime) -> Result<(), Fail> {
-    let play = play_of(rt.alloc(), b"answer", 3, &[])?;
-    let mut link = link_of(rt.alloc(), play, 2)?;
+fn calls_fail_where_no_session_is_open(rt: HostRuntime) {
+    let play = play_of(rt.alloc(), b"answer", 3, &[]).expect(&rt, "it failed");
+    let mut link = link_of(rt.alloc(), play, 2).expect(&rt, "it failed");
     assert_eq!(rt; send(&mut link, b""), Err(Failed));
     assert_eq!(rt; begin(&mut link, 1), Ok(()));
     close(&mut link, 2);
@@ -69,15 +66,13 @@ fn calls_fail_where_no_session_is_open(rt: HostRuntime) -> Result<(), Fail> {
     assert_eq!(rt; begin(&mut link, 3), Err(Failed));
     assert_eq!(rt; send(&mut link, b"x"), Err(Failed));
     assert_eq!(rt; link.faults(), 4);
-    Ok(())
 }
 
 #[test]
-fn a_link_logs_as_many_sessions_as_have_room(rt: HostRuntime) -> Result<(), Fail> {
-    let play = play_of(rt.alloc(), b"", 0, &[1])?;
-    let mut link = link_of(rt.alloc(), play, 1)?;
+fn a_link_logs_as_many_sessions_as_have_room(rt: HostRuntime) {
+    let play = play_of(rt.alloc(), b"", 0, &[1]).expect(&rt, "it failed");
+    let mut link = link_of(rt.alloc(), play, 1).expect(&rt, "it failed");
     assert_eq!(rt; begin(&mut link, 1), Err(Failed));
     assert_eq!(rt; begin(&mut link, 2), Err(Failed));
     assert!(rt; link.into_log().is_none());
-    Ok(())
 }

@@ -4,7 +4,6 @@ use sb_outside::*;
 use std::alloc::Global;
 use std::fs::File;
 use std::io::{ErrorKind, Read, Write};
-use std::test::Fail;
 use std::{fs, io};
 
 fn pieces_of(alloc: Global, texts: &[&[u8]]) -> Result<Row<Bytes>, OutOfMemory> {
@@ -16,10 +15,10 @@ fn pieces_of(alloc: Global, texts: &[&[u8]]) -> Result<Row<Bytes>, OutOfMemory> 
 }
 
 #[test]
-fn memory_source_gives_pieces_and_ends(rt: HostRuntime) -> Result<(), Fail> {
+fn memory_source_gives_pieces_and_ends(rt: HostRuntime) {
     let alloc = rt.alloc();
-    let pieces = pieces_of(alloc, &[b"hello", b"", b"ok"])?;
-    let failing = Row::from_slice(alloc, &[2])?;
+    let pieces = pieces_of(alloc, &[b"hello", b"", b"ok"]).expect(&rt, "it failed");
+    let failing = Row::from_slice(alloc, &[2]).expect(&rt, "it failed");
     let mut source = MemorySource::new(pieces, failing).with_step(3);
     let mut buffer = [0; 4];
     assert_eq!(rt; read(&mut source, &mut buffer), Ok(3));
@@ -37,40 +36,42 @@ fn memory_source_gives_pieces_and_ends(rt: HostRuntime) -> Result<(), Fail> {
     for _ in 0..2 {
         assert_eq!(rt; read(&mut source, &mut buffer), Ok(0));
     }
-    Ok(())
 }
 
 #[test]
-fn memory_sink_takes_until_its_room_is_full(rt: HostRuntime) -> Result<(), Fail> {
+fn memory_sink_takes_until_its_room_is_full(rt: HostRuntime) {
     let alloc = rt.alloc();
-    let failing = Row::from_slice(alloc, &[3])?;
-    let mut sink = MemorySink::new(alloc, 8, failing)?.with_step(3);
-    write_whole(&mut sink, b"hello")?;
+    let failing = Row::from_slice(alloc, &[3]).expect(&rt, "it failed");
+    let mut sink = MemorySink::new(alloc, 8, failing)
+        .expect(&rt, "it failed")
+        .with_step(3);
+    assert_eq!(rt; write_whole(&mut sink, b"hello"), Ok(()));
     assert_eq!(rt; write_whole(&mut sink, b"x"), Err(Failed));
-    write_whole(&mut sink, b"x")?;
+    assert_eq!(rt; write_whole(&mut sink, b"x"), Ok(()));
     assert_eq!(rt; sink.faults(), 1);
     assert_eq!(rt; write_whole(&mut sink, b"abc"), Err(Failed));
     assert_eq!(rt; write(&mut sink, b""), Ok(0));
     assert_eq!(rt; sink.bytes(), b"hellox".as_slice());
     assert_eq!(rt; sink.faults(), 2);
-    Ok(())
 }
 
 #[test]
-fn a_file_takes_bytes_and_gives_them_back(rt: HostRuntime) -> Result<(), Fail> {
-    let mut sink = StdSink::new(File::create(&rt, "sb_outside_test.bin")?);
-    write_whole(&mut sink, b"one file")?;
-    sink.flush()?;
+fn a_file_takes_bytes_and_gives_them_back(rt: HostRuntime) {
+    let mut sink = StdSink::new(File::create(&rt, "sb_outside_test.bin").expect(&rt, "it failed"));
+    assert_eq!(rt; write_whole(&mut sink, b"one file"), Ok(()));
+    sink.flush().expect(&rt, "it failed");
     assert_eq!(rt; sink.faults(), 0);
     drop(sink);
-    let mut source = StdSource::new(File::open(&rt, "sb_outside_test.bin")?);
+    let mut source = StdSource::new(File::open(&rt, "sb_outside_test.bin").expect(
+        &rt,
+        "it failed",
+    ));
     let mut buffer = [0; 16];
     assert_eq!(rt; read(&mut source, &mut buffer), Ok(8));
     assert_eq!(rt; buffer[..8], b"one file"[..]);
     assert_eq!(rt; read(&mut source, &mut buffer), Ok(0));
     assert_eq!(rt; source.faults(), 0);
-    fs::remove_file(&rt, "sb_outside_test.bin")?;
-    Ok(())
+    fs::remove_file(&rt, "sb_outside_test.bin").expect(&rt, "it failed");
 }
 
 /// A reader whose calls go by a list: how many bytes it gives, each an `x`, or how it fails. After the list
@@ -168,51 +169,46 @@ fn source_of(alloc: Global, text: &[u8], failing: &[u64]) -> Result<MemorySource
 }
 
 #[test]
-fn an_input_is_read_to_its_end(rt: HostRuntime) -> Result<(), Fail> {
-    let mut source = source_of(rt.alloc(), b"an input", &[])?;
-    let text = read_to_end(rt.alloc(), &mut source, 8)?;
+fn an_input_is_read_to_its_end(rt: HostRuntime) {
+    let mut source = source_of(rt.alloc(), b"an input", &[]).expect(&rt, "it failed");
+    let text = read_to_end(rt.alloc(), &mut source, 8).expect(&rt, "it failed");
     assert_eq!(rt; text.as_slice(), b"an input".as_slice());
-    Ok(())
 }
 
 #[test]
-fn an_input_past_its_limit_is_refused(rt: HostRuntime) -> Result<(), Fail> {
-    let mut source = source_of(rt.alloc(), b"an input", &[])?;
+fn an_input_past_its_limit_is_refused(rt: HostRuntime) {
+    let mut source = source_of(rt.alloc(), b"an input", &[]).expect(&rt, "it failed");
     let read = read_to_end(rt.alloc(), &mut source, 7);
     assert_eq!(rt; read.err(), Some(InputFault::PastLimit));
     assert_eq!(rt; source.faults(), 0);
-    Ok(())
 }
 
 #[test]
-fn an_input_whose_source_fails_is_refused(rt: HostRuntime) -> Result<(), Fail> {
-    let mut source = source_of(rt.alloc(), b"an input", &[2])?;
+fn an_input_whose_source_fails_is_refused(rt: HostRuntime) {
+    let mut source = source_of(rt.alloc(), b"an input", &[2]).expect(&rt, "it failed");
     let read = read_to_end(rt.alloc(), &mut source, 100);
     assert_eq!(rt; read.err(), Some(InputFault::Failed));
     assert_eq!(rt; source.faults(), 1);
-    Ok(())
 }
 
 #[test]
-fn a_buffer_goes_to_the_sink_where_it_is_full(rt: HostRuntime) -> Result<(), Fail> {
+fn a_buffer_goes_to_the_sink_where_it_is_full(rt: HostRuntime) {
     let alloc = rt.alloc();
-    let mut sink = MemorySink::new(alloc, 65_536, Row::new(alloc))?;
-    let mut buffer = Bytes::from_vec(vec![in alloc; b'x'; 65_535]?);
-    flush_if_full(&mut sink, &mut buffer)?;
+    let mut sink = MemorySink::new(alloc, 65_536, Row::new(alloc)).expect(&rt, "it failed");
+    let mut buffer = Bytes::from_vec(vec![in alloc; b'x'; 65_535].expect(&rt, "it failed"));
+    assert_eq!(rt; flush_if_full(&mut sink, &mut buffer), Ok(()));
     assert_eq!(rt; sink.bytes().len(), 0);
-    buffer.push(b'x')?;
-    flush_if_full(&mut sink, &mut buffer)?;
+    buffer.push(b'x').expect(&rt, "it failed");
+    assert_eq!(rt; flush_if_full(&mut sink, &mut buffer), Ok(()));
     assert_eq!(rt; sink.bytes().len(), 65_536);
     assert_eq!(rt; buffer.len(), 0);
-    Ok(())
 }
 
 #[test]
-fn a_buffer_stays_where_its_sink_fails(rt: HostRuntime) -> Result<(), Fail> {
+fn a_buffer_stays_where_its_sink_fails(rt: HostRuntime) {
     let alloc = rt.alloc();
-    let mut sink = MemorySink::new(alloc, 3, Row::new(alloc))?;
-    let mut buffer = Bytes::from_slice(alloc, b"text")?;
+    let mut sink = MemorySink::new(alloc, 3, Row::new(alloc)).expect(&rt, "it failed");
+    let mut buffer = Bytes::from_slice(alloc, b"text").expect(&rt, "it failed");
     assert_eq!(rt; flush(&mut sink, &mut buffer), Err(Failed));
     assert_eq!(rt; buffer.as_slice(), b"text".as_slice());
-    Ok(())
 }

@@ -2,42 +2,52 @@ use crate::calls::*;
 use sb_model::Moment;
 use sb_outside::*;
 use std::io::ErrorKind;
-use std::test::Fail;
 use std::time::{Duration, Instant};
 use std::{fs, io, time};
 
 #[test]
-fn a_file_keeps_the_last_text(rt: HostRuntime) -> Result<(), Fail> {
-    let mut keeper = FileKeeper::new(&rt, rt.alloc(), "sb_outside_kept.bin")?;
-    assert!(rt; load(&mut keeper, rt.alloc())?.is_none());
-    replace(&mut keeper, b"a long first text")?;
-    replace(&mut keeper, b"second")?;
-    let text = load(&mut keeper, rt.alloc())?;
+fn a_file_keeps_the_last_text(rt: HostRuntime) {
+    let mut keeper = FileKeeper::new(&rt, rt.alloc(), "sb_outside_kept.bin").expect(
+        &rt,
+        "it failed",
+    );
+    assert!(rt;
+        load(&mut keeper, rt.alloc())
+            .expect(&rt, "it failed")
+            .is_none()
+    );
+    assert_eq!(rt; replace(&mut keeper, b"a long first text"), Ok(()));
+    assert_eq!(rt; replace(&mut keeper, b"second"), Ok(()));
+    let text = load(&mut keeper, rt.alloc()).expect(&rt, "it failed");
     assert_eq!(rt;
         text.as_ref().map(|text| text.as_slice()),
         Some(b"second".as_slice())
     );
     assert_eq!(rt; keeper.faults(), 0);
     assert!(rt; fs::metadata(&rt, "sb_outside_kept.bin.new").is_err());
-    fs::remove_file(&rt, "sb_outside_kept.bin")?;
-    Ok(())
+    fs::remove_file(&rt, "sb_outside_kept.bin").expect(&rt, "it failed");
 }
 
 #[test]
-fn a_text_that_cannot_be_written_is_a_fault(rt: HostRuntime) -> Result<(), Fail> {
-    let mut keeper = FileKeeper::new(&rt, rt.alloc(), "no_such_folder/kept.bin")?;
-    assert!(rt; load(&mut keeper, rt.alloc())?.is_none());
+fn a_text_that_cannot_be_written_is_a_fault(rt: HostRuntime) {
+    let mut keeper = FileKeeper::new(&rt, rt.alloc(), "no_such_folder/kept.bin").expect(
+        &rt,
+        "it failed",
+    );
+    assert!(rt;
+        load(&mut keeper, rt.alloc())
+            .expect(&rt, "it failed")
+            .is_none()
+    );
     assert_eq!(rt; replace(&mut keeper, b"text"), Err(KeepFault::Failed));
     assert_eq!(rt; keeper.faults(), 1);
-    Ok(())
 }
 
 #[test]
-fn a_folder_is_no_file_to_load(rt: HostRuntime) -> Result<(), Fail> {
-    let mut keeper = FileKeeper::new(&rt, rt.alloc(), ".")?;
+fn a_folder_is_no_file_to_load(rt: HostRuntime) {
+    let mut keeper = FileKeeper::new(&rt, rt.alloc(), ".").expect(&rt, "it failed");
     let loaded = load(&mut keeper, rt.alloc());
     assert_eq!(rt; loaded.err(), Some(KeepFault::Failed));
-    Ok(())
 }
 
 #[test]
@@ -50,15 +60,14 @@ fn a_keeper_with_no_path_fails(rt: HostRuntime) {
 }
 
 #[test]
-fn the_clock_is_past_the_year_2024_and_waits(rt: HostRuntime) -> Result<(), Fail> {
+fn the_clock_is_past_the_year_2024_and_waits(rt: HostRuntime) {
     let mut clock = SystemClock::new(&rt);
     let now = clock.now();
     assert!(rt; now.0 > 1_704_067_200_000);
-    let begun = Instant::now(&rt)?;
+    let begun = Instant::now(&rt).expect(&rt, "it failed");
     let reached = clock.wait_until(Moment(now.0.saturating_add(30)));
     assert!(rt; reached.0 >= now.0.saturating_add(30));
-    assert!(rt; begun.elapsed(&rt)? >= Duration::from_millis(20));
-    Ok(())
+    assert!(rt; begun.elapsed(&rt).expect(&rt, "it failed") >= Duration::from_millis(20));
 }
 
 /// A clock that cannot be read.

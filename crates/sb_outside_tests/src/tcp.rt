@@ -1,7 +1,6 @@
 use crate::calls::*;
 use sb_model::Moment;
 use sb_outside::*;
-use std::test::Fail;
 use std::thread;
 use std::time::Duration;
 
@@ -22,9 +21,9 @@ fn door(rt: &HostRuntime, limits: TcpLimits) -> LocalDoor<'_> {
     TcpDoor::bind(rt, "127.0.0.1:0", limits)
 }
 
-fn address_of(rt: &HostRuntime, door: &LocalDoor<'_>) -> Result<String, Fail> {
-    let address = door.local_addr().ok_or("the door has no address")?;
-    Ok(format!(in rt.alloc(); "{address}")?)
+fn address_of(rt: &HostRuntime, door: &LocalDoor<'_>) -> Option<String> {
+    let address = door.local_addr()?;
+    format!(in rt.alloc(); "{address}").ok()
 }
 
 /// A link to a door, with a session that has begun.
@@ -32,27 +31,27 @@ fn session<'a>(
     rt: &'a HostRuntime,
     door: &LocalDoor<'_>,
     limits: TcpLimits,
-) -> Result<LocalLink<'a>, Fail> {
+) -> Option<LocalLink<'a>> {
     let address = address_of(rt, door)?;
-    let mut link = TcpLink::new(rt, rt.alloc(), address.as_str(), limits)?;
-    begin(&mut link, 0)?;
-    Ok(link)
+    let mut link = TcpLink::new(rt, rt.alloc(), address.as_str(), limits).ok()?;
+    begin(&mut link, 0).ok()?;
+    Some(link)
 }
 
-fn taken<'a>(door: &mut LocalDoor<'a>) -> Result<TcpWire<&'a HostRuntime>, Fail> {
-    Ok(next(door)?.ok_or("no connection came")?)
+fn taken<'a>(door: &mut LocalDoor<'a>) -> Option<TcpWire<&'a HostRuntime>> {
+    next(door).ok()?
 }
 
 #[test]
-fn a_session_reaches_a_door_and_ends(rt: HostRuntime) -> Result<(), Fail> {
+fn a_session_reaches_a_door_and_ends(rt: HostRuntime) {
     let mut door = door(&rt, LIMITS);
-    let mut link = session(&rt, &door, LIMITS)?;
-    send(&mut link, b"ping")?;
-    let mut wire = taken(&mut door)?;
+    let mut link = session(&rt, &door, LIMITS).expect(&rt, "it failed");
+    assert_eq!(rt; send(&mut link, b"ping"), Ok(()));
+    let mut wire = taken(&mut door).expect(&rt, "it failed");
     let mut buffer = [0; 8];
     assert_eq!(rt; read(&mut wire, &mut buffer), Ok(4));
     assert_eq!(rt; buffer, *b"ping\0\0\0\0");
-    write_whole(&mut wire, b"answer")?;
+    assert_eq!(rt; write_whole(&mut wire, b"answer"), Ok(()));
     done(&mut door, wire);
     assert_eq!(rt; recv(&mut link, &mut buffer), Ok(6));
     assert_eq!(rt; buffer, *b"answer\0\0");
@@ -60,95 +59,87 @@ fn a_session_reaches_a_door_and_ends(rt: HostRuntime) -> Result<(), Fail> {
     assert_eq!(rt; recv(&mut link, &mut []), Ok(0));
     close(&mut link, 1);
     assert_eq!(rt; send(&mut link, b"x"), Err(Failed));
-    Ok(())
 }
 
 #[test]
-fn a_door_reads_to_the_end_of_a_closed_session(rt: HostRuntime) -> Result<(), Fail> {
+fn a_door_reads_to_the_end_of_a_closed_session(rt: HostRuntime) {
     let mut door = door(&rt, LIMITS);
-    let mut link = session(&rt, &door, LIMITS)?;
+    let mut link = session(&rt, &door, LIMITS).expect(&rt, "it failed");
     close(&mut link, 1);
-    let mut wire = taken(&mut door)?;
+    let mut wire = taken(&mut door).expect(&rt, "it failed");
     assert_eq!(rt; read(&mut wire, &mut [0; 8]), Ok(0));
     done(&mut door, wire);
     assert_eq!(rt; door.faults(), 0);
-    Ok(())
 }
 
 #[test]
-fn an_answer_arrives_where_the_question_was_not_read(rt: HostRuntime) -> Result<(), Fail> {
+fn an_answer_arrives_where_the_question_was_not_read(rt: HostRuntime) {
     let mut door = door(&rt, LIMITS);
-    let mut link = session(&rt, &door, LIMITS)?;
-    send(&mut link, &[b'q'; 20_000])?;
-    let mut wire = taken(&mut door)?;
-    write_whole(&mut wire, b"no")?;
+    let mut link = session(&rt, &door, LIMITS).expect(&rt, "it failed");
+    assert_eq!(rt; send(&mut link, &[b'q'; 20_000]), Ok(()));
+    let mut wire = taken(&mut door).expect(&rt, "it failed");
+    assert_eq!(rt; write_whole(&mut wire, b"no"), Ok(()));
     done(&mut door, wire);
     let mut buffer = [0; 8];
     assert_eq!(rt; recv(&mut link, &mut buffer), Ok(2));
     assert_eq!(rt; recv(&mut link, &mut buffer), Ok(0));
     assert_eq!(rt; link.faults(), 0);
-    Ok(())
 }
 
 #[test]
-fn a_silent_door_is_a_fault_of_the_link(rt: HostRuntime) -> Result<(), Fail> {
+fn a_silent_door_is_a_fault_of_the_link(rt: HostRuntime) {
     let door = door(&rt, LIMITS);
-    let mut link = session(&rt, &door, TcpLimits { call: 30, ..LIMITS })?;
+    let mut link = session(&rt, &door, TcpLimits { call: 30, ..LIMITS }).expect(&rt, "it failed");
     assert_eq!(rt; recv(&mut link, &mut [0; 8]), Err(Failed));
     assert_eq!(rt; link.faults(), 1);
-    Ok(())
 }
 
 #[test]
-fn a_session_has_a_time_of_its_own(rt: HostRuntime) -> Result<(), Fail> {
+fn a_session_has_a_time_of_its_own(rt: HostRuntime) {
     let door = door(&rt, LIMITS);
     let limits = TcpLimits {
         connection: 200,
         ..LIMITS
     };
-    let mut link = session(&rt, &door, limits)?;
+    let mut link = session(&rt, &door, limits).expect(&rt, "it failed");
     thread::sleep(&rt, Duration::from_millis(250));
     assert_eq!(rt; send(&mut link, b"late"), Err(Failed));
-    Ok(())
 }
 
 #[test]
-fn a_silent_session_is_a_fault_of_the_wire(rt: HostRuntime) -> Result<(), Fail> {
+fn a_silent_session_is_a_fault_of_the_wire(rt: HostRuntime) {
     let limits = TcpLimits {
         request: 30,
         ..LIMITS
     };
     let mut door = door(&rt, limits);
-    let _link = session(&rt, &door, LIMITS)?;
-    let mut wire = taken(&mut door)?;
+    let _link = session(&rt, &door, LIMITS).expect(&rt, "it failed");
+    let mut wire = taken(&mut door).expect(&rt, "it failed");
     assert_eq!(rt; read(&mut wire, &mut [0; 8]), Err(Failed));
-    write_whole(&mut wire, b"too late")?;
+    assert_eq!(rt; write_whole(&mut wire, b"too late"), Ok(()));
     done(&mut door, wire);
-    Ok(())
 }
 
 #[test]
-fn no_session_begins_where_no_door_is(rt: HostRuntime) -> Result<(), Fail> {
+fn no_session_begins_where_no_door_is(rt: HostRuntime) {
     let gone = door(&rt, LIMITS);
-    let address = address_of(&rt, &gone)?;
+    let address = address_of(&rt, &gone).expect(&rt, "it failed");
     drop(gone);
-    let mut link = TcpLink::new(&rt, rt.alloc(), address.as_str(), LIMITS)?;
+    let mut link = TcpLink::new(&rt, rt.alloc(), address.as_str(), LIMITS).expect(&rt, "it failed");
     assert_eq!(rt; begin(&mut link, 0), Err(Failed));
     assert_eq!(rt; recv(&mut link, &mut []), Err(Failed));
     assert_eq!(rt; link.faults(), 2);
-    Ok(())
 }
 
 #[test]
-fn a_port_that_is_taken_cannot_be_had(rt: HostRuntime) -> Result<(), Fail> {
+fn a_port_that_is_taken_cannot_be_had(rt: HostRuntime) {
     let first = door(&rt, LIMITS);
     assert!(rt; first.is_usable());
-    let address = address_of(&rt, &first)?;
+    let address = address_of(&rt, &first).expect(&rt, "it failed");
     let mut second = TcpDoor::bind(&rt, address.as_str(), LIMITS);
     assert!(rt; !second.is_usable());
     assert!(rt; next(&mut second).is_err());
     assert_eq!(rt; second.faults(), 1);
-    Ok(())
 }
 
 #[test]
