@@ -11,5 +11,3 @@ mod hashes;
 mod hex_text;
 mod numbers;
 mod prefixes;
-#[cfg(test)]
-mod tests;

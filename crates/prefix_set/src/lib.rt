@@ -21,5 +21,3 @@ mod search;
 mod set;
 mod sorting;
 mod store;
-#[cfg(test)]
-mod tests;

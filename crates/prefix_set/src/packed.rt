@@ -16,9 +16,6 @@ use sha2::{Digest, Sha256};
 use std::alloc::Global;
 use std::marker::Model;
 
-#[cfg(test)]
-mod tests;
-
 // The most bytes that a list holds: the ends are numbers of 32 bits.
 const LIMIT: usize = u32::MAX as usize;
 

@@ -1,7 +1,7 @@
 ghost use Rattle.std.specs.Prelude.{◌≡◌, ◌<◌};
 
-use crate::{ApplyFault, Edit, PrefixSet};
 use hash_prefixes::{Prefix, read_hex};
+use prefix_set::{ApplyFault, Edit, PrefixSet};
 use sb_model::{Row, Steps};
 use std::alloc::Global;
 use std::cmp::Ordering;

@@ -1,4 +1,4 @@
-use crate::{
+use hash_prefixes::{
     FullHash, HexFault, Prefix, append_hex, full_hash, hash_number, number_hash, read_hex,
     write_hex,
 };
