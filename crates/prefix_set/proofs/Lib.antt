@@ -1,6 +1,5 @@
 pub mod ApplyFacts
 pub mod DifferenceFacts
-pub mod FeedFacts
 pub mod IndexFacts
 pub mod KeptFacts
 pub mod LookupFacts
