@@ -30,6 +30,8 @@ SEED = 20240229
 MANY_PREFIXES = 1_048_576
 MANY_LINES = 1_000
 RICE_VALUES = 1_048_576
+SET_CHANGES = 4_000
+SET_LOOK_UPS = 1_000_000
 USUAL_URLS = 100_000
 HOSTILE_URLS = 2_000
 HOSTILE_BYTES = 8_192
@@ -194,6 +196,23 @@ def bench_rice(runs):
         tell(name, f"{took * 1e3:.1f} ms", f"{took / RICE_VALUES * 1e9:.2f} ns a value")
 
 
+def bench_sets(runs):
+    kernels = ("set-rising", "set-shuffled", "set-of-rising", "set-of-shuffled")
+    kernels += ("set-change", "set-look-up")
+    times = dict(zip(kernels, processor_times(kernels, MANY_PREFIXES, runs)))
+    made = times["set-of-rising"]
+    rising = made - times["set-rising"]
+    shuffled = times["set-of-shuffled"] - times["set-shuffled"]
+    change = times["set-change"] - made
+    look_ups = times["set-look-up"] - made
+    print(f"sets of {MANY_PREFIXES:,} prefixes of four bytes")
+    for name, took in (("made of sorted prefixes", rising), ("made of shuffled prefixes", shuffled)):
+        tell(name, f"{took * 1e3:.1f} ms", f"{took / MANY_PREFIXES * 1e9:.2f} ns a prefix")
+    remark = f"{change / MANY_PREFIXES * 1e9:.2f} ns a member, {change / SET_CHANGES * 1e9:,.0f} ns a change"
+    tell(f"merge of {SET_CHANGES:,} changes", f"{change * 1e3:.1f} ms", remark)
+    tell(f"{SET_LOOK_UPS:,} look-ups", f"{look_ups * 1e3:.1f} ms", f"{look_ups / SET_LOOK_UPS * 1e9:.2f} ns a look-up")
+
+
 def bench_urls(title, prefix, count, runs):
     kernels = [prefix + kernel for kernel in ("urls", "canonical", "expressions")]
     texts, canonical, expressions = processor_times(kernels, count, runs)
@@ -218,6 +237,7 @@ def main():
         in_child(write_small, small)
         bench_replay(f"one update of {MANY_PREFIXES:,} prefixes", large, words.runs)
         bench_replay(f"{MANY_LINES:,} updates of 64 to 256 prefixes", small, words.runs)
+    bench_sets(words.kernel_runs)
     bench_rice(words.kernel_runs)
     bench_urls("URLs such as pages have", "", USUAL_URLS, words.kernel_runs)
     hostile = f"hostile URLs of {HOSTILE_BYTES:,} bytes"

@@ -269,9 +269,12 @@ fn of_32_bytes(alloc: Global, rt: &impl Abort, count: u32) -> Row<Prefix> {
 #[test]
 fn limits_look_at_all_bytes(rt: HostRuntime) {
     let held = PrefixSet::empty(rt.alloc());
-    let large = of_32_bytes(rt.alloc(), &rt, 262_145);
+    let mut large = of_32_bytes(rt.alloc(), &rt, 262_143);
+    for longer in [&[255; 28][..], &[255; 5]] {
+        large.push(prefix(&rt, longer)).expect(&rt, "memory");
+    }
     let fault = fault(&held, rt.alloc(), &[], large.as_slice());
-    assert_eq!(rt; fault, Some(ApplyFault::TooLarge(8_388_640)));
+    assert_eq!(rt; fault, Some(ApplyFault::TooLarge(8_388_609)));
 }
 
 #[test]
