@@ -14,21 +14,21 @@ fn clock_of(alloc: Global, readings: &[u64], room: usize) -> Result<ScriptClock,
 #[test]
 fn a_clock_does_not_go_back(rt: HostRuntime) {
     let mut clock = clock_of(rt.alloc(), &[5, 3, 9], 4).expect(&rt, "it failed");
-    assert_eq!(rt; now(&mut clock), 5);
-    assert_eq!(rt; now(&mut clock), 5);
-    assert_eq!(rt; wait_until(&mut clock, 7), 7);
-    assert_eq!(rt; now(&mut clock), 9);
+    assert!(rt; now(&mut clock) == 5);
+    assert!(rt; now(&mut clock) == 5);
+    assert!(rt; wait_until(&mut clock, 7) == 7);
+    assert!(rt; now(&mut clock) == 9);
     let answers = [Moment(5), Moment(5), Moment(7), Moment(9)];
-    assert_eq!(rt; clock.answers(), Some(answers.as_slice()));
+    assert!(rt; clock.answers() == Some(answers.as_slice()));
 }
 
 #[test]
 fn a_clock_stands_after_its_readings(rt: HostRuntime) {
     let mut clock = clock_of(rt.alloc(), &[5], 2).expect(&rt, "it failed");
-    assert_eq!(rt; wait_until(&mut clock, 4), 4);
-    assert_eq!(rt; now(&mut clock), 5);
-    assert_eq!(rt; now(&mut clock), 5);
-    assert_eq!(rt; clock.answers(), None);
+    assert!(rt; wait_until(&mut clock, 4) == 4);
+    assert!(rt; now(&mut clock) == 5);
+    assert!(rt; now(&mut clock) == 5);
+    assert!(rt; clock.answers() == None);
 }
 
 fn dice_of(alloc: Global, words: &[u32], room: usize) -> Result<ScriptDice, OutOfMemory> {
@@ -38,12 +38,12 @@ fn dice_of(alloc: Global, words: &[u32], room: usize) -> Result<ScriptDice, OutO
 #[test]
 fn dice_stand_after_their_words(rt: HostRuntime) {
     let mut dice = dice_of(rt.alloc(), &[8, 1], 3).expect(&rt, "it failed");
-    assert_eq!(rt; word(&mut dice), 8);
-    assert_eq!(rt; word(&mut dice), 1);
-    assert_eq!(rt; word(&mut dice), 1);
-    assert_eq!(rt; dice.given(), Some([8, 1, 1].as_slice()));
+    assert!(rt; word(&mut dice) == 8);
+    assert!(rt; word(&mut dice) == 1);
+    assert!(rt; word(&mut dice) == 1);
+    assert!(rt; dice.given() == Some([8, 1, 1].as_slice()));
     word(&mut dice);
-    assert_eq!(rt; dice.given(), None);
+    assert!(rt; dice.given() == None);
 }
 
 fn keeper_of(alloc: Global, failing: &[KeepFailure]) -> Result<MemoryKeeper, OutOfMemory> {
@@ -55,13 +55,10 @@ fn keeper_of(alloc: Global, failing: &[KeepFailure]) -> Result<MemoryKeeper, Out
 #[test]
 fn a_keeper_keeps_what_it_is_handed(rt: HostRuntime) {
     let mut keeper = keeper_of(rt.alloc(), &[]).expect(&rt, "it failed");
-    assert_eq!(rt; replace(&mut keeper, b"new"), Ok(()));
+    assert!(rt; replace(&mut keeper, b"new") == Ok(()));
     let loaded = load(&mut keeper, rt.alloc()).expect(&rt, "it failed");
-    assert_eq!(rt;
-        loaded.as_ref().map(|text| text.as_slice()),
-        Some(b"new".as_slice())
-    );
-    assert_eq!(rt; keeper.handed().len(), 1);
+    assert!(rt; is_text(loaded.as_ref(), b"new"));
+    assert!(rt; keeper.handed().len() == 1);
 }
 
 #[test]
@@ -72,13 +69,10 @@ fn a_keeper_may_be_left_with_a_front(rt: HostRuntime) {
     }];
     let mut keeper = keeper_of(rt.alloc(), &failing).expect(&rt, "it failed");
     load(&mut keeper, rt.alloc()).expect(&rt, "it failed");
-    assert_eq!(rt; replace(&mut keeper, b"new"), Err(KeepFault::Failed));
-    assert_eq!(rt;
-        keeper.kept().map(|text| text.as_slice()),
-        Some(b"ne".as_slice())
-    );
-    assert_eq!(rt; keeper.handed().len(), 1);
-    assert_eq!(rt; keeper.faults(), 1);
+    assert!(rt; replace(&mut keeper, b"new") == Err(KeepFault::Failed));
+    assert!(rt; is_text(keeper.kept(), b"ne"));
+    assert!(rt; keeper.handed().len() == 1);
+    assert!(rt; keeper.faults() == 1);
 }
 
 #[test]
@@ -88,11 +82,8 @@ fn a_keeper_may_be_left_with_the_old_text(rt: HostRuntime) {
         remains: Remains::Old,
     }];
     let mut keeper = keeper_of(rt.alloc(), &failing).expect(&rt, "it failed");
-    assert_eq!(rt; replace(&mut keeper, b"new"), Err(KeepFault::Failed));
-    assert_eq!(rt;
-        keeper.kept().map(|text| text.as_slice()),
-        Some(b"old".as_slice())
-    );
+    assert!(rt; replace(&mut keeper, b"new") == Err(KeepFault::Failed));
+    assert!(rt; is_text(keeper.kept(), b"old"));
 }
 
 #[test]

@@ -21,20 +21,20 @@ fn memory_source_gives_pieces_and_ends(rt: HostRuntime) {
     let failing = Row::from_slice(alloc, &[2]).expect(&rt, "it failed");
     let mut source = MemorySource::new(pieces, failing).with_step(3);
     let mut buffer = [0; 4];
-    assert_eq!(rt; read(&mut source, &mut buffer), Ok(3));
-    assert_eq!(rt; buffer[..3], b"hel"[..]);
-    assert_eq!(rt; read(&mut source, &mut buffer), Err(Failed));
-    assert_eq!(rt; source.faults(), 1);
-    assert_eq!(rt; read(&mut source, &mut buffer[..0]), Ok(0));
-    assert_eq!(rt; read(&mut source, &mut buffer), Ok(2));
-    assert_eq!(rt; buffer[..2], b"lo"[..]);
+    assert!(rt; read(&mut source, &mut buffer) == Ok(3));
+    assert!(rt; buffer[..3] == b"hel"[..]);
+    assert!(rt; read(&mut source, &mut buffer) == Err(Failed));
+    assert!(rt; source.faults() == 1);
+    assert!(rt; read(&mut source, &mut buffer[..0]) == Ok(0));
+    assert!(rt; read(&mut source, &mut buffer) == Ok(2));
+    assert!(rt; buffer[..2] == b"lo"[..]);
     for _ in 0..2 {
-        assert_eq!(rt; read(&mut source, &mut buffer), Ok(0));
+        assert!(rt; read(&mut source, &mut buffer) == Ok(0));
     }
-    assert_eq!(rt; read(&mut source, &mut buffer), Ok(2));
-    assert_eq!(rt; buffer[..2], b"ok"[..]);
+    assert!(rt; read(&mut source, &mut buffer) == Ok(2));
+    assert!(rt; buffer[..2] == b"ok"[..]);
     for _ in 0..2 {
-        assert_eq!(rt; read(&mut source, &mut buffer), Ok(0));
+        assert!(rt; read(&mut source, &mut buffer) == Ok(0));
     }
 }
 
@@ -45,32 +45,32 @@ fn memory_sink_takes_until_its_room_is_full(rt: HostRuntime) {
     let mut sink = MemorySink::new(alloc, 8, failing)
         .expect(&rt, "it failed")
         .with_step(3);
-    assert_eq!(rt; write_whole(&mut sink, b"hello"), Ok(()));
-    assert_eq!(rt; write_whole(&mut sink, b"x"), Err(Failed));
-    assert_eq!(rt; write_whole(&mut sink, b"x"), Ok(()));
-    assert_eq!(rt; sink.faults(), 1);
-    assert_eq!(rt; write_whole(&mut sink, b"abc"), Err(Failed));
-    assert_eq!(rt; write(&mut sink, b""), Ok(0));
-    assert_eq!(rt; sink.bytes(), b"hellox".as_slice());
-    assert_eq!(rt; sink.faults(), 2);
+    assert!(rt; write_whole(&mut sink, b"hello") == Ok(()));
+    assert!(rt; write_whole(&mut sink, b"x") == Err(Failed));
+    assert!(rt; write_whole(&mut sink, b"x") == Ok(()));
+    assert!(rt; sink.faults() == 1);
+    assert!(rt; write_whole(&mut sink, b"abc") == Err(Failed));
+    assert!(rt; write(&mut sink, b"") == Ok(0));
+    assert!(rt; sink.bytes() == b"hellox".as_slice());
+    assert!(rt; sink.faults() == 2);
 }
 
 #[test]
 fn a_file_takes_bytes_and_gives_them_back(rt: HostRuntime) {
     let mut sink = StdSink::new(File::create(&rt, "sb_outside_test.bin").expect(&rt, "it failed"));
-    assert_eq!(rt; write_whole(&mut sink, b"one file"), Ok(()));
+    assert!(rt; write_whole(&mut sink, b"one file") == Ok(()));
     sink.flush().expect(&rt, "it failed");
-    assert_eq!(rt; sink.faults(), 0);
+    assert!(rt; sink.faults() == 0);
     drop(sink);
     let mut source = StdSource::new(File::open(&rt, "sb_outside_test.bin").expect(
         &rt,
         "it failed",
     ));
     let mut buffer = [0; 16];
-    assert_eq!(rt; read(&mut source, &mut buffer), Ok(8));
-    assert_eq!(rt; buffer[..8], b"one file"[..]);
-    assert_eq!(rt; read(&mut source, &mut buffer), Ok(0));
-    assert_eq!(rt; source.faults(), 0);
+    assert!(rt; read(&mut source, &mut buffer) == Ok(8));
+    assert!(rt; buffer[..8] == b"one file"[..]);
+    assert!(rt; read(&mut source, &mut buffer) == Ok(0));
+    assert!(rt; source.faults() == 0);
     fs::remove_file(&rt, "sb_outside_test.bin").expect(&rt, "it failed");
 }
 
@@ -125,12 +125,12 @@ fn a_reader_that_fails_is_a_fault_and_no_end(rt: HostRuntime) {
     ];
     let mut source = StdSource::new(Reads(&calls));
     let mut buffer = [0; 3];
-    assert_eq!(rt; read(&mut source, &mut buffer), Ok(2));
+    assert!(rt; read(&mut source, &mut buffer) == Ok(2));
     assert_eq!(rt; buffer, *b"xx\0");
-    assert_eq!(rt; read(&mut source, &mut buffer), Err(Failed));
-    assert_eq!(rt; read(&mut source, &mut buffer), Ok(1));
-    assert_eq!(rt; read(&mut source, &mut buffer), Ok(0));
-    assert_eq!(rt; source.faults(), 1);
+    assert!(rt; read(&mut source, &mut buffer) == Err(Failed));
+    assert!(rt; read(&mut source, &mut buffer) == Ok(1));
+    assert!(rt; read(&mut source, &mut buffer) == Ok(0));
+    assert!(rt; source.faults() == 1);
 }
 
 #[test]
@@ -143,24 +143,24 @@ fn a_writer_that_fails_or_takes_nothing_is_a_fault(rt: HostRuntime) {
         Ok(0),
     ];
     let mut sink = StdSink::new(Writes(&calls));
-    assert_eq!(rt; write(&mut sink, b"abc"), Ok(2));
-    assert_eq!(rt; write(&mut sink, b"abc"), Err(Failed));
-    assert_eq!(rt; write(&mut sink, b"abc"), Ok(3));
-    assert_eq!(rt; sink.flush(), Ok(()));
-    assert_eq!(rt; write(&mut sink, b"abc"), Err(Failed));
-    assert_eq!(rt; sink.flush(), Err(Failed));
-    assert_eq!(rt; sink.faults(), 3);
+    assert!(rt; write(&mut sink, b"abc") == Ok(2));
+    assert!(rt; write(&mut sink, b"abc") == Err(Failed));
+    assert!(rt; write(&mut sink, b"abc") == Ok(3));
+    assert!(rt; sink.flush() == Ok(()));
+    assert!(rt; write(&mut sink, b"abc") == Err(Failed));
+    assert!(rt; sink.flush() == Err(Failed));
+    assert!(rt; sink.faults() == 3);
 }
 
 #[test]
 fn what_could_not_be_had_fails_always(rt: HostRuntime) {
     let mut source = StdSource::<File>::unusable();
     let mut sink = StdSink::<File>::unusable();
-    assert_eq!(rt; read(&mut source, &mut []), Err(Failed));
-    assert_eq!(rt; write(&mut sink, b""), Err(Failed));
-    assert_eq!(rt; sink.flush(), Err(Failed));
-    assert_eq!(rt; source.faults(), 1);
-    assert_eq!(rt; sink.faults(), 2);
+    assert!(rt; read(&mut source, &mut []) == Err(Failed));
+    assert!(rt; write(&mut sink, b"") == Err(Failed));
+    assert!(rt; sink.flush() == Err(Failed));
+    assert!(rt; source.faults() == 1);
+    assert!(rt; sink.faults() == 2);
 }
 
 fn source_of(alloc: Global, text: &[u8], failing: &[u64]) -> Result<MemorySource, OutOfMemory> {
@@ -172,23 +172,23 @@ fn source_of(alloc: Global, text: &[u8], failing: &[u64]) -> Result<MemorySource
 fn an_input_is_read_to_its_end(rt: HostRuntime) {
     let mut source = source_of(rt.alloc(), b"an input", &[]).expect(&rt, "it failed");
     let text = read_to_end(rt.alloc(), &mut source, 8).expect(&rt, "it failed");
-    assert_eq!(rt; text.as_slice(), b"an input".as_slice());
+    assert!(rt; text.as_slice() == b"an input".as_slice());
 }
 
 #[test]
 fn an_input_past_its_limit_is_refused(rt: HostRuntime) {
     let mut source = source_of(rt.alloc(), b"an input", &[]).expect(&rt, "it failed");
     let read = read_to_end(rt.alloc(), &mut source, 7);
-    assert_eq!(rt; read.err(), Some(InputFault::PastLimit));
-    assert_eq!(rt; source.faults(), 0);
+    assert!(rt; read.err() == Some(InputFault::PastLimit));
+    assert!(rt; source.faults() == 0);
 }
 
 #[test]
 fn an_input_whose_source_fails_is_refused(rt: HostRuntime) {
     let mut source = source_of(rt.alloc(), b"an input", &[2]).expect(&rt, "it failed");
     let read = read_to_end(rt.alloc(), &mut source, 100);
-    assert_eq!(rt; read.err(), Some(InputFault::Failed));
-    assert_eq!(rt; source.faults(), 1);
+    assert!(rt; read.err() == Some(InputFault::Failed));
+    assert!(rt; source.faults() == 1);
 }
 
 #[test]
@@ -196,12 +196,12 @@ fn a_buffer_goes_to_the_sink_where_it_is_full(rt: HostRuntime) {
     let alloc = rt.alloc();
     let mut sink = MemorySink::new(alloc, 65_536, Row::new(alloc)).expect(&rt, "it failed");
     let mut buffer = Bytes::from_vec(vec![in alloc; b'x'; 65_535].expect(&rt, "it failed"));
-    assert_eq!(rt; flush_if_full(&mut sink, &mut buffer), Ok(()));
-    assert_eq!(rt; sink.bytes().len(), 0);
+    assert!(rt; flush_if_full(&mut sink, &mut buffer) == Ok(()));
+    assert!(rt; sink.bytes().len() == 0);
     buffer.push(b'x').expect(&rt, "it failed");
-    assert_eq!(rt; flush_if_full(&mut sink, &mut buffer), Ok(()));
-    assert_eq!(rt; sink.bytes().len(), 65_536);
-    assert_eq!(rt; buffer.len(), 0);
+    assert!(rt; flush_if_full(&mut sink, &mut buffer) == Ok(()));
+    assert!(rt; sink.bytes().len() == 65_536);
+    assert!(rt; buffer.len() == 0);
 }
 
 #[test]
@@ -209,6 +209,6 @@ fn a_buffer_stays_where_its_sink_fails(rt: HostRuntime) {
     let alloc = rt.alloc();
     let mut sink = MemorySink::new(alloc, 3, Row::new(alloc)).expect(&rt, "it failed");
     let mut buffer = Bytes::from_slice(alloc, b"text").expect(&rt, "it failed");
-    assert_eq!(rt; flush(&mut sink, &mut buffer), Err(Failed));
-    assert_eq!(rt; buffer.as_slice(), b"text".as_slice());
+    assert!(rt; flush(&mut sink, &mut buffer) == Err(Failed));
+    assert!(rt; buffer.as_slice() == b"text".as_slice());
 }
