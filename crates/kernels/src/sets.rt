@@ -32,7 +32,7 @@ fn numbers(alloc: Global, order: Order, count: u32, seed: u64) -> Result<Vec<u32
     let count = count.min(MOST_MEMBERS) as usize;
     let mut numbers = Vec::with_capacity(alloc, count)?;
     let mut state = seed;
-    while numbers.len() < count {
+    for _ in 0..count {
         state = next(state);
         numbers.push((state >> 32) as u32)?;
     }
