@@ -4,6 +4,7 @@ pub mod ExampleDigests
 pub mod ExampleRun
 pub mod Fours
 pub mod HonestUpdates
+pub mod FirstBytes
 pub mod LineCuts
 pub mod PlainBodies
 pub mod Replays

@@ -1,5 +1,5 @@
 -- How the lines of a text begin, and how many there are.
-use Rattle.std.proofs.Common.{◌≡◌, ℕ, zero, suc, ◌+◌, ◌-◌, ◌<◌, ◌≤◌, List, [], ◌∷◌, Bool, true, false, cond, not, length, take, drop, refl, sym, ap, ◌∙◌, subst, Some, None, arith, nat_lt}
+use Rattle.std.proofs.Common.{◌≡◌, ℕ, zero, suc, ◌+◌, ◌-◌, ◌<◌, ◌≤◌, List, [], ◌∷◌, Bool, true, false, cond, not, length, take, drop, refl, sym, ap, ◌∙◌, subst, Some, None, arith}
 use Rattle.std.specs.Prelude.{position, count_by, slice_get}
 use Rattle.std.specs.List.{slice_split, onto_first, position_or_len}
 use Rattle.std.proofs.lemmas.List.Quantifiers.{position-Some}
@@ -7,7 +7,8 @@ use Rattle.std.proofs.lemmas.List.Sums.{position_or_len_is, fails_before_first, 
 use Rattle.std.proofs.lemmas.List.Splits.{slice_split_first, slice_split_none, slice_split-cons_yes, slice_split-cons_no, length-slice_split}
 use Rattle.std.proofs.lemmas.List.Elements.{All-from_get_or}
 use Rattle.std.proofs.lemmas.List.{length-drop, take_all}
-use borrow.Author.Tests.{ltb-false, eqb-true}
+use borrow.Author.Tests.{eqb-true}
+use Rattle.sb_client.proofs.FirstBytes.{none_at}
 use Rattle.sb_client.specs.Lines.{newline, is_newline, without_empty_end, lines_of}
 
 parts_some : (xs : List ℕ) → 0 < length (slice_split is_newline xs)
@@ -28,10 +29,6 @@ line_found xs i h =
     let parts : slice_split is_newline xs ≡ take i xs ∷ slice_split is_newline (drop (i + 1) xs) = subst (λ n. slice_split is_newline xs ≡ take n xs ∷ slice_split is_newline (drop (n + 1) xs)) place (slice_split_first is_newline xs 0 lt) in
     let whole : take (length xs - (i + 1)) (drop (i + 1) xs) ≡ drop (i + 1) xs = take_all _ (drop (i + 1) xs) (omega (arith, length-drop (i + 1) xs)) in
     rw whole (ap without_empty_end parts ∙ keeps_first (take i xs) (slice_split is_newline (drop (i + 1) xs)) (parts_some (drop (i + 1) xs)))
-
-none_at : (xs : List ℕ) (b : Bool) → nat_lt (position_or_len is_newline xs) (length xs) ≡ b → cond b (Some (position_or_len is_newline xs)) None ≡ None → length xs ≤ position_or_len is_newline xs
-none_at xs true e h = absurd (cc)
-none_at xs false e h = ltb-false _ _ e
 
 one_part : (xs : List ℕ) → 0 < length xs → without_empty_end (xs ∷ []) ≡ xs ∷ []
 one_part [] h = absurd (omega arith)

@@ -5,6 +5,7 @@ ghost use Rattle.sb_outside.specs.Reading.{ReadsToEnd};
 ghost use Rattle.sb_client.specs.Input.{GivesWithin, GivesPast};
 
 use crate::stop::Stop;
+use memchr::memchr;
 use sb_model::Bytes;
 use sb_outside::{ReadFault, Source, read_piece};
 use std::alloc::{AllocError, Global};
@@ -21,7 +22,10 @@ const PIECE: usize = 262_144;
 fn count_newlines(bytes: &[u8]) -> usize
     ensures { result ≡ count_by is_newline bytes.now }
 {
-    bytes.iter().filter(|byte| **byte == b'\n').count()
+    match first_newline(bytes) {
+        Some(_) => bytes.iter().filter(|byte| **byte == b'\n').count(),
+        None => 0,
+    }
 }
 
 /// How many lines a text has, in which so many are ended.
@@ -78,7 +82,7 @@ pub(crate) fn read_input<S: Source>(alloc: Global, input: &mut S) -> Result<Byte
 fn first_newline(text: &[u8]) -> Option<usize>
     ensures { result ≡ position is_newline text.now }
 {
-    text.iter().position(|byte| *byte == b'\n')
+    memchr(b'\n', text)
 }
 
 /// The first line of a text that has some byte, and what stands after its newline.

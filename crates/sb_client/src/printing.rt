@@ -120,10 +120,24 @@ pub(crate) fn push_list_line(page: &mut Bytes, held: &HeldList) -> Result<(), Ou
     page.push(b'\n')
 }
 
+// The line of a prefix of four bytes, of which lists have the most.
+#[inline]
+fn push_line_of_four(page: &mut Bytes, prefix: &[u8]) -> Result<(), OutOfMemory>
+    requires { length prefix.now ≡ 4 }
+    ensures { OnOk result (page.new ≡ page.old ++ prefix_line prefix.now) }
+{
+    let mut line = [b'\n'; 9];
+    hex::encode_to_slice(prefix, &mut line[..8]).unwrap();
+    page.append(&line)
+}
+
 /// Appends the line of a prefix.
 pub(crate) fn push_prefix_line(page: &mut Bytes, prefix: &[u8]) -> Result<(), OutOfMemory>
     ensures { OnOk result (page.new ≡ page.old ++ prefix_line prefix.now) }
 {
+    if prefix.len() == 4 {
+        return push_line_of_four(page, prefix);
+    }
     append_hex(page, prefix)?;
     page.push(b'\n')
 }

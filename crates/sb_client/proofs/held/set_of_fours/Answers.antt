@@ -1,10 +1,9 @@
-use Rattle.std.proofs.Common.{◌≡◌, List, ℕ, [], ◌++◌, ap, sym, ◌∙◌, subst, Option, Some, Result, Ok, Err, ◌⊎◌, inl, inr}
+use Rattle.std.proofs.Common.{◌≡◌, List, ℕ, [], ◌++◌, ap, sym, ◌∙◌, Option, Some, Result, Ok, Err, ◌⊎◌, inl, inr}
 use Rattle.std.specs.Prelude.{IfErr, IsErrOf}
 use Rattle.std.proofs.lemmas.Result.{IfOk-weaker}
 use Rattle.sb_model.specs.Prefixes.{set_of}
 use Rattle.prefix_set.specs.Apply.{applied, apply_fault, limit_fault}
 use Rattle.prefix_set.specs.Edits.{EditLists}
-use Rattle.prefix_set.specs.Pieces.{pieces_of}
 use Rattle.prefix_set.specs.declared.fault.ApplyFault.{ApplyFault}
 use Rattle.prefix_set.specs.declared.fault.ApplyFault.TheVariants as apply
 use Rattle.sb_client.specs.PlainBody.{fours}

@@ -1,8 +1,8 @@
-use Rattle.std.proofs.Common.{ℕ, List, ◌++◌, ◌∷◌, [], ◌≡◌, refl, sym, ap, ◌∙◌, subst}
+use Rattle.std.proofs.Common.{ℕ, List, ◌++◌, refl, ap, ◌∙◌, subst}
 use Rattle.std.specs.List.{flat_map}
 use Rattle.sb_client.specs.Printed.{prefix_line}
 use Rattle.sb_outside.specs.Writing.{HasFront}
-use Rattle.sb_client.proofs.Ways.{way_start, way_more, way_front, way_end, front_more, members_step}
+use Rattle.sb_client.proofs.Ways.{way_start, way_more, way_front, front_more, members_step}
 use Rattle.sb_client.proofs.replay.print_prefixes.Goals as goal
 
 pub loop-prefix-init : goal.loop-prefix-init

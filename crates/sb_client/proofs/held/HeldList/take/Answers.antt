@@ -1,7 +1,7 @@
-use Rattle.std.proofs.Common.{◌≡◌, ◌<◌, ◌≤◌, Err, List, ℕ, length, refl, sym, ap, ◌∙◌, subst}
-use Rattle.sb_model.specs.Prefixes.{set_of, concatenation}
+use Rattle.std.proofs.Common.{List, ℕ, ap, ◌∙◌}
+use Rattle.sb_model.specs.Prefixes.{set_of}
 use Rattle.sb_client.specs.PlainBody.{fours}
-use Rattle.sb_client.proofs.Taking.{took, limit_clauses}
+use Rattle.sb_client.proofs.Taking.{took}
 use Rattle.sb_client.proofs.held.HeldList.take.Goals as goal
 
 pub returns-in-Ok-clause-list : goal.returns-in-Ok-clause-list
