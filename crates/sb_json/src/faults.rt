@@ -1,0 +1,56 @@
+ghost use Rattle.std.specs.Prelude.{◌≡◌};
+ghost use Rattle.sb_json.specs.declared.faults.FieldFault.TheVariants.{OutOfMemory as FieldMemory};
+ghost use Rattle.sb_json.specs.declared.faults.MessageFault.TheVariants.{OutOfMemory as MessageMemory};
+
+use crate::Field;
+use sb_model::OutOfMemory;
+
+/// Why a field is not read.
+#[derive(Clone, Copy, Debug, PartialEq, Eq, Hash)]
+pub enum FieldFault {
+    /// 1: it is needed, and absent or null.
+    Missing(Field),
+    /// 2: it is a value of another kind than its own.
+    WrongKind(Field),
+    /// 3: it is no whole number, or out of its range.
+    Number(Field),
+    /// 4: it is not base64 of some bytes.
+    Base64(Field),
+    /// 5: it is a word that its table has not.
+    Name(Field),
+    /// 6: it has this many bytes, which it may not.
+    Size(Field, u64),
+    /// 7: it is no duration.
+    Duration(Field),
+    /// Memory was refused. It never stands inside another fault.
+    OutOfMemory,
+}
+
+/// Why a text is no message.
+#[derive(Clone, Copy, Debug, PartialEq, Eq, Hash)]
+pub enum MessageFault {
+    /// 1: it is not JSON.
+    NotJson,
+    /// 2: a field is not read, in the item with this number. Items count from 1, and 0 is outside them.
+    Field(FieldFault, u64),
+    /// 3: there are this many items, more than there may be.
+    TooManyItems(u64),
+    /// Memory was refused.
+    OutOfMemory,
+}
+
+impl From<OutOfMemory> for FieldFault {
+    ghost from_gives = { λ _ fault. fault ≡ FieldMemory };
+
+    fn from(_refused: OutOfMemory) -> FieldFault {
+        FieldFault::OutOfMemory
+    }
+}
+
+impl From<OutOfMemory> for MessageFault {
+    ghost from_gives = { λ _ fault. fault ≡ MessageMemory };
+
+    fn from(_refused: OutOfMemory) -> MessageFault {
+        MessageFault::OutOfMemory
+    }
+}
