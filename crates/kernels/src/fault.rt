@@ -1,3 +1,4 @@
+use prefix_set::ApplyFault;
 use rice_coding::RiceFault;
 use sb_model::OutOfMemory;
 use std::alloc::{AllocError, AllocFailed};
@@ -15,6 +16,7 @@ pub enum KernelFault {
     /// The count is 0.
     NoValues,
     Rice(RiceFault),
+    Set(ApplyFault),
     Url(UrlFault),
     OutOfMemory,
 }
@@ -26,6 +28,7 @@ impl fmt::Display for KernelFault {
             KernelFault::Number => write!(f, "the count or the seed is no number"),
             KernelFault::NoValues => write!(f, "the count is 0"),
             KernelFault::Rice(fault) => write!(f, "{fault}"),
+            KernelFault::Set(fault) => write!(f, "{fault}"),
             KernelFault::Url(fault) => write!(f, "{fault}"),
             KernelFault::OutOfMemory => write!(f, "out of memory"),
         }

@@ -5,10 +5,12 @@
 
 mod fault;
 mod rice;
+mod sets;
 mod url;
 mod url_text;
 
 use fault::KernelFault;
+use sets::Order;
 use std::alloc::Global;
 use std::process::ExitCode;
 use std::{env, io};
@@ -18,6 +20,12 @@ const USAGE: &str = "usage: kernels KERNEL COUNT SEED
   rice-values           makes at most COUNT rising numbers, spread over 32 bits
   rice-encode           makes the numbers, and encodes them
   rice-decode           makes the numbers, encodes them, and decodes the record
+  set-rising            makes at most COUNT prefixes that rise
+  set-shuffled          makes at most COUNT prefixes in no order
+  set-of-rising         makes those that rise, and their set
+  set-of-shuffled       makes those in no order, and their set
+  set-change            makes a set, and changes 4,000 of its prefixes
+  set-look-up           makes a set, and looks 1,000,000 prefixes up
   urls                  makes COUNT URLs such as pages have
   canonical             makes the URLs, and their canonical forms
   expressions           makes the URLs, their canonical forms and the expressions of those
@@ -53,6 +61,19 @@ fn run(alloc: Global, kernel: &str, count: &str, seed: &str) -> Result<u64, Kern
         "rice-values" => rice::make_values(alloc, count, seed),
         "rice-encode" => rice::encode_values(alloc, count, seed),
         "rice-decode" => rice::decode_values(alloc, count, seed),
+        _ => run_on_sets(alloc, kernel, count, seed),
+    }
+}
+
+/// The checksum of a kernel that works on sets, or of another.
+fn run_on_sets(alloc: Global, kernel: &str, count: u32, seed: u64) -> Result<u64, KernelFault> {
+    match kernel {
+        "set-rising" => sets::make_bytes(alloc, Order::Rising, count, seed),
+        "set-shuffled" => sets::make_bytes(alloc, Order::Shuffled, count, seed),
+        "set-of-rising" => sets::make_set(alloc, Order::Rising, count, seed),
+        "set-of-shuffled" => sets::make_set(alloc, Order::Shuffled, count, seed),
+        "set-change" => sets::change_set(alloc, count, seed),
+        "set-look-up" => sets::look_up(alloc, count, seed),
         _ => run_on_urls(alloc, kernel, count, seed),
     }
 }

@@ -1,2 +1,16 @@
+pub mod ApplyFacts
+pub mod DifferenceFacts
 pub mod FeedFacts
+pub mod IndexFacts
+pub mod KeptFacts
+pub mod LookupFacts
+pub mod MergeFacts
+pub mod SearchFacts
 pub mod SetFacts
+pub mod PackedFacts
+pub mod PackedList
+pub mod SortFacts
+pub mod SortRising
+pub mod SortedQuads
+pub mod PackedSorted
+pub mod PackedEqual

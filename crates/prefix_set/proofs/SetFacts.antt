@@ -15,13 +15,12 @@ use Rattle.std.proofs.lemmas.List.Kept.{IsStrictlySortedBy-dedup, Contains-dedup
 use Rattle.std.proofs.lemmas.List.Sorted.{Contains-permutation, IsPermutation-sym}
 use Rattle.std.proofs.lemmas.Map.Keys.{sorted_head, sorted_tail}
 use Rattle.std.proofs.lemmas.Map.Lookups.{exact_bytes}
-use Rattle.prefix_set.specs.Limits.{IsPrefixSet}
 use Rattle.sb_model.specs.Prefixes.{bytes_cmp, IsRising, with_member, set_of, concatenation}
 
 -- ---- the order of byte strings
 
 -- x comes before y
-abbrev IsBefore : List ℕ → List ℕ → Type 0
+abbrev pub IsBefore : List ℕ → List ℕ → Type 0
 IsBefore x y = bytes_cmp x y ≡ Less
 
 before_from_reverse : (o : Ordering) → Greater ≡ ordering_reverse o → o ≡ Less
@@ -29,45 +28,45 @@ before_from_reverse Less h = refl
 before_from_reverse Equal h = cc h
 before_from_reverse Greater h = cc h
 
-before_flip : (x y : List ℕ) → bytes_cmp x y ≡ Greater → IsBefore y x
+pub before_flip : (x y : List ℕ) → bytes_cmp x y ≡ Greater → IsBefore y x
 before_flip x y h = before_from_reverse (bytes_cmp y x) (sym h ∙ nat_list_cmp_total.antisymm x y)
 
-before_trans : (x y z : List ℕ) → IsBefore x y → IsBefore y z → IsBefore x z
+pub before_trans : (x y z : List ℕ) → IsBefore x y → IsBefore y z → IsBefore x z
 before_trans x y z h k = nat_list_cmp_total.trans x y z h k
 
-before_itself : (x : List ℕ) → IsBefore x x → ⊥
+pub before_itself : (x : List ℕ) → IsBefore x x → ⊥
 before_itself x h = cc (sym h ∙ tied_itself nat_list_cmp_total x)
 
-before_both : (x y : List ℕ) → IsBefore x y → IsBefore y x → ⊥
+pub before_both : (x y : List ℕ) → IsBefore x y → IsBefore y x → ⊥
 before_both x y h k = before_itself x (before_trans x y x h k)
 
 -- ---- members of a list
 
-Contains-here : (x : List ℕ) (xs : List (List ℕ)) → Contains (x ∷ xs) x
+pub Contains-here : (x : List ℕ) (xs : List (List ℕ)) → Contains (x ∷ xs) x
 Contains-here x xs = (0, omega arith, refl)
 
-Contains-there : (y x : List ℕ) (xs : List (List ℕ)) → Contains xs x → Contains (y ∷ xs) x
+pub Contains-there : (y x : List ℕ) (xs : List (List ℕ)) → Contains xs x → Contains (y ∷ xs) x
 Contains-there y x xs h = (suc h.0, omega (arith, h.1), h.2)
 
-Contains-cases : (y x : List ℕ) (xs : List (List ℕ)) → Contains (y ∷ xs) x → (y ≡ x) ⊎ Contains xs x
+pub Contains-cases : (y x : List ℕ) (xs : List (List ℕ)) → Contains (y ∷ xs) x → (y ≡ x) ⊎ Contains xs x
 Contains-cases y x xs (zero, below, is) = inl is
 Contains-cases y x xs (suc k, below, is) = inr (k, omega (arith, below), is)
 
-Contains-nil : (x : List ℕ) → Contains [] x → ⊥
+pub Contains-nil : (x : List ℕ) → Contains [] x → ⊥
 Contains-nil x h = omega (arith, h.1)
 
 -- each member of what stands after x comes after it
-after_head : (x z : List ℕ) (xs : List (List ℕ)) → IsRising (x ∷ xs) → Contains xs z → IsBefore x z
+pub after_head : (x z : List ℕ) (xs : List (List ℕ)) → IsRising (x ∷ xs) → Contains xs z → IsBefore x z
 after_head x z xs rising h =
     All-contains (λ y. IsBefore x y) xs z (All-from_recursion (λ y. IsBefore x y) xs (sorted_head bytes_cmp x xs rising)) h
 
 -- ---- one more member
 
-rising_cons : (x : List ℕ) (xs : List (List ℕ)) → AllByRecursion (λ y. IsBefore x y) xs → IsRising xs → IsRising (x ∷ xs)
+pub rising_cons : (x : List ℕ) (xs : List (List ℕ)) → AllByRecursion (λ y. IsBefore x y) xs → IsRising xs → IsRising (x ∷ xs)
 unfolding IsStrictlySortedBy
 rising_cons x xs above rising = (above, rising)
 
-rising_nil : IsRising []
+pub rising_nil : IsRising []
 unfolding IsStrictlySortedBy
 rising_nil = tt
 
@@ -231,7 +230,3 @@ pub bytes-set_of : (xs : List (List ℕ)) → length (concatenation (set_of xs))
 bytes-set_of [] = omega arith
 bytes-set_of (x ∷ xs) =
     omega (arith, bytes-with_member x (set_of xs), bytes-set_of xs, length-append x (concatenation xs))
-
--- the set without a member is within the limits
-pub IsPrefixSet-nil : IsPrefixSet []
-IsPrefixSet-nil = record { rising = rising_nil; count = omega arith; bytes = omega arith }

@@ -1,10 +1,25 @@
-//! Sets of hash prefixes, each a rising list without repeats, with the digest of its members.
+//! Sets of hash prefixes, each a rising list without repeats in packed bytes, with an index, changes,
+//! differences, and the digest of the members.
 #![tactic(auto)]
 
+pub use difference::Delta;
+pub use edit::Edit;
 pub use fault::ApplyFault;
-pub use set::{MAX_BYTES, MAX_PREFIXES, PrefixSet};
+pub use iteration::Members;
+pub use set::{MAX_BYTES, MAX_PREFIXES, Merged, PrefixSet};
+pub use store::PackedStore;
 
+mod difference;
+mod edit;
 mod fault;
+mod index;
+mod iteration;
+mod layout;
+mod merge;
+mod packed;
+mod search;
 mod set;
+mod sorting;
+mod store;
 #[cfg(test)]
 mod tests;

@@ -1,18 +1,29 @@
-ghost use Rattle.std.specs.Prelude.{◌≡◌, ◌≢◌, ◌<◌, ◌≤◌, ℕ, ◌↔◌, List, [], length, take, nat_eq, slice_get, Some, Err, Contains, IsTrue, IsOk, IfOk, OnOk, IsErrOf, IsOkUnless};
-ghost use Rattle.std.specs.Slice.Iter.{iter_rest};
+ghost use Rattle.std.specs.Prelude.{◌≡◌, ◌<◌, ◌≤◌, ◌+◌, ◌*◌, ◌^◌, ℕ, ◌↔◌, ◌⊎◌, List, [], ◌++◌, length, nat_eq, slice_get, slice_index_or, Some, None, Option, Contains, IsTrue, IfOk, OnOk, IfErr};
 ghost use Rattle.std.specs.Cmp.{partial_equiv_from_equiv};
 ghost use Rattle.std.specs.Cmp.Lexicographic.{pointwise, lists_equiv, nat_list_eq_equiv};
 ghost use Rattle.sb_model.specs.Prefixes.{IsRising, set_of, concatenation};
+ghost use Rattle.sb_model.specs.Candidate.{without_places};
+ghost use Rattle.sb_model.specs.Difference.{removed_places, added_members};
 ghost use Rattle.sha2.specs.Sha256.{sha256};
-ghost use Rattle.prefix_set.specs.Limits.{IsWithinLimits};
+ghost use Rattle.prefix_set.specs.Apply.{applied, apply_fault, first_past, limit_fault, Stays};
+ghost use Rattle.prefix_set.specs.Index.{HaveHeads, alike_count, count_below};
+ghost use Rattle.prefix_set.specs.Search.{IsSpanOf};
+ghost use Rattle.prefix_set.specs.Limits.{ArePrefixes, IsPrefixSet};
 
-use crate::ApplyFault;
+use crate::difference::{Delta, members_added, places_removed, prefix_of};
+use crate::edit::{Edit, EditParts, numbers_of};
+use crate::index::{HeadIndex, head_of, heads_below};
+use crate::merge::merged;
+use crate::packed::PackedPrefixes;
+use crate::search::place_between;
+use crate::store::PackedStore;
+use crate::{ApplyFault, Members};
 use hash_prefixes::Prefix;
-use sb_model::Row;
-use sha2::{Digest, Sha256};
+use sb_model::{OutOfMemory, Steps};
 use std::alloc::Global;
+use std::cmp::Ordering;
 use std::marker::Model;
-use std::slice;
+use std::sync::ledger::Ledger;
 
 /// The most prefixes that a set holds.
 pub const MAX_PREFIXES: u64 = 1_048_576;
@@ -24,60 +35,55 @@ pub const MAX_BYTES: u64 = 8_388_608;
 /// prefixes as byte strings, without repeats.
 #[derive(Debug, Drop)]
 pub struct PrefixSet {
-    items: Vec<Prefix>,
+    store: PackedStore,
+    index: HeadIndex,
 }
 
 impl Model for PrefixSet {
     ghost use Rattle.std.specs.Prelude.{ℕ, List};
-    ghost use Rattle.prefix_set.specs.Limits.{IsPrefixSet};
+    ghost use Rattle.prefix_set.specs.Index.{IsIndexed};
 
     ghost Value = { List (List ℕ) };
 
-    ghost view = { λ s. s.items.items };
+    ghost view = { λ s. s.store };
 
-    ghost invariant = { λ s. IsPrefixSet s.items.items };
+    ghost invariant = { λ s. IsIndexed s.store s.index };
 }
 
-// How many bytes the prefixes have in all.
-fn total_bytes(prefixes: &[Prefix]) -> u64
-    requires { length prefixes.now ≤ MAX_PREFIXES }
-    ensures { result ≡ length (concatenation prefixes.now) }
+/// What `merge` made: the set, and its digest.
+#[derive(Debug, Drop)]
+pub struct Merged {
+    pub set: PrefixSet,
+    pub digest: [u8; 32],
+}
+
+// The members from one place on and before another.
+#[derive(Clone, Copy)]
+struct Span {
+    start: u32,
+    end: u32,
+}
+
+// The first of the indices that is not below a length.
+fn index_past(len: u32, indices: &[u32]) -> Option<u32>
+    ensures { result ≡ first_past len indices.now }
 {
-    let mut bytes = 0;
-    for prefix in prefixes {
-        bytes += u64::from(prefix.size());
+    indices.iter().copied().find(|index| *index >= len)
+}
+
+// Why these rising members are more than a set holds.
+fn past_limits(members: &PackedPrefixes) -> Option<ApplyFault>
+    ensures { result ≡ limit_fault members.now }
+{
+    let count = members.len() as u64;
+    if count > MAX_PREFIXES {
+        return Some(ApplyFault::TooMany(count));
     }
-    bytes
-}
-
-// How many prefixes are hashed at a time, and the room that they need.
-const BLOCK_PREFIXES: usize = 128;
-
-const BLOCK_SIZE: usize = 32 * BLOCK_PREFIXES;
-
-// Copies the prefixes to the front of a block, one after the other: how many bytes these are.
-fn gather(prefixes: &[Prefix], block: &mut [u8; BLOCK_SIZE]) -> usize
-    requires { length prefixes.now ≤ BLOCK_PREFIXES }
-    ensures fits { result ≤ BLOCK_SIZE }
-    ensures value { take result block.new ≡ concatenation prefixes.now }
-{
-    let mut used = 0;
-    for prefix in prefixes {
-        let end = used + prefix.size() as usize;
-        block[used..end].copy_from_slice(prefix.as_bytes());
-        used = end;
+    let bytes = members.byte_len() as u64;
+    if bytes > MAX_BYTES {
+        return Some(ApplyFault::TooLarge(bytes));
     }
-    used
-}
-
-// The members in rising order, without repeats.
-fn rising_members(prefixes: Row<Prefix>) -> Vec<Prefix>
-    ensures { result.items ≡ set_of prefixes }
-{
-    let mut items = prefixes.into_vec();
-    items.sort_unstable();
-    items.dedup();
-    items
+    None
 }
 
 impl PrefixSet {
@@ -86,70 +92,17 @@ impl PrefixSet {
         ensures { result ≡ [] }
     {
         PrefixSet {
-            items: Vec::new(alloc),
+            store: PackedStore::of(PackedPrefixes::new(alloc)),
+            index: HeadIndex::empty(alloc),
         }
-    }
-
-    /// The set of the prefixes of a row, in any order and with repeats. The row is moved and sorted
-    /// in its place, so this takes no memory.
-    ///
-    /// The limits look at the prefixes without repeats, first at their count, then at their bytes.
-    pub fn from_row(prefixes: Row<Prefix>) -> Result<PrefixSet, ApplyFault>
-        ensures ok { IfOk result (λ set. set ≡ set_of prefixes) }
-        ensures succeeds { IsOk result ↔ IsWithinLimits (set_of prefixes) }
-        ensures memory { result ≢ Err ApplyFault.OutOfMemory }
-        ensures too_many { (n : ℕ) → IsErrOf result (ApplyFault.TooMany n)
-            ↔ ((length (set_of prefixes) ≡ n) × (MAX_PREFIXES < n)) }
-        ensures too_large { (n : ℕ) → IsErrOf result (ApplyFault.TooLarge n)
-            ↔ ((length (set_of prefixes) ≤ MAX_PREFIXES)
-            × (length (concatenation (set_of prefixes)) ≡ n) × (MAX_BYTES < n)) }
-
-        // What `set_of` says, in plain words.
-        ensures rising { IfOk result IsRising }
-        ensures members { IfOk result (λ set. (x : List ℕ) → Contains set x ↔ Contains prefixes x) }
-        ensures no_more { length (set_of prefixes) ≤ length prefixes }
-        ensures no_longer { length (concatenation (set_of prefixes))
-            ≤ length (concatenation prefixes) }
-    {
-        PrefixSet::within_limits(rising_members(prefixes))
-    }
-
-    // The set of these rising members, if there are not too many of them.
-    fn within_limits(items: Vec<Prefix>) -> Result<PrefixSet, ApplyFault>
-        requires { IsRising items.items }
-        ensures ok { IfOk result (λ set. set ≡ items.items) }
-        ensures succeeds { IsOk result ↔ IsWithinLimits items.items }
-        ensures memory { result ≢ Err ApplyFault.OutOfMemory }
-        ensures too_many { (n : ℕ) → IsErrOf result (ApplyFault.TooMany n)
-            ↔ ((length items.items ≡ n) × (MAX_PREFIXES < n)) }
-        ensures too_large { (n : ℕ) → IsErrOf result (ApplyFault.TooLarge n)
-            ↔ ((length items.items ≤ MAX_PREFIXES)
-            × (length (concatenation items.items) ≡ n) × (MAX_BYTES < n)) }
-    {
-        let count = items.len() as u64;
-        if count > MAX_PREFIXES {
-            return Err(ApplyFault::TooMany(count));
-        }
-        let bytes = total_bytes(&items);
-        if bytes > MAX_BYTES {
-            return Err(ApplyFault::TooLarge(bytes));
-        }
-        Ok(PrefixSet { items })
     }
 
     /// The set of these prefixes, which may stand in any order and with repeats.
-    ///
-    /// The limits look at the prefixes without repeats, first at their count, then at their bytes.
     pub fn from_prefixes(alloc: Global, prefixes: &[Prefix]) -> Result<PrefixSet, ApplyFault>
         ensures ok { IfOk result (λ set. set ≡ set_of prefixes.now) }
-        ensures within { OnOk result (IsWithinLimits (set_of prefixes.now)) }
-        ensures succeeds { IsWithinLimits (set_of prefixes.now)
-            → IsOkUnless result ApplyFault.OutOfMemory }
-        ensures too_many { (n : ℕ) → IsErrOf result (ApplyFault.TooMany n)
-            → (length (set_of prefixes.now) ≡ n) × (MAX_PREFIXES < n) }
-        ensures too_large { (n : ℕ) → IsErrOf result (ApplyFault.TooLarge n)
-            → (length (set_of prefixes.now) ≤ MAX_PREFIXES)
-            × (length (concatenation (set_of prefixes.now)) ≡ n) × (MAX_BYTES < n) }
+        ensures within { OnOk result (limit_fault (set_of prefixes.now) ≡ None) }
+        ensures fault { IfErr result (λ fault. (fault ≡ ApplyFault.OutOfMemory)
+            ⊎ (limit_fault (set_of prefixes.now) ≡ Some fault)) }
 
         // What `set_of` says, in plain words.
         ensures rising { IfOk result IsRising }
@@ -159,21 +112,150 @@ impl PrefixSet {
         ensures no_longer { length (concatenation (set_of prefixes.now))
             ≤ length (concatenation prefixes.now) }
     {
-        PrefixSet::from_row(Row::from_slice(alloc, prefixes)?)
+        let members = PackedPrefixes::from_prefixes(alloc, prefixes)?.into_rising(alloc)?;
+        PrefixSet::of_rising(alloc, members)
+    }
+
+    /// The set without the members at the places of `removals`, counted from 0, and with the
+    /// additions. Both may stand in any order and with repeats, and an addition may be there already
+    /// or be removed in the same call, which keeps it.
+    pub fn apply(
+        &self,
+        alloc: Global,
+        removals: &[u32],
+        additions: &[Prefix],
+    ) -> Result<PrefixSet, ApplyFault>
+        ensures ok { IfOk result (λ set. set ≡ applied self.now removals.now additions.now) }
+        ensures within { OnOk result (apply_fault self.now removals.now additions.now ≡ None) }
+        ensures fault { IfErr result (λ fault. (fault ≡ ApplyFault.OutOfMemory)
+            ⊎ (apply_fault self.now removals.now additions.now ≡ Some fault)) }
+
+        // What `applied` says, in plain words.
+        ensures rising { IfOk result IsRising }
+        ensures members { IfOk result (λ set. (x : List ℕ) → Contains set x
+            ↔ (Stays self.now removals.now x ⊎ Contains additions.now x)) }
+    {
+        let additions = PackedPrefixes::from_prefixes(alloc, additions)?;
+        self.changed(alloc, numbers_of(alloc, removals)?, additions)
+    }
+
+    /// What `apply` makes of the lists of an edit, and the digest of the set.
+    pub fn merge(&self, alloc: Global, edit: Edit) -> Result<Merged, ApplyFault>
+        ensures ok { IfOk result
+            (λ merged. merged.set ≡ applied self.now edit.removals edit.additions) }
+        ensures digest { IfOk result
+            (λ merged. merged.digest ≡ sha256 (concatenation merged.set)) }
+        ensures within { OnOk result
+            (apply_fault self.now edit.removals edit.additions ≡ None) }
+        ensures fault { IfErr result (λ fault. (fault ≡ ApplyFault.OutOfMemory)
+            ⊎ (apply_fault self.now edit.removals edit.additions ≡ Some fault)) }
+
+        // What `applied` says, in plain words.
+        ensures rising { IfOk result (λ merged. IsRising merged.set) }
+        ensures members { IfOk result (λ merged. (x : List ℕ) → Contains merged.set x
+            ↔ (Stays self.now edit.removals x ⊎ Contains edit.additions x)) }
+    {
+        let EditParts {
+            removals,
+            additions,
+        } = edit.into_parts();
+        let set = self.changed(alloc, removals, additions)?;
+        let digest = set.digest();
+        Ok(Merged { set, digest })
+    }
+
+    // The one body of the two changes.
+    fn changed(
+        &self,
+        alloc: Global,
+        removals: Vec<u32>,
+        additions: PackedPrefixes,
+    ) -> Result<PrefixSet, ApplyFault>
+        ensures ok { IfOk result (λ set. set ≡ applied self.now removals.items additions) }
+        ensures within { OnOk result (apply_fault self.now removals.items additions ≡ None) }
+        ensures fault { IfErr result (λ fault. (fault ≡ ApplyFault.OutOfMemory)
+            ⊎ (apply_fault self.now removals.items additions ≡ Some fault)) }
+    {
+        if let Some(index) = index_past(self.len(), &removals) {
+            return Err(ApplyFault::IndexRange {
+                index,
+                len: self.len(),
+            });
+        }
+        PrefixSet::of_rising(
+            alloc,
+            merged(alloc, self.store.packed(), removals, additions)?,
+        )
+    }
+
+    // The set of these rising members, if they are within the limits.
+    fn of_rising(alloc: Global, members: PackedPrefixes) -> Result<PrefixSet, ApplyFault>
+        requires { IsRising members }
+        ensures ok { IfOk result (λ set. set ≡ members) }
+        ensures within { OnOk result (limit_fault members ≡ None) }
+        ensures fault { IfErr result (λ fault. (fault ≡ ApplyFault.OutOfMemory)
+            ⊎ (limit_fault members ≡ Some fault)) }
+    {
+        if let Some(fault) = past_limits(&members) {
+            return Err(fault);
+        }
+        let index = HeadIndex::of(alloc, &members)?;
+        Ok(PrefixSet {
+            store: PackedStore::of(members),
+            index,
+        })
+    }
+
+    /// The same set once more.
+    pub fn copy(&self, alloc: Global) -> Result<PrefixSet, OutOfMemory>
+        ensures { IfOk result (λ copy. copy ≡ self.now) }
+    {
+        let store = self.store.copy(alloc)?;
+        let index = self.index.copy(alloc)?;
+        Ok(PrefixSet { store, index })
+    }
+
+    /// What leads from this set to a newer one. `apply` of it to this set is the newer set.
+    pub fn difference(&self, alloc: Global, newer: &PrefixSet) -> Result<Delta, OutOfMemory>
+        ensures removals { IfOk result
+            (λ delta. delta.removals ≡ removed_places self.now newer.now) }
+        ensures additions { IfOk result
+            (λ delta. delta.additions ≡ added_members self.now newer.now) }
+
+        // Applied to this set it gives the newer one.
+        ensures leads { IfOk result
+            (λ delta. applied self.now delta.removals delta.additions ≡ newer.now) }
+        ensures applies { IfOk result
+            (λ delta. apply_fault self.now delta.removals delta.additions ≡ None) }
+    {
+        let held = self.store.packed();
+        let wanted = newer.store.packed();
+        let removals = places_removed(alloc, held, wanted)?;
+        let additions = members_added(alloc, held, wanted)?;
+        Ok(Delta {
+            removals,
+            additions,
+        })
     }
 
     /// How many members there are.
     pub fn len(&self) -> u32
         ensures value { result ≡ length self.now }
-        ensures limit { result ≤ MAX_PREFIXES }
+
+        // What each set keeps: the members rise, each has 4 to 32 bytes, and they are within the
+        // limits.
+        ensures rising { IsRising self.now }
+        ensures prefixes { ArePrefixes self.now }
+        ensures count { length self.now ≤ MAX_PREFIXES }
+        ensures bytes { length (concatenation self.now) ≤ MAX_BYTES }
     {
-        self.items.len() as u32
+        self.store.len()
     }
 
     pub fn is_empty(&self) -> bool
         ensures { IsTrue result ↔ (self.now ≡ []) }
     {
-        self.items.is_empty()
+        self.store.packed().is_empty()
     }
 
     /// The member at a place of the rising order, counted from 0.
@@ -181,40 +263,98 @@ impl PrefixSet {
         requires { index < length self.now }
         ensures { slice_get self.now index ≡ Some result }
     {
-        self.items[index as usize]
+        prefix_of(self.store.packed().at(index as usize))
     }
 
-    /// The members, rising.
-    pub fn as_slice(&self) -> &[Prefix]
-        ensures value { result.now ≡ self.now }
-        ensures rising { IsRising self.now }
-        ensures count { length self.now ≤ MAX_PREFIXES }
-        ensures bytes { length (concatenation self.now) ≤ MAX_BYTES }
+    /// The members, rising, each as its bytes.
+    pub fn iter(&self) -> Members<'_>
+        ensures members { result ≡ self.now }
+        ensures prefixes { ArePrefixes self.now }
     {
-        self.items.as_slice()
+        self.store.packed().iter()
     }
 
-    /// The members, rising.
-    pub fn iter(&self) -> slice::Iter<'_, Prefix>
-        ensures { iter_rest result ≡ self.now }
+    /// Whether some member has this many bytes. It takes no memory.
+    pub fn has_size(&self, size: u8) -> bool
+        ensures { IsTrue result
+            ↔ ((member : List ℕ) × Contains self.now member × (length member ≡ size)) }
     {
-        self.items.iter()
+        self.store.packed().has_size(size)
+    }
+
+    /// The members in packed bytes.
+    pub fn store(&self) -> &PackedStore
+        ensures { result.now ≡ self.now }
+    {
+        &self.store
     }
 
     /// The SHA-256 of the members one after the other, in rising order.
     pub fn digest(&self) -> [u8; 32]
         ensures { result ≡ sha256 (concatenation self.now) }
     {
-        let mut hasher = Sha256::new();
-        let mut block = [0; BLOCK_SIZE];
-        let mut rest = self.as_slice();
-        while !rest.is_empty() {
-            let (front, tail) = rest.split_at(rest.len().min(BLOCK_PREFIXES));
-            let used = gather(front, &mut block);
-            hasher.update(&block[..used]);
-            rest = tail;
+        self.store.packed().digest()
+    }
+
+    /// Whether the prefix is a member. It takes no memory.
+    pub fn contains(&self, prefix: &Prefix) -> bool
+        ensures { IsTrue result ↔ Contains self.now prefix.now }
+    {
+        let span = self.span_of(prefix);
+        let members = self.store.packed();
+        let bytes = prefix.as_bytes();
+        place_between(members, span.start as usize, span.end as usize, bytes).is_found()
+    }
+
+    /// Whether the prefix is a member. It compares the prefix with members that have its first two
+    /// bytes alone, and counts each comparison as a step: as many as their count has binary digits,
+    /// or fewer. It takes no memory.
+    pub fn contains_counted<L: Ledger>(&self, prefix: &Prefix, steps: &mut Steps<L>) -> bool
+        requires { steps.old < 2 ^ 32 }
+        ensures member { IsTrue result ↔ Contains self.now prefix.now }
+        ensures steps { (r : ℕ) × (steps.new ≡ steps.old + r)
+            × (2 ^ r ≤ 4 * alike_count self.now prefix.now + 2) }
+    {
+        let span = self.span_of(prefix);
+        let store = &self.store;
+        let mut low = span.start;
+        let mut high = span.end;
+        while low < high {
+            let middle = low + (high - low) / 2;
+            match store.compare(middle, prefix, steps) {
+                Ordering::Less => low = middle + 1,
+                Ordering::Equal => return true,
+                Ordering::Greater => high = middle,
+            }
         }
-        hasher.finalize()
+        false
+    }
+
+    // The members with the first two bytes of a prefix.
+    fn span_of(&self, prefix: &Prefix) -> Span
+        ensures { IsSpanOf self.now prefix.now result.start result.end }
+    {
+        let _ = prefix.size();
+        self.span_with(head_of(prefix.as_bytes()))
+    }
+
+    // The members with a head.
+    fn span_with(&self, head: u16) -> Span
+        ensures start { result.start ≡ count_below self.now head }
+        ensures end { result.end ≡ count_below self.now (head + 1) }
+        ensures rising { IsRising self.now }
+        ensures heads { HaveHeads self.now }
+    {
+        match &self.index {
+            HeadIndex::Heads(heads) => Span {
+                start: heads_below(heads, u32::from(head)) as u32,
+                end: heads_below(heads, u32::from(head) + 1) as u32,
+            },
+            HeadIndex::Places(places) => Span {
+                start: places[head as usize],
+                end: places[head as usize + 1],
+            },
+        }
     }
 }
 
@@ -224,7 +364,7 @@ impl PartialEq for PrefixSet {
     ghost laws = { partial_equiv_from_equiv (lists_equiv nat_list_eq_equiv) };
 
     fn eq(&self, other: &PrefixSet) -> bool {
-        self.as_slice() == other.as_slice()
+        self.store.packed() == other.store.packed()
     }
 }
 

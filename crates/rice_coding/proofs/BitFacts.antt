@@ -1,13 +1,13 @@
 -- Lemmas on the bits of numbers and of byte strings.
 use Rattle.std.proofs.Common.{◌≡◌, inl, inr, ℕ, zero, suc, ◌+◌, ◌-◌, ◌*◌, ◌/◌, ◌%◌, ◌^◌, ◌<◌, ◌≤◌, Bool, true, false, eqb, List, [], ◌∷◌, ◌++◌, length, get_or, take, drop, replicate, refl, sym, ap, ◌∙◌, subst, arith, bit_and, bit_or, Result, Ok, Err}
-use Rattle.std.specs.Prelude.{OnOk}
+use Rattle.std.specs.Prelude.{IfOk}
 use Rattle.rice_coding.specs.Codes.{code}
-use Rattle.std.proofs.lemmas.List.{append_assoc, length-append, replicate-append-replicate, get_or_append_left, get_or-append_right, length-drop, drop-drop, drop_at, take_at, take_rest}
-use Rattle.std.proofs.Math.Nat.{pow-suc, pow-le-pow_right}
-use Rattle.std.proofs.lemmas.Nat.{pow-add, shr-shr, shr_high, shr_split, shl_whole, shr_below, pow_pos, one_shl, mod_below, and_mask, or_comm, or_shifted, mul-add-lt}
+use Rattle.std.proofs.lemmas.List.{append_assoc, length-append, replicate-append-replicate, get_or_append_left, get_or-append_right, length-drop, length-take, get_or-take, get_or_past, drop-drop, drop_at, take_at, take_rest}
+use Rattle.std.proofs.Math.Nat.{pow-suc, pow-le-pow_right, mul-mod_left}
+use Rattle.std.proofs.lemmas.Nat.{pow-add, shr-shr, shr_high, shr_split, shl_whole, shl_below, shr_below, pow_pos, one_shl, mod_below, and_mask, or_comm, or_shifted, mul-add-lt, mod-pow-add, shl-shr, from_le_bytes-to_le_bytes_8}
 use Rattle.std.proofs.lemmas.Nat.Bits.{bit_at_lowest, bit_at-suc, bit_at-zero}
 use Rattle.std.proofs.lemmas.Bool.{cases_lt}
-use Rattle.std.specs.Int.{bit_at, w32, w64, from_le_bytes, to_le_bytes}
+use Rattle.std.specs.Int.{bit_at, w64, from_le_bytes, to_le_bytes}
 use Rattle.rice_coding.specs.Bits.{low_bits, byte_bits, bits_of, bits_from}
 
 pub length-low_bits : (k n : ℕ) → length (low_bits k n) ≡ k
@@ -177,16 +177,33 @@ take-low_bits j k n within =
     ap (λ (m : ℕ). take j (low_bits m n)) (sym size) ∙ ap (take j) (low_bits-split j (k - j) n)
     ∙ take_at (low_bits j n) (low_bits (k - j) (n / 2 ^ j)) j (length-low_bits j n)
 
-pub bits_of-word : (n : ℕ) → n < 2 ^ 32 → bits_of (to_le_bytes w32 n) ≡ low_bits 32 n
+-- the eight bytes of a word
+pub bytes_fit : (n i : ℕ) → get_or (to_le_bytes w64 n) i 0 < 256
+bytes_fit n zero = omega arith
+bytes_fit n (suc zero) = omega arith
+bytes_fit n (suc (suc zero)) = omega arith
+bytes_fit n (suc (suc (suc zero))) = omega arith
+bytes_fit n (suc (suc (suc (suc zero)))) = omega arith
+bytes_fit n (suc (suc (suc (suc (suc zero))))) = omega arith
+bytes_fit n (suc (suc (suc (suc (suc (suc zero)))))) = omega arith
+bytes_fit n (suc (suc (suc (suc (suc (suc (suc zero))))))) = omega arith
+bytes_fit n (suc (suc (suc (suc (suc (suc (suc (suc i)))))))) = omega arith
+
+pub bits_of-word : (n : ℕ) → n < 2 ^ 64 → bits_of (to_le_bytes w64 n) ≡ low_bits 64 n
 bits_of-word n fits =
-    let number : number_of_bytes (to_le_bytes w32 n) ≡ n = omega arith in
-    bits_of_number (to_le_bytes w32 n) (four n) ∙ ap (low_bits 32) number where
-      four : (n i : ℕ) → get_or (to_le_bytes w32 n) i 0 < 256
-      four n zero = omega arith
-      four n (suc zero) = omega arith
-      four n (suc (suc zero)) = omega arith
-      four n (suc (suc (suc zero))) = omega arith
-      four n (suc (suc (suc (suc i)))) = omega arith
+    bits_of_number (to_le_bytes w64 n) (bytes_fit n)
+    ∙ ap (low_bits 64) (sym (from_le_bytes_number (to_le_bytes w64 n) refl) ∙ from_le_bytes-to_le_bytes_8 n fits)
+
+pub fits-append : (xs ys : List ℕ) → ((i : ℕ) → get_or xs i 0 < 256) → ((i : ℕ) → get_or ys i 0 < 256) → (i : ℕ) → get_or (xs ++ ys) i 0 < 256
+fits-append [] ys first second i = second i
+fits-append (x ∷ xs) ys first second zero = first 0
+fits-append (x ∷ xs) ys first second (suc i) = fits-append xs ys (λ j. first (suc j)) second i
+
+pub fits-take : (n : ℕ) (xs : List ℕ) → ((i : ℕ) → get_or xs i 0 < 256) → (i : ℕ) → get_or (take n xs) i 0 < 256
+fits-take n xs fits i = elim (cases_lt i n) [
+  | inl below ↦ omega (arith, get_or-take n xs i 0 below, fits i)
+  | inr above ↦ omega (arith, get_or_past (take n xs) i 0 (omega (arith, length-take n xs)))
+]
 
 take_bytes : (bytes : List ℕ) (n : ℕ) → n ≤ length bytes → bits_of (take n bytes) ≡ take (8 * n) (bits_of bytes)
 take_bytes bytes zero h = refl
@@ -201,97 +218,124 @@ take_bytes (byte ∷ bytes) (suc n) h =
           let e : suc (length xs) + n ≡ suc (length xs + n) = omega arith in
           ap (λ (k : ℕ). take k (x ∷ (xs ++ ys))) e ∙ ap (λ (bits : List Bool). x ∷ bits) (take_both xs ys n)
 
--- a number is put above the bits of a word
-pub put_word : (word count number bits : ℕ) → word < 2 ^ count → count < 32 → bits ≤ 32 → number < 2 ^ bits → bit_or word (number * 2 ^ count % 2 ^ 64) ≡ word + number * 2 ^ count
-put_word word count number bits fits small few below =
-    let wide : 2 ^ bits ≤ 2 ^ 32 = pow-le-pow_right {n = 2} (omega arith) few in
-    let whole : number * 2 ^ count % 2 ^ 64 ≡ number * 2 ^ count = shl_whole number 32 count 64 (omega arith) (omega arith) in
-    ap (bit_or word) whole ∙ or_comm word (number * 2 ^ count) ∙ or_shifted number count word fits ∙ omega arith
+-- ---- a number is put above the bits of a word, where both fit
+put_word : (word count number bits : ℕ) → word < 2 ^ count → count + bits ≤ 64 → number < 2 ^ bits → bit_or word (number * 2 ^ count % 2 ^ 64) ≡ word + number * 2 ^ count
+put_word word count number bits fits room below =
+    ap (bit_or word) (shl_whole number bits count 64 below (omega arith)) ∙ or_comm word (number * 2 ^ count) ∙ or_shifted number count word fits ∙ omega arith
 
-pub put_lt : (word count number bits : ℕ) → word < 2 ^ count → number < 2 ^ bits → word + number * 2 ^ count < 2 ^ (count + bits)
-put_lt word count number bits fits below =
-    omega (arith, mul-add-lt number (2 ^ count) word (2 ^ bits) below fits, pow-add 2 count bits)
+pub put_fits : (word count number bits : ℕ) → word < 2 ^ count → count + bits ≤ 64 → number < 2 ^ bits → bit_or word (number * 2 ^ count % 2 ^ 64) < 2 ^ (count + bits)
+put_fits word count number bits fits room below =
+    omega (arith, put_word word count number bits fits room below, mul-add-lt number (2 ^ count) word (2 ^ bits) below fits, pow-add 2 count bits)
 
--- the word after a number was put above its bits
-pub put_fits : (word count number same bits : ℕ) → word < 2 ^ count → count < 32 → bits ≤ 32 → number < 2 ^ bits → same ≡ number
-    → bit_or word (same * 2 ^ count % 2 ^ 64) < 2 ^ (count + bits)
-put_fits word count number same bits fits small few below is =
-    let e : bit_or word (same * 2 ^ count % 2 ^ 64) ≡ word + number * 2 ^ count = ap (λ (n : ℕ). bit_or word (n * 2 ^ count % 2 ^ 64)) is ∙ put_word word count number bits fits small few below in
-    rw e (put_lt word count number bits fits below)
+pub put_bits : (word count number bits : ℕ) → word < 2 ^ count → count + bits ≤ 64 → number < 2 ^ bits
+    → low_bits (count + bits) (bit_or word (number * 2 ^ count % 2 ^ 64)) ≡ low_bits count word ++ low_bits bits number
+put_bits word count number bits fits room below =
+    ap (low_bits (count + bits)) (put_word word count number bits fits room below) ∙ low_bits-cat count bits word number fits
 
-pub put_high : (word count number same bits : ℕ) → word < 2 ^ count → count < 32 → bits ≤ 32 → number < 2 ^ bits → same ≡ number → 32 ≤ count + bits
-    → bit_or word (same * 2 ^ count % 2 ^ 64) / 2 ^ 32 < 2 ^ (count + bits - 32)
-put_high word count number same bits fits small few below is long =
-    let size : count + bits ≡ (count + bits - 32) + 32 = omega arith in
-    let P : ℕ → Type 0 = λ n. bit_or word (same * 2 ^ count % 2 ^ 64) < 2 ^ n in
-    shr_below (bit_or word (same * 2 ^ count % 2 ^ 64)) (count + bits - 32) 32 (subst P size (put_fits word count number same bits fits small few below is))
+-- where they do not, the low bits of the number fill the word
+shl_cut : (number count room : ℕ) → count + room ≡ 64 → number * 2 ^ count % 2 ^ 64 ≡ number % 2 ^ room * 2 ^ count
+shl_cut number count room size =
+    let turned : 64 ≡ room + count = omega arith in
+    let none : number * 2 ^ count % 2 ^ count ≡ 0 = mul-mod_left number (2 ^ count) in
+    ap (λ (n : ℕ). number * 2 ^ count % 2 ^ n) turned ∙ mod-pow-add (number * 2 ^ count) room count
+    ∙ ap (λ (n : ℕ). n % 2 ^ room * 2 ^ count + number * 2 ^ count % 2 ^ count) (shl-shr number count) ∙ omega (arith, none)
 
-pub put_bits : (word count number same bits : ℕ) → word < 2 ^ count → count < 32 → bits ≤ 32 → number < 2 ^ bits → same ≡ number
-    → low_bits (count + bits) (bit_or word (same * 2 ^ count % 2 ^ 64)) ≡ low_bits count word ++ low_bits bits number
-put_bits word count number same bits fits small few below is =
-    let e : bit_or word (same * 2 ^ count % 2 ^ 64) ≡ word + number * 2 ^ count = ap (λ (n : ℕ). bit_or word (n * 2 ^ count % 2 ^ 64)) is ∙ put_word word count number bits fits small few below in
-    ap (low_bits (count + bits)) e ∙ low_bits-cat count bits word number fits
+full_word : (word count number room : ℕ) → word < 2 ^ count → count + room ≡ 64 → low_bits 64 (bit_or word (number * 2 ^ count % 2 ^ 64)) ≡ low_bits count word ++ low_bits room number
+full_word word count number room fits size =
+    let low = number % 2 ^ room in
+    let below : low < 2 ^ room = mod_below number (2 ^ room) (pow_pos room) in
+    let small : low * 2 ^ count % 2 ^ 64 ≡ number * 2 ^ count % 2 ^ 64 = shl_whole low room count 64 below (omega arith) ∙ sym (shl_cut number count room size) in
+    ap (λ (n : ℕ). low_bits n (bit_or word (number * 2 ^ count % 2 ^ 64))) (sym size)
+    ∙ ap (λ (n : ℕ). low_bits (count + room) (bit_or word n)) (sym small)
+    ∙ put_bits word count low room fits (omega arith) below
+    ∙ ap (λ (bits : List Bool). low_bits count word ++ bits) (low_bits_mod room number)
 
--- the low word of the bits is written out
-pub put_out : (bytes longer : List ℕ) (total word : ℕ) → 32 ≤ total → longer ≡ bytes ++ to_le_bytes w32 (bit_and word 4294967295)
-    → bits_of longer ++ low_bits (total - 32) (word / 2 ^ 32) ≡ bits_of bytes ++ low_bits total word
-put_out bytes longer total word long is =
-    let low : bit_and word 4294967295 ≡ word % 2 ^ 32 = and_mask word 32 in
-    let fits : word % 2 ^ 32 < 2 ^ 32 = omega arith in
-    let size : 32 + (total - 32) ≡ total = omega arith in
-    let written : bits_of longer ≡ bits_of bytes ++ low_bits 32 word =
-    ap bits_of (is ∙ ap (λ (n : ℕ). bytes ++ to_le_bytes w32 n) low) ∙ bits_of-append bytes (to_le_bytes w32 (word % 2 ^ 32))
-    ∙ ap (λ (bits : List Bool). bits_of bytes ++ bits) (bits_of-word (word % 2 ^ 32) fits ∙ low_bits_mod 32 word) in
-    ap (λ (bits : List Bool). bits ++ low_bits (total - 32) (word / 2 ^ 32)) written
-    ∙ append_assoc (bits_of bytes) (low_bits 32 word) (low_bits (total - 32) (word / 2 ^ 32))
-    ∙ ap (λ (bits : List Bool). bits_of bytes ++ bits) (sym (low_bits-split 32 (total - 32) word) ∙ ap (λ (n : ℕ). low_bits n word) size)
+-- and the others stand in the next one
+pub next_word : (count number bits : ℕ) → count < 64 → 64 ≤ count + bits → number < 2 ^ bits → number / 2 ^ (64 - count) < 2 ^ (count + bits - 64)
+next_word count number bits small long below =
+    let size : count + bits - 64 + (64 - count) ≡ bits = omega arith in
+    let P : ℕ → Type 0 = λ n. number < 2 ^ n in
+    shr_below number (count + bits - 64) (64 - count) (subst P (sym size) below)
+
+pub put_out : (old new : List Bool) (word count number bits : ℕ) → word < 2 ^ count → count < 64 → 64 ≤ count + bits
+    → new ≡ old ++ low_bits 64 (bit_or word (number * 2 ^ count % 2 ^ 64))
+    → new ++ low_bits (count + bits - 64) (number / 2 ^ (64 - count)) ≡ (old ++ low_bits count word) ++ low_bits bits number
+put_out old new word count number bits fits small long is =
+    let room = 64 - count in
+    let rest = count + bits - 64 in
+    let size : room + rest ≡ bits = omega arith in
+    let written : new ≡ (old ++ low_bits count word) ++ low_bits room number =
+    is ∙ ap (λ (bits : List Bool). old ++ bits) (full_word word count number room fits (omega arith)) ∙ sym (append_assoc old (low_bits count word) (low_bits room number)) in
+    ap (λ (bits : List Bool). bits ++ low_bits rest (number / 2 ^ room)) written
+    ∙ append_assoc (old ++ low_bits count word) (low_bits room number) (low_bits rest (number / 2 ^ room))
+    ∙ ap (λ (more : List Bool). (old ++ low_bits count word) ++ more) (sym (low_bits-split room rest number) ∙ ap (λ (n : ℕ). low_bits n number) size)
 
 -- the last bits are written out in whole bytes
-pub put_last : (bytes longer : List ℕ) (count word whole : ℕ) → count < 32 → word < 2 ^ count → 8 * whole < count + 8 → count ≤ 8 * whole
-    → longer ≡ bytes ++ take whole (to_le_bytes w32 word) → bits_of longer ≡ (bits_of bytes ++ low_bits count word) ++ replicate (8 * whole - count) false
+pub put_last : (bytes longer : List ℕ) (count word whole : ℕ) → count < 64 → word < 2 ^ count → 8 * whole < count + 8 → count ≤ 8 * whole
+    → longer ≡ bytes ++ take whole (to_le_bytes w64 word) → bits_of longer ≡ (bits_of bytes ++ low_bits count word) ++ replicate (8 * whole - count) false
 put_last bytes longer count word whole small fits short long is =
-    let wide : 2 ^ count ≤ 2 ^ 32 = pow-le-pow_right {n = 2} (omega arith) {i = count} {j = 32} (omega arith) in
+    let wide : 2 ^ count ≤ 2 ^ 64 = pow-le-pow_right {n = 2} (omega arith) {i = count} {j = 64} (omega arith) in
     let size : count + (8 * whole - count) ≡ 8 * whole = omega arith in
     let none : word / 2 ^ count ≡ 0 = (let whole : 0 * 2 ^ count + word ≡ word = omega arith in ap (λ (n : ℕ). n / 2 ^ count) (sym whole) ∙ shr_high 0 count word fits) in
-    let last : bits_of (take whole (to_le_bytes w32 word)) ≡ low_bits count word ++ replicate (8 * whole - count) false =
-    take_bytes (to_le_bytes w32 word) whole (omega arith) ∙ ap (take (8 * whole)) (bits_of-word word (omega arith))
-    ∙ take-low_bits (8 * whole) 32 word (omega arith) ∙ ap (λ (n : ℕ). low_bits n word) (sym size) ∙ low_bits-split count (8 * whole - count) word
+    let last : bits_of (take whole (to_le_bytes w64 word)) ≡ low_bits count word ++ replicate (8 * whole - count) false =
+    take_bytes (to_le_bytes w64 word) whole (omega arith) ∙ ap (take (8 * whole)) (bits_of-word word (omega arith))
+    ∙ take-low_bits (8 * whole) 64 word (omega arith) ∙ ap (λ (n : ℕ). low_bits n word) (sym size) ∙ low_bits-split count (8 * whole - count) word
     ∙ ap (λ (n : ℕ). low_bits count word ++ low_bits (8 * whole - count) n) none
     ∙ ap (λ (bits : List Bool). low_bits count word ++ bits) (low_bits_zero (8 * whole - count)) in
-    ap bits_of is ∙ bits_of-append bytes (take whole (to_le_bytes w32 word)) ∙ ap (λ (bits : List Bool). bits_of bytes ++ bits) last
+    ap bits_of is ∙ bits_of-append bytes (take whole (to_le_bytes w64 word)) ∙ ap (λ (bits : List Bool). bits_of bytes ++ bits) last
     ∙ sym (append_assoc (bits_of bytes) (low_bits count word) (replicate (8 * whole - count) false))
 
 -- ---- ones, and the code of a delta
-pub ones_more : (now next total : List Bool) (left : ℕ) → 31 < left → next ≡ now ++ replicate 31 true → now ++ replicate left true ≡ total → next ++ replicate (left - 31) true ≡ total
+pub ones_more : (now next total : List Bool) (left : ℕ) → 31 < left → next ≡ now ++ low_bits 32 4294967295 → now ++ replicate left true ≡ total → next ++ replicate (left - 32) true ≡ total
 ones_more now next total left many is whole =
-    let size : 31 + (left - 31) ≡ left = omega arith in
-    ap (λ (bits : List Bool). bits ++ replicate (left - 31) true) is ∙ append_assoc now (replicate 31 true) (replicate (left - 31) true)
-    ∙ ap (λ (bits : List Bool). now ++ bits) (replicate-append-replicate 31 (left - 31) true ∙ ap (λ (n : ℕ). replicate n true) size) ∙ whole
+    let size : 32 + (left - 32) ≡ left = omega arith in
+    ap (λ (bits : List Bool). bits ++ replicate (left - 32) true) (is ∙ ap (λ (bits : List Bool). now ++ bits) (low_bits_ones 32)) ∙ append_assoc now (replicate 32 true) (replicate (left - 32) true)
+    ∙ ap (λ (bits : List Bool). now ++ bits) (replicate-append-replicate 32 (left - 32) true ∙ ap (λ (n : ℕ). replicate n true) size) ∙ whole
 
-pub ones_last : (now next total : List Bool) (left : ℕ) → left ≤ 31 → next ≡ now ++ low_bits left (1 * 2 ^ left % 2 ^ 32 - 1) → now ++ replicate left true ≡ total → next ≡ total
-ones_last now next total left few is whole =
-    is ∙ ap (λ (n : ℕ). now ++ low_bits left (n - 1)) (one_shl left 32 (omega arith)) ∙ ap (λ (bits : List Bool). now ++ bits) (low_bits_ones left) ∙ whole
+-- a mask of low bits
+pub low_part : (parameter delta : ℕ) → parameter ≤ 28 → bit_and delta (1 * 2 ^ parameter % 2 ^ 32 - 1) ≡ delta % 2 ^ parameter
+low_part parameter delta few = ap (λ (n : ℕ). bit_and delta (n - 1)) (one_shl parameter 32 (omega arith)) ∙ and_mask delta parameter
 
--- a zero and the low bits of a delta
-pub low_bits_code : (parameter delta : ℕ) → parameter ≤ 28 → low_bits (parameter + 1) (bit_and delta (1 * 2 ^ parameter % 2 ^ 32 - 1) * 2 % 2 ^ 32) ≡ false ∷ low_bits parameter delta
-low_bits_code parameter delta few =
-    let mask : bit_and delta (1 * 2 ^ parameter % 2 ^ 32 - 1) ≡ delta % 2 ^ parameter = ap (λ (n : ℕ). bit_and delta (n - 1)) (one_shl parameter 32 (omega arith)) ∙ and_mask delta parameter in
-    let below : delta % 2 ^ parameter < 2 ^ parameter = mod_below delta (2 ^ parameter) (pow_pos parameter) in
-    let wide : 2 ^ parameter ≤ 2 ^ 28 = pow-le-pow_right {n = 2} (omega arith) few in
-    let whole : delta % 2 ^ parameter * 2 % 2 ^ 32 ≡ delta % 2 ^ parameter * 2 = omega arith in
-    let size : parameter + 1 ≡ suc parameter = omega arith in
-    ap (λ (n : ℕ). low_bits (parameter + 1) (n * 2 % 2 ^ 32)) mask ∙ ap (low_bits (parameter + 1)) whole
-    ∙ ap (λ (n : ℕ). low_bits n (delta % 2 ^ parameter * 2)) size ∙ low_bits_twice parameter (delta % 2 ^ parameter)
-    ∙ ap (λ (bits : List Bool). false ∷ bits) (low_bits_mod parameter delta)
+-- low bits, a one below them and so many zeros stand whole in a word
+above_ones : (parameter low ones : ℕ) → low < 2 ^ parameter → parameter ≤ 28 → ones ≤ 31 → (2 * low + 1) * 2 ^ ones % 2 ^ 64 ≡ low * 2 * 2 ^ ones + 2 ^ ones
+above_ones parameter low ones below few many =
+    let odd : 2 * low + 1 < 2 ^ (parameter + 1) = omega (arith, below, pow-add 2 parameter 1) in
+    shl_whole (2 * low + 1) (parameter + 1) ones 64 odd (omega arith) ∙ omega arith
 
-pub put_code_is : (old middle new : List Bool) (parameter delta : ℕ) → parameter ≤ 28 → middle ≡ old ++ replicate (delta / 2 ^ parameter) true
-    → new ≡ middle ++ low_bits (parameter + 1) (bit_and delta (1 * 2 ^ parameter % 2 ^ 32 - 1) * 2 % 2 ^ 32) → new ≡ old ++ code parameter delta
+pub code_some : (parameter low ones : ℕ) → low < 2 ^ parameter → parameter ≤ 28 → ones ≤ 31 → 1 ≤ (2 * low + 1) * 2 ^ ones % 2 ^ 64
+code_some parameter low ones below few many = omega (arith, above_ones parameter low ones below few many, pow_pos ones)
+
+pub code_fits : (parameter low ones : ℕ) → low < 2 ^ parameter → parameter ≤ 28 → ones ≤ 31 → (2 * low + 1) * 2 ^ ones % 2 ^ 64 - 1 < 2 ^ (ones + parameter + 1)
+code_fits parameter low ones below few many =
+    let odd : 2 * low + 1 < 2 ^ (parameter + 1) = omega (arith, below, pow-add 2 parameter 1) in
+    let size : parameter + 1 + ones ≡ ones + parameter + 1 = omega arith in
+    let high : (2 * low + 1) * 2 ^ ones < 2 ^ (parameter + 1 + ones) = shl_below (2 * low + 1) (parameter + 1) ones odd in
+    let whole : (2 * low + 1) * 2 ^ ones % 2 ^ 64 ≡ (2 * low + 1) * 2 ^ ones = shl_whole (2 * low + 1) (parameter + 1) ones 64 odd (omega arith) in
+    let P : ℕ → Type 0 = λ n. (2 * low + 1) * 2 ^ ones % 2 ^ 64 - 1 < 2 ^ n in
+    subst P size (omega (arith, high, whole))
+
+pub low_bits_code : (parameter delta ones : ℕ) → parameter ≤ 28 → ones ≤ 31
+    → low_bits (ones + parameter + 1) ((2 * (delta % 2 ^ parameter) + 1) * 2 ^ ones % 2 ^ 64 - 1) ≡ replicate ones true ++ false ∷ low_bits parameter delta
+low_bits_code parameter delta ones few many =
+    let low = delta % 2 ^ parameter in
+    let below : low < 2 ^ parameter = mod_below delta (2 ^ parameter) (pow_pos parameter) in
+    let some : 0 < 2 ^ ones = pow_pos ones in
+    let size : ones + parameter + 1 ≡ ones + suc parameter = omega arith in
+    let parts : (2 * low + 1) * 2 ^ ones % 2 ^ 64 - 1 ≡ 2 ^ ones - 1 + low * 2 * 2 ^ ones = omega (arith, some, above_ones parameter low ones below few many) in
+    ap (λ (n : ℕ). low_bits n ((2 * low + 1) * 2 ^ ones % 2 ^ 64 - 1)) size
+    ∙ ap (low_bits (ones + suc parameter)) parts
+    ∙ low_bits-cat ones (suc parameter) (2 ^ ones - 1) (low * 2) (omega arith)
+    ∙ ap (λ (bits : List Bool). bits ++ low_bits (suc parameter) (low * 2)) (low_bits_ones ones)
+    ∙ ap (λ (bits : List Bool). replicate ones true ++ bits) (low_bits_twice parameter low ∙ ap (λ (bits : List Bool). false ∷ bits) (low_bits_mod parameter delta))
+
+pub put_code_is : (old now new : List Bool) (parameter delta ones : ℕ) → now ++ replicate ones true ≡ old ++ replicate (delta / 2 ^ parameter) true
+    → new ≡ now ++ (replicate ones true ++ false ∷ low_bits parameter delta) → new ≡ old ++ code parameter delta
 unfolding code
-put_code_is old middle new parameter delta few ones low =
-    low ∙ ap (λ (bits : List Bool). middle ++ bits) (low_bits_code parameter delta few)
-    ∙ ap (λ (bits : List Bool). bits ++ false ∷ low_bits parameter delta) ones
+put_code_is old now new parameter delta ones same is =
+    is ∙ sym (append_assoc now (replicate ones true) (false ∷ low_bits parameter delta))
+    ∙ ap (λ (bits : List Bool). bits ++ false ∷ low_bits parameter delta) same
     ∙ append_assoc old (replicate (delta / 2 ^ parameter) true) (false ∷ low_bits parameter delta)
 
-pub on_ok_then : {A E : Type 0} (r : Result A E) {P Q : Type 0} → OnOk r P → (P → Q) → OnOk r Q
-on_ok_then (Ok x) p f = f p
-on_ok_then (Err e) p f = tt
+pub if_ok_then : {A E : Type 0} (r : Result A E) {P Q : A → Type 0} → IfOk r P → ((x : A) → P x → Q x) → IfOk r Q
+if_ok_then (Ok x) p f = f x p
+if_ok_then (Err e) p f = tt

@@ -1,19 +1,19 @@
 -- Lemmas on Rice codes and on how they are read.
 use Rattle.std.proofs.Common.{◌≡◌, inl, inr, ℕ, zero, suc, ◌+◌, ◌-◌, ◌*◌, ◌/◌, ◌%◌, ◌^◌, ◌<◌, ◌≤◌, ◌↔◌, IsTrue, Bool, true, false, cond, eqb, List, [], ◌∷◌, ◌++◌, length, get_or, take, drop, replicate, Option, Some, None, refl, sym, ap, ◌∙◌, arith, ltb, subst}
 use Rattle.std.specs.Option.{option_and_then, option_map}
-use Rattle.std.proofs.Math.Nat.{le-mul_of_pos_right, pow-le-pow_right, pow-suc}
+use Rattle.std.proofs.Math.Nat.{le-mul_of_pos_right, mul-le-mul_right, pow-le-pow_right, pow-suc}
 use Rattle.std.proofs.lemmas.Bool.{false≢true, cases_eq, cases_lt}
 use Rattle.std.proofs.lemmas.Bool.Decides.{nat_tests}
-use Rattle.std.proofs.lemmas.List.{drop_all, get_or_past, append_assoc, drop_at, drop_more, length-append, length-take-le, take-append-drop, take_at}
-use Rattle.std.proofs.lemmas.Nat.{mod-pow-add, trailing_le, pow_pos, shl_below, shl_whole, shr_high, shr_split}
+use Rattle.std.proofs.lemmas.List.{drop_all, drop-drop, get_or-drop, length-drop, get_or_past, append_assoc, drop_at, drop_more, length-append, length-take-le, take-append-drop, take_at}
+use Rattle.std.proofs.lemmas.Nat.{mod-pow-add, trailing_le, pow_pos, shl_below, shl_whole, shr_high, shr_split, shr-shr, mod_below}
 use Rattle.std.proofs.lemmas.Nat.Bits.{bit_at_lowest, bit_at-suc, bit_at_ones, bit_at-trailing_ones}
 use lib.Count.{count_trailing_zeros}
 use Rattle.std.specs.Int.{bit_at, w64, trailing_ones}
-use Rattle.rice_coding.specs.Bits.{low_bits}
+use Rattle.rice_coding.specs.Bits.{low_bits, number_of}
 use Rattle.rice_coding.specs.Codes.{code}
 use Rattle.rice_coding.specs.Rice.{HasNoCode}
 use Rattle.rice_coding.proofs.BitFacts.{length-low_bits, low_bits_below}
-use Rattle.rice_coding.specs.Reading.{unary, number_of, delta_at, with_remainder}
+use Rattle.rice_coding.specs.Reading.{unary, delta_at, with_remainder}
 
 abbrev pub found : ℕ → List Bool → Option (ℕ × List Bool)
 found number bits = Some (number, bits)
@@ -92,16 +92,16 @@ number_of_word (suc k) (b ∷ bits) n same long =
     let first : cond b 1 0 ≡ n % 2 = ap (λ (b : Bool). cond b 1 0) lowest ∙ digit n in
     omega (arith, mod_suc n k)
 
--- A word whose low 57 bits are the next ones: the ones that it begins with, and the zero after them.
-pub run_ones : (bits : List Bool) (word run : ℕ) → word < 2 ^ 64 → ((i : ℕ) → i < 57 → get_or bits i false ≡ eqb (bit_at word i) 1) → run ≡ trailing_ones w64 word
-    → (i : ℕ) → i < 57 → i < run → get_or bits i false ≡ true
-run_ones bits word run fits same is i within below =
+-- A word whose low bits are the next ones: the ones that it begins with, and the zero after them.
+pub run_ones : (bits : List Bool) (word valid run : ℕ) → word < 2 ^ 64 → ((i : ℕ) → i < valid → get_or bits i false ≡ eqb (bit_at word i) 1) → run ≡ trailing_ones w64 word
+    → (i : ℕ) → i < valid → i < run → get_or bits i false ≡ true
+run_ones bits word valid run fits same is i within below =
     let set : bit_at word i ≡ 1 = trailing_ones_set word fits i (omega arith) in
     same i within ∙ ap (λ (b : ℕ). eqb b 1) set
 
-pub run_zero : (bits : List Bool) (word run : ℕ) → word < 2 ^ 64 → ((i : ℕ) → i < 57 → get_or bits i false ≡ eqb (bit_at word i) 1) → run ≡ trailing_ones w64 word
-    → run < 57 → get_or bits run false ≡ false
-run_zero bits word run fits same is within =
+pub run_zero : (bits : List Bool) (word valid run : ℕ) → word < 2 ^ 64 → valid ≤ 64 → ((i : ℕ) → i < valid → get_or bits i false ≡ eqb (bit_at word i) 1) → run ≡ trailing_ones w64 word
+    → run < valid → get_or bits run false ≡ false
+run_zero bits word valid run fits few same is within =
     let clear : bit_at word (trailing_ones w64 word) ≡ 0 = trailing_ones_clear word fits (omega arith) in
     same run within ∙ ap (λ (n : ℕ). eqb (bit_at word n) 1) is ∙ ap (λ (b : ℕ). eqb b 1) clear
 
@@ -136,8 +136,8 @@ delta_at-some parameter ones bits rest e long =
     let test : ltb (length rest) parameter ≡ false = grind (arith, nat_tests) in
     rw (e, test) refl
 
--- a quotient of 2 ^ 32 and more makes a delta of as much
-pub delta_high : (ones parameter low : ℕ) → 2 ^ 32 ≤ ones → 2 ^ 32 ≤ ones * 2 ^ parameter + low
+-- a quotient of 2 ^ 34 and more makes a delta of as much
+pub delta_high : (ones parameter low : ℕ) → 2 ^ 34 ≤ ones → 2 ^ 34 ≤ ones * 2 ^ parameter + low
 delta_high ones parameter low high = omega (arith, le-mul_of_pos_right {m = 2 ^ parameter} ones (pow_pos parameter))
 
 -- the low bits fit
@@ -152,16 +152,50 @@ low_lt count bits long =
     let P : ℕ → Type 0 = λ n. number_of (take count bits) < 2 ^ n in
     subst P size (number_of-lt (take count bits))
 
--- a quotient below 2 ^ 32 stands whole in a word, above the low bits
-pub shifted_whole : (ones parameter : ℕ) → ones < 2 ^ 32 → parameter ≤ 28 → ones * 2 ^ parameter % 2 ^ 64 ≡ ones * 2 ^ parameter
-shifted_whole ones parameter few small = shl_whole ones 32 parameter 64 few (omega arith)
+-- a quotient below 2 ^ 34 stands whole in a word, above the low bits
+pub shifted_whole : (ones parameter : ℕ) → ones < 2 ^ 34 → parameter ≤ 28 → ones * 2 ^ parameter % 2 ^ 64 ≡ ones * 2 ^ parameter
+shifted_whole ones parameter few small = shl_whole ones 34 parameter 64 few (omega arith)
 
-pub delta_fits : (ones parameter low : ℕ) → ones < 2 ^ 32 → parameter ≤ 28 → low < 2 ^ parameter → ones * 2 ^ parameter % 2 ^ 64 + low < 2 ^ 64
+pub delta_fits : (ones parameter low : ℕ) → ones < 2 ^ 34 → parameter ≤ 28 → low < 2 ^ parameter → ones * 2 ^ parameter % 2 ^ 64 + low < 2 ^ 64
 delta_fits ones parameter low few small bound =
-    let high : ones * 2 ^ parameter < 2 ^ (32 + parameter) = shl_below ones 32 parameter few in
-    let a : 2 ^ (32 + parameter) ≤ 2 ^ 60 = pow-le-pow_right {n = 2} (omega arith) {i = 32 + parameter} {j = 60} (omega arith) in
+    let high : ones * 2 ^ parameter < 2 ^ (34 + parameter) = shl_below ones 34 parameter few in
+    let a : 2 ^ (34 + parameter) ≤ 2 ^ 62 = pow-le-pow_right {n = 2} (omega arith) {i = 34 + parameter} {j = 62} (omega arith) in
     let b : 2 ^ parameter ≤ 2 ^ 28 = pow-le-pow_right {n = 2} (omega arith) small in
     omega (arith, shifted_whole ones parameter few small)
+
+-- ---- a code that stands whole in a word
+bit_at-shr : (n j i : ℕ) → bit_at n (j + i) ≡ bit_at (n / 2 ^ j) i
+bit_at-shr n j i = ap (λ (m : ℕ). m % 2) (sym (shr-shr n j i))
+
+pub word_code : (bits : List Bool) (word valid k ones : ℕ) → word < 2 ^ 64 → valid ≤ 64 → ((i : ℕ) → i < valid → get_or bits i false ≡ eqb (bit_at word i) 1)
+    → ones ≡ trailing_ones w64 word → valid ≤ length bits → ones + k + 1 ≤ valid → delta_at k bits ≡ Some (ones * 2 ^ k + word / 2 ^ (ones + 1) % 2 ^ k, drop (ones + k + 1) bits)
+word_code bits word valid k ones fits few same is long room =
+    let rest = drop (ones + 1) bits in
+    let first : unary bits ≡ Some (ones, rest) =
+    unary_some bits ones (λ i below. run_ones bits word valid ones fits same is i (omega arith) below) (omega arith) (run_zero bits word valid ones fits few same is (omega arith)) in
+    let left : k ≤ length rest = omega (arith, length-drop (ones + 1) bits) in
+    let low : number_of (take k rest) ≡ word / 2 ^ (ones + 1) % 2 ^ k =
+    number_of_word k rest (word / 2 ^ (ones + 1)) (λ i below.
+    get_or-drop (ones + 1) bits i false ∙ same (ones + 1 + i) (omega arith) ∙ ap (λ (b : ℕ). eqb b 1) (bit_at-shr word (ones + 1) i)) left in
+    let size : ones + 1 + k ≡ ones + k + 1 = omega arith in
+    let after : drop k rest ≡ drop (ones + k + 1) bits = drop-drop k (ones + 1) bits ∙ ap (λ (n : ℕ). drop n bits) size in
+    let delta = ones * 2 ^ k + word / 2 ^ (ones + 1) % 2 ^ k in
+    let read : delta_at k bits ≡ Some (delta, drop k rest) = delta_at-some k ones bits rest first left ∙ ap (λ (n : ℕ). Some (ones * 2 ^ k + n, drop k rest)) low in
+    read ∙ ap (λ (bits : List Bool). Some (delta, bits)) after
+
+-- the bits after some of a word's
+pub word_after : (bits : List Bool) (word valid count : ℕ) → count ≤ valid → ((i : ℕ) → i < valid → get_or bits i false ≡ eqb (bit_at word i) 1)
+    → (i : ℕ) → i < valid - count → get_or (drop count bits) i false ≡ eqb (bit_at (word / 2 ^ count) i) 1
+word_after bits word valid count within same i below =
+    get_or-drop count bits i false ∙ same (count + i) (omega arith) ∙ ap (λ (b : ℕ). eqb b 1) (bit_at-shr word count i)
+
+-- and its delta
+pub word_delta : (k ones rest : ℕ) → k ≤ 28 → ones ≤ 56 → ones * 2 ^ k + rest % 2 ^ k < 2 ^ 34
+word_delta k ones rest few many =
+    let wide : 2 ^ k ≤ 2 ^ 28 = pow-le-pow_right {n = 2} (omega arith) few in
+    let below : rest % 2 ^ k < 2 ^ k = mod_below rest (2 ^ k) (pow_pos k) in
+    let high : ones * 2 ^ k ≤ 56 * 2 ^ k = mul-le-mul_right (2 ^ k) many in
+    omega (arith, wide, below, high)
 
 -- ---- a code is read as its delta, and nothing else is
 unary_ones : (n : ℕ) (bits : List Bool) → unary (replicate n true ++ false ∷ bits) ≡ Some (n, bits)
@@ -170,7 +204,7 @@ unary_ones (suc n) bits =
     let size : 1 + n ≡ suc n = omega arith in
     unary-true (replicate n true ++ false ∷ bits) ∙ ap (after_ones 1) (unary_ones n bits) ∙ ap (λ (m : ℕ). Some (m, bits)) size
 
-number_of-low_bits : (k n : ℕ) → number_of (low_bits k n) ≡ n % 2 ^ k
+pub number_of-low_bits : (k n : ℕ) → number_of (low_bits k n) ≡ n % 2 ^ k
 number_of-low_bits zero n = omega arith
 number_of-low_bits (suc k) n = omega (arith, number_of-low_bits k (n / 2), digit n, mod_suc n k)
 

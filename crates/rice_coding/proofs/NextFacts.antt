@@ -1,8 +1,9 @@
 -- One step of a reading.
-use Rattle.std.proofs.Common.{◌≡◌, ◌≢◌, ℕ, zero, suc, ◌+◌, ◌-◌, ◌^◌, ◌<◌, ◌≤◌, min, Bool, true, false, cond, eqb, ltb, List, length, Some, None, refl, sym, ap, ◌∙◌, arith}
+use Rattle.std.proofs.Common.{◌≡◌, ◌≢◌, ℕ, zero, suc, ◌+◌, ◌-◌, ◌^◌, ◌<◌, ◌≤◌, min, Bool, true, false, cond, eqb, ltb, List, [], ◌∷◌, ◌++◌, length, Some, None, refl, sym, ap, ◌∙◌, arith}
 use Rattle.std.proofs.lemmas.Bool.Decides.{nat_tests}
+use Rattle.std.proofs.lemmas.List.{append_assoc}
 use Rattle.rice_coding.specs.declared.fault.RiceFault.TheVariants.{Ended, Range, LeftOver}
-use Rattle.rice_coding.specs.Reading.{delta_at, reading, reading_after, reading_step, with_value, stopped}
+use Rattle.rice_coding.specs.Reading.{Reading, delta_at, reading, reading_after, reading_step, with_value, stopped}
 
 -- the first value was given
 pub reading_given : (k n given v : ℕ) (bits : List Bool) → given ≢ 0 → reading_after k n given v bits ≡ reading k n given v bits
@@ -49,3 +50,20 @@ reading_value k (suc n) g v d w bits rest some is sum below =
     ∙ ap (λ (b : Bool). cond b (with_value (v + d) (reading k n (g + 1) (v + d) rest)) (stopped (Some (Range g)))) test
     ∙ ap (λ (u : ℕ). with_value u (reading k n (g + 1) u rest)) (sym sum)
     ∙ ap (with_value w) (ap (λ (m : ℕ). reading k m (g + 1) w rest) (sym less) ∙ sym (reading_given k (suc n - 1) (g + 1) w rest given))
+
+-- a number more was read, and appended to the others
+pub read_on : (k n m g h v d w : ℕ) (bits rest : List Bool) (old now next : List ℕ) (whole : Reading) → 0 < n → m + 1 ≡ n → h ≡ g + 1
+    → delta_at k bits ≡ Some (d, rest) → w ≡ v + d → w < 2 ^ 32 → next ≡ now ++ w ∷ []
+    → now ++ (reading k n g v bits).values ≡ old ++ whole.values → (reading k n g v bits).fault ≡ whole.fault
+    → (next ++ (reading k m h w rest).values ≡ old ++ whole.values) × ((reading k m h w rest).fault ≡ whole.fault)
+read_on k n m g h v d w bits rest old now next whole some less later is sum below push same fault =
+    let given : g + 1 ≢ 0 = omega arith in
+    let size : n - 1 ≡ m = omega arith in
+    let left : n ≢ 0 = omega arith in
+    let step : reading k n g v bits ≡ with_value w (reading k m h w rest) =
+    reading_value k n g v d w bits rest left is sum below
+    ∙ ap (with_value w) (reading_given k (n - 1) (g + 1) w rest given ∙ ap (λ (n : ℕ). reading k n (g + 1) w rest) size ∙ ap (λ (g : ℕ). reading k m g w rest) (sym later)) in (
+      ap (λ (next : List ℕ). next ++ (reading k m h w rest).values) push ∙ append_assoc now (w ∷ []) (reading k m h w rest).values
+          ∙ ap (λ (r : Reading). now ++ r.values) (sym step) ∙ same,
+      ap (λ (r : Reading). r.fault) (sym step) ∙ fault,
+    )

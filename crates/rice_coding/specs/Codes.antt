@@ -1,5 +1,5 @@
 -- The Rice codes of numbers, for a parameter.
-use Rattle.std.specs.Prelude.{ℕ, ◌+◌, ◌-◌, ◌/◌, ◌^◌, ◌≤◌, ◌<◌, Bool, true, false, List, [], ◌∷◌, ◌++◌, length, replicate}
+use Rattle.std.specs.Prelude.{ℕ, ◌+◌, ◌-◌, ◌/◌, ◌^◌, ◌≤◌, ◌<◌, zero, suc, Bool, true, false, List, [], ◌∷◌, ◌++◌, length, replicate, nat_le, if◌then◌else◌}
 use Rattle.std.specs.List.{flat_map}
 use Rattle.rice_coding.specs.Bits.{low_bits}
 
@@ -31,3 +31,12 @@ pub record HasFewestBits (deltas : List ℕ) (parameter : ℕ) : Type 0 where
   pub to : parameter ≤ 28
   pub fewest : (other : ℕ) → 2 ≤ other → other ≤ 28 → coded_length parameter deltas ≤ coded_length other deltas
   pub least : (other : ℕ) → 2 ≤ other → other < parameter → coded_length parameter deltas < coded_length other deltas
+
+-- of the numbers from `at` to `at + more` the one at which a function is the least, and of several the first
+abbrev pub place_of_least : (ℕ → ℕ) → ℕ → ℕ → ℕ
+place_of_least f at zero = at
+place_of_least f at (suc more) = let later = place_of_least f (at + 1) more in if nat_le (f at) (f later) then at else later
+
+-- the parameter from 2 to 28 with the fewest bits in all, and of equals the least
+unfoldable pub best_parameter : List ℕ → ℕ
+best_parameter deltas = place_of_least (λ parameter. coded_length parameter deltas) 2 26

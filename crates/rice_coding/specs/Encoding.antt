@@ -1,9 +1,29 @@
--- What the record that is made of numbers is like.
-use Rattle.std.specs.Prelude.{◌≡◌, ℕ, ◌<◌, Bool, false, List, ◌∷◌, length}
+-- The record that is made of numbers that rise, and what it is like.
+use Rattle.std.specs.Prelude.{◌≡◌, ℕ, ◌<◌, Bool, false, List, [], ◌∷◌, length}
 use Rattle.std.specs.List.{AllByRecursion}
 use Rattle.rice_coding.specs.declared.record.RiceRecord.{RiceRecord}
-use Rattle.rice_coding.specs.Codes.{running_sums, HasFewestBits}
+use Rattle.rice_coding.specs.Bits.{packed}
+use Rattle.rice_coding.specs.Codes.{codes, running_sums, differences, best_parameter, HasFewestBits}
 use Rattle.rice_coding.specs.Rice.{BeginsWith, IsRiceRecordOf}
+
+-- the best parameter, and 0 where nothing is coded
+abbrev pub parameter_for : List ℕ → ℕ
+parameter_for [] = 0
+parameter_for (delta ∷ deltas) = best_parameter (delta ∷ deltas)
+
+-- a first number and the codes of the differences after it, packed into bytes
+abbrev pub record_of : ℕ → List ℕ → RiceRecord
+record_of first deltas = record {
+  first = first;
+  parameter = parameter_for deltas;
+  count = length deltas;
+  coded = packed (codes (parameter_for deltas) deltas);
+}
+
+-- the record of numbers that rise, of which there is one or more
+unfoldable pub encoding_of : List ℕ → RiceRecord
+encoding_of [] = record_of 0 []
+encoding_of (first ∷ rest) = record_of first (differences first rest)
 
 -- no other list has the record
 abbrev pub StandsForOnly : RiceRecord → List ℕ → Type 0

@@ -3,17 +3,13 @@ use Rattle.std.specs.Prelude.{ℕ, ◌≤◌, ◌<◌, zero, suc, ◌+◌, ◌-�
 use Rattle.std.specs.Option.{option_map}
 use Rattle.rice_coding.specs.declared.fault.RiceFault.{RiceFault}
 use Rattle.rice_coding.specs.declared.fault.RiceFault.TheVariants.{Ended, Range, LeftOver}
+use Rattle.rice_coding.specs.Bits.{number_of}
 
 -- how many ones there are before the first zero, and the bits after the zero
 abbrev pub unary : List Bool → Option (ℕ × List Bool)
 unary [] = None
 unary (false ∷ bits) = Some (0, bits)
 unary (true ∷ bits) = option_map (λ (found : ℕ × List Bool). (suc found.0, found.1)) (unary bits)
-
--- the number with these bits, the lowest first
-abbrev pub number_of : List Bool → ℕ
-number_of [] = 0
-number_of (bit ∷ bits) = (if bit then 1 else 0) + 2 * number_of bits
 
 -- the number of so many bits above a quotient, and the bits after it
 abbrev pub with_remainder : ℕ → ℕ × List Bool → Option (ℕ × List Bool)

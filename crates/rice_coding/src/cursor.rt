@@ -1,7 +1,7 @@
 ghost use Rattle.std.specs.Prelude.{◌≡◌, ℕ, ◌+◌, ◌-◌, ◌*◌, ◌^◌, ◌<◌, ◌≤◌, ◌↔◌, ◌==◌, Bool, true, false, List, length, drop, min, slice_index_or, IsTrue, OnSome, IfSome, IfNone, Some, None, take};
 ghost use Rattle.std.specs.Int.{bit_at};
-ghost use Rattle.rice_coding.specs.Bits.{bits_of, bits_from};
-ghost use Rattle.rice_coding.specs.Reading.{unary, number_of, delta_at};
+ghost use Rattle.rice_coding.specs.Bits.{bits_of, bits_from, number_of};
+ghost use Rattle.rice_coding.specs.Reading.{unary, delta_at};
 
 /// A place among the bits of a byte string.
 #[derive(Clone, Copy)]
@@ -14,6 +14,7 @@ pub struct Cursor<'a> {
 }
 
 /// The first eight bytes as a number, the lowest first. Where there are fewer, the others are zeros.
+#[inline]
 fn word_of(bytes: &[u8]) -> u64
     ensures { (i : ℕ) → i < 64 → slice_index_or (bits_of bytes.now) i false ≡ (bit_at result i == 1) }
 {
@@ -28,7 +29,8 @@ fn word_of(bytes: &[u8]) -> u64
 }
 
 /// A number whose low 57 bits are the next ones, with zeros past the end.
-fn window(at: Cursor) -> u64
+#[inline]
+pub fn window(at: Cursor) -> u64
     ensures { (i : ℕ) → i < 57
         → slice_index_or (bits_from at.entry.bytes.now at.entry.offset) i false ≡ (bit_at result i == 1) }
 {
@@ -46,6 +48,7 @@ fn has(at: Cursor, count: u32) -> bool
 }
 
 /// The place this many bits on.
+#[inline]
 fn skip(at: Cursor, count: u32) -> Cursor
     requires few { count ≤ 64 }
     requires there { count ≤ length (bits_from at.bytes.now at.offset) }
@@ -113,7 +116,9 @@ fn take_number(at: Cursor, count: u32) -> Option<(u64, Cursor)>
     Some((window(at) & ((1 << count) - 1), skip(at, count)))
 }
 
-/// The delta whose code is next, at most 2 ^ 32, and the place after the code.
+/// The delta whose code is next, at most 2 ^ 34, and the place after the code.
+#[cold]
+#[inline(never)]
 pub fn take_code(at: Cursor, parameter: u32) -> Option<(u64, Cursor)>
     requires some { 0 < parameter }
     requires few { parameter ≤ 28 }
@@ -122,12 +127,12 @@ pub fn take_code(at: Cursor, parameter: u32) -> Option<(u64, Cursor)>
     ensures some { IfSome result (λ found. (delta : ℕ)
         × (delta_at parameter (bits_from at.entry.bytes.now at.entry.offset)
         ≡ Some (delta, bits_from found.1.bytes.now found.1.offset))
-        × (found.0 ≡ min delta (2 ^ 32))) }
+        × (found.0 ≡ min delta (2 ^ 34))) }
 {
     let (quotient, at) = take_ones(at)?;
     let (low, at) = take_number(at, parameter)?;
-    if quotient >> 32 != 0 {
-        return Some((1 << 32, at));
+    if quotient >> 34 != 0 {
+        return Some((1 << 34, at));
     }
-    Some((((quotient << parameter) + low).min(1 << 32), at))
+    Some((((quotient << parameter) + low).min(1 << 34), at))
 }

@@ -1,4 +1,5 @@
-ghost use Rattle.std.specs.Prelude.{◌≡◌, ℕ, ◌<◌, ◌≤◌, ◌⊎◌, List, ◌++◌, length, None, Some, IfOk, IfErr, OnOk, IsErrAnd, MatchResult};
+ghost use Rattle.std.specs.Prelude.{◌≡◌, ℕ, ◌<◌, ◌≤◌, ◌⊎◌, List, ◌++◌, length, None, Some, Ok, Err, IfOk, IfErr, OnOk, IsErrAnd, MatchResult};
+ghost use Rattle.rice_coding.specs.Decoding.{decoding_of};
 ghost use Rattle.rice_coding.specs.Rice.{IsRiceRecordOf, IsFaultOf};
 
 use crate::{RiceFault, RiceReader, RiceRecord};
@@ -11,6 +12,9 @@ use std::alloc::Global;
 /// `CountLimit`, `Range(0)`, then for each entry from 1 on `Ended` or else `Range`, and `LeftOver`.
 /// It reserves memory for no more numbers than the bytes of the record can code.
 pub fn decode(alloc: Global, coding: &RiceRecord, limit: u32) -> Result<Row<u32>, RiceFault>
+    ensures exact { IfOk result (λ values. decoding_of coding.now limit ≡ Ok values) }
+    ensures exact_fault { IfErr result (λ fault.
+        (fault ≡ RiceFault.OutOfMemory) ⊎ (decoding_of coding.now limit ≡ Err fault)) }
     ensures found { IfOk result (λ values. IsRiceRecordOf coding.now values) }
     ensures within { IfOk result (λ values. length values ≤ limit) }
     // A record that stands for values within the limit is decoded to these, unless memory is refused.
@@ -39,6 +43,7 @@ fn read_all(reader: RiceReader, values: Row<u32>) -> Result<Row<u32>, RiceFault>
     let mut values = values;
     while let Some(value) = reader.next()? {
         values.push(value)?;
+        reader.read_on(&mut values)?;
     }
     Ok(values)
 }

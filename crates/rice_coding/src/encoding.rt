@@ -1,13 +1,13 @@
-ghost use Rattle.std.specs.Prelude.{◌≡◌, ℕ, ◌^◌, ◌<◌, ◌≤◌, List, [], ◌∷◌, ◌++◌, false, replicate, length, IfOk};
+ghost use Rattle.std.specs.Prelude.{◌≡◌, ℕ, ◌^◌, ◌<◌, ◌≤◌, [], ◌∷◌, length, IfOk};
 ghost use Rattle.std.specs.List.Sorted.{IsStrictlyIncreasing};
-ghost use Rattle.rice_coding.specs.Bits.{bits_of};
+ghost use Rattle.rice_coding.specs.Bits.{packed};
 ghost use Rattle.rice_coding.specs.Codes.{codes, differences};
-ghost use Rattle.rice_coding.specs.Encoding.{StandsForOnly, HasBestParameter, HasZerosAfter};
+ghost use Rattle.rice_coding.specs.Encoding.{encoding_of, StandsForOnly, HasBestParameter, HasZerosAfter};
 ghost use Rattle.rice_coding.specs.Rice.{IsRiceRecordOf};
 
 use crate::RiceRecord;
-use crate::parameter::best_parameter;
-use crate::writer::BitWriter;
+use crate::parameter::{Choice, best_parameter};
+use crate::writer::{BitWriter, Pending};
 use sb_model::{Bytes, OutOfMemory};
 use std::alloc::Global;
 
@@ -19,6 +19,7 @@ pub fn encode(alloc: Global, values: &[u32]) -> Result<RiceRecord, OutOfMemory>
     requires some { 0 < length values.now }
     requires few { length values.now ≤ 1_048_576 }
     requires rising { IsStrictlyIncreasing values.now }
+    ensures exact { IfOk result (λ coding. coding ≡ encoding_of values.now) }
     ensures stands { IfOk result (λ coding. IsRiceRecordOf coding values.now) }
     ensures alone { IfOk result (λ coding. StandsForOnly coding values.now) }
     ensures parameter { IfOk result (λ coding. HasBestParameter coding values.now) }
@@ -33,48 +34,44 @@ pub fn encode(alloc: Global, values: &[u32]) -> Result<RiceRecord, OutOfMemory>
 fn encode_rest(alloc: Global, first: u32, rest: &[u32]) -> Result<RiceRecord, OutOfMemory>
     requires few { length rest.now < 2 ^ 20 }
     requires rising { IsStrictlyIncreasing (first ∷ rest.now) }
-    ensures stands { IfOk result (λ coding. IsRiceRecordOf coding (first ∷ rest.now)) }
-    ensures alone { IfOk result (λ coding. StandsForOnly coding (first ∷ rest.now)) }
-    ensures parameter { IfOk result (λ coding. HasBestParameter coding (first ∷ rest.now)) }
-    ensures single { IfOk result (λ coding. length rest.now ≡ 0
-        → (coding.parameter ≡ 0) × (coding.coded ≡ [])) }
-    ensures free { IfOk result (λ coding. HasZerosAfter coding (first ∷ rest.now)) }
+    ensures { IfOk result (λ coding. coding ≡ encoding_of (first ∷ rest.now)) }
 {
     if rest.is_empty() {
         return Ok(RiceRecord {
-            first: first as u64,
+            first: u64::from(first),
             parameter: 0,
             count: 0,
             coded: Bytes::new(alloc),
         });
     }
-    let (parameter, bits) = best_parameter(first, rest);
+    let best = best_parameter(first, rest);
     Ok(RiceRecord {
-        first: first as u64,
-        parameter,
+        first: u64::from(first),
+        parameter: best.parameter,
         count: rest.len() as u32,
-        coded: write_codes(alloc, first, rest, parameter, bits)?,
+        coded: write_codes(alloc, first, rest, best)?,
     })
 }
 
-/// The codes of the differences, which take this many bits.
+/// The codes of the differences with a chosen parameter.
+#[inline(never)]
 fn write_codes(
     alloc: Global,
     first: u32,
     rest: &[u32],
-    parameter: u32,
-    bits: u64,
+    choice: Choice,
 ) -> Result<Bytes, OutOfMemory>
     requires rising { IsStrictlyIncreasing (first ∷ rest.now) }
-    requires parameter { parameter ≤ 28 }
-    ensures { IfOk result (λ bytes. (free : ℕ) × (free < 8)
-        × (bits_of bytes ≡ codes parameter (differences first rest.now) ++ replicate free false)) }
+    requires parameter { choice.parameter ≤ 28 }
+    ensures { IfOk result (λ bytes. bytes
+        ≡ packed (codes choice.parameter (differences first rest.now))) }
 {
-    let mut writer = BitWriter::with_room(alloc, bits)?;
+    let mut writer = BitWriter::with_room(alloc, choice.bits)?;
+    let mut pending = Pending::none();
     let mut previous = first;
     for value in rest {
-        writer.put_code(*value - previous, parameter)?;
+        pending = pending.put_code(&mut writer, *value - previous, choice.parameter)?;
         previous = *value;
     }
-    writer.finish()
+    writer.finish(pending)
 }

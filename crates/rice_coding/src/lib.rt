@@ -2,12 +2,15 @@
 //! message `RiceDeltaEncoding` of the Safe Browsing Update API, version 4, has them.
 //!
 //! `encode` makes the record of a list, `decode` gives the list of a record, and `RiceReader` gives
-//! it one number at a time. `specs/Rice.antt` says which record stands for which list.
+//! it one number at a time. `specs/Rice.antt` says which record stands for which list, and `laws`
+//! that `encoding_of` and `decoding_of`, which the contracts cite, go by it. The tests stand in the
+//! crate `rice_coding_tests`.
 #![tactic(auto)]
 
 pub use decoding::decode;
 pub use encoding::encode;
 pub use fault::RiceFault;
+pub use laws::{decoding_goes_by_the_record, encoding_is_decoded};
 pub use reader::RiceReader;
 pub use record::RiceRecord;
 
@@ -15,9 +18,11 @@ mod cursor;
 mod decoding;
 mod encoding;
 mod fault;
+mod laws;
 mod parameter;
+mod place;
 mod reader;
 mod record;
-#[cfg(test)]
-mod tests;
+mod run;
+mod window;
 mod writer;

@@ -1,30 +1,27 @@
-ghost use Rattle.std.specs.Prelude.{◌≡◌, ℕ, ◌^◌, ◌<◌, ◌≤◌, [], true, false, ◌++◌, replicate, IfOk, OnOk};
-ghost use Rattle.rice_coding.specs.Bits.{low_bits, bits_of};
+ghost use Rattle.std.specs.Prelude.{◌≡◌, ℕ, ◌^◌, ◌<◌, ◌≤◌, [], ◌++◌, IfOk, OnOk};
+ghost use Rattle.rice_coding.specs.Bits.{low_bits, packed};
 ghost use Rattle.rice_coding.specs.Codes.{code};
 
 use sb_model::{Bytes, OutOfMemory};
 use std::alloc::Global;
 use std::marker::Model;
 
-/// Bits that are being written. Contracts see it as these. After an `Err` it is not used again.
+/// Bits that were written, eight bytes at a time. Contracts see it as these. After an `Err` it is
+/// not used again.
 #[derive(Drop)]
 pub struct BitWriter {
     bytes: Vec<u8>,
-    /// The bits after those of `bytes`.
-    word: u64,
-    /// How many bits these are.
-    count: u32,
 }
 
 impl Model for BitWriter {
-    ghost use Rattle.std.specs.Prelude.{List, Bool, ◌++◌, ◌<◌, ◌^◌};
-    ghost use Rattle.rice_coding.specs.Bits.{low_bits, bits_of};
+    ghost use Rattle.std.specs.Prelude.{ℕ, List, Bool, ◌<◌, slice_index};
+    ghost use Rattle.rice_coding.specs.Bits.{bits_of};
 
     ghost Value = { List Bool };
 
-    ghost view = { λ w. bits_of w.bytes.items ++ low_bits w.count w.word };
+    ghost view = { λ w. bits_of w.bytes.items };
 
-    ghost invariant = { λ w. (w.count < 32) × (w.word < 2 ^ w.count) };
+    ghost invariant = { λ w. (i : ℕ) → slice_index w.bytes.items i < 256 };
 }
 
 impl BitWriter {
@@ -33,65 +30,99 @@ impl BitWriter {
         ensures { IfOk result (λ writer. writer ≡ []) }
     {
         Ok(BitWriter {
-            bytes: Vec::with_capacity(alloc, (bits / 8) as usize + 4)?,
-            word: 0,
-            count: 0,
+            bytes: Vec::with_capacity(alloc, (bits / 8) as usize + 8)?,
         })
     }
 
-    /// Writes this many low bits of a number.
-    fn put(&mut self, number: u32, count: u32) -> Result<(), OutOfMemory>
-        requires few { count ≤ 32 }
-        requires fits { number < 2 ^ count }
-        ensures { OnOk result (self.new ≡ self.old ++ low_bits count number) }
+    /// Writes the 64 bits of a word.
+    #[inline]
+    fn put_word(&mut self, word: u64) -> Result<(), OutOfMemory>
+        ensures { OnOk result (self.new ≡ self.old ++ low_bits 64 word) }
     {
-        let word = self.word | (u64::from(number) << self.count);
-        let total = self.count + count;
-        if total >= 32 {
-            let low = (word & 0xffff_ffff) as u32;
-            self.bytes.extend_from_slice(&low.to_le_bytes())?;
-            self.word = word >> 32;
-            self.count = total - 32;
-        } else {
-            self.word = word;
-            self.count = total;
-        }
+        self.bytes.extend_from_slice(&word.to_le_bytes())?;
         Ok(())
     }
 
-    /// Writes this many ones.
-    fn put_ones(&mut self, count: u32) -> Result<(), OutOfMemory>
-        ensures { OnOk result (self.new ≡ self.old ++ replicate count true) }
+    /// The bytes that hold the bits and those that are pending.
+    pub fn finish(self, pending: Pending) -> Result<Bytes, OutOfMemory>
+        ensures { IfOk result (λ bytes. bytes ≡ packed (self ++ pending)) }
     {
-        let mut left = count;
-        while left > 31 {
-            self.put(u32::MAX >> 1, 31)?;
-            left -= 31;
-        }
-        self.put((1 << left) - 1, left)
-    }
-
-    /// Writes the code of a delta.
-    pub fn put_code(&mut self, delta: u32, parameter: u32) -> Result<(), OutOfMemory>
-        requires { parameter ≤ 28 }
-        ensures { OnOk result (self.new ≡ self.old ++ code parameter delta) }
-    {
-        self.put_ones(delta >> parameter)?;
-        self.put((delta & ((1 << parameter) - 1)) << 1, parameter + 1)
-    }
-
-    /// The bytes of the bits, of which the last one ends with zeros.
-    pub fn finish(self) -> Result<Bytes, OutOfMemory>
-        ensures { IfOk result (λ bytes. (free : ℕ) × (free < 8)
-            × (bits_of bytes ≡ self ++ replicate free false)) }
-    {
-        let BitWriter {
-            mut bytes,
-            word,
-            count,
-        } = self;
-        let last = (word as u32).to_le_bytes();
-        bytes.extend_from_slice(&last[..count.div_ceil(8) as usize])?;
+        let BitWriter { mut bytes } = self;
+        let last = pending.word.to_le_bytes();
+        bytes.extend_from_slice(&last[..pending.count.div_ceil(8) as usize])?;
         Ok(Bytes::from_vec(bytes))
+    }
+}
+
+/// Fewer than 64 bits, which come after those that a writer has. Contracts see it as these.
+#[derive(Drop)]
+pub struct Pending {
+    word: u64,
+    /// How many low bits of the word these are.
+    count: u32,
+}
+
+impl Model for Pending {
+    ghost use Rattle.std.specs.Prelude.{List, Bool, ◌<◌, ◌^◌};
+    ghost use Rattle.rice_coding.specs.Bits.{low_bits};
+
+    ghost Value = { List Bool };
+
+    ghost view = { λ p. low_bits p.count p.word };
+
+    ghost invariant = { λ p. (p.count < 64) × (p.word < 2 ^ p.count) };
+}
+
+impl Pending {
+    /// No bits.
+    pub fn none() -> Self
+        ensures { result ≡ [] }
+    {
+        Pending { word: 0, count: 0 }
+    }
+
+    /// Adds this many low bits of a number, and writes a word where there are 64.
+    #[inline]
+    fn put(self, writer: &mut BitWriter, number: u64, count: u32) -> Result<Pending, OutOfMemory>
+        requires few { count < 64 }
+        requires fits { number < 2 ^ count }
+        ensures { IfOk result (λ pending.
+            writer.new ++ pending ≡ writer.old ++ self ++ low_bits count number) }
+    {
+        let word = self.word | (number << self.count);
+        let total = self.count + count;
+        if total < 64 {
+            return Ok(Pending { word, count: total });
+        }
+        writer.put_word(word)?;
+        Ok(Pending {
+            word: number >> (64 - self.count),
+            count: total - 64,
+        })
+    }
+
+    /// Adds the code of a delta: all of it at once where its quotient is below 32, and otherwise the
+    /// ones that are too many before it.
+    #[inline]
+    pub fn put_code(
+        self,
+        writer: &mut BitWriter,
+        delta: u32,
+        parameter: u32,
+    ) -> Result<Pending, OutOfMemory>
+        requires { parameter ≤ 28 }
+        ensures { IfOk result (λ pending.
+            writer.new ++ pending ≡ writer.old ++ self ++ code parameter delta) }
+    {
+        let mut pending = self;
+        let mut ones = delta >> parameter;
+        while ones > 31 {
+            pending = pending.put(writer, 0xffff_ffff, 32)?;
+            ones -= 32;
+        }
+        let low = u64::from(delta & ((1 << parameter) - 1));
+        // The ones are the lowest bits, then comes the zero, and above it the low bits of the delta.
+        let number = ((2 * low + 1) << ones) - 1;
+        pending.put(writer, number, ones + parameter + 1)
     }
 }

@@ -2,6 +2,7 @@ pub mod CommandWords
 pub mod Endings
 pub mod ExampleDigests
 pub mod ExampleRun
+pub mod Fours
 pub mod HonestUpdates
 pub mod LineCuts
 pub mod PlainBodies

@@ -76,6 +76,7 @@ module _ (list : HeldList) (update : PlainUpdate) (r : Result UpdateResult OutOf
     (too_large : (n : ℕ) → f ≡ apply.TooLarge n → (length (set_of (fours update.additions)) ≤ 1048576) × (length (concatenation (set_of (fours update.additions))) ≡ n) × (8388608 < n))
     (many : (n : ℕ) → f ≡ apply.TooMany n → (r ≡ Ok (result.Refused (fault.TooMany n))) × (new ≡ record list { resync = true }))
     (large : (n : ℕ) → f ≡ apply.TooLarge n → (r ≡ Ok (result.Refused (fault.TooLarge n))) × (new ≡ record list { resync = true }))
+    (index_range : (index len : ℕ) → f ≡ apply.IndexRange index len → IsErr r)
     (memory : f ≡ apply.OutOfMemory → IsErr r) where
   abbrev pub IfStep : Result UpdateResult OutOfMemory → Type 0
   IfStep (Ok told) = IsStep list update told new
@@ -100,6 +101,7 @@ module _ (list : HeldList) (update : PlainUpdate) (r : Result UpdateResult OutOf
       let why = too_large n e in
       let past = subst (λ (k : ℕ). 8388608 < k) (sym why.1) why.2 in
       told_by (fault.TooLarge n) (fault_large update.checksum (set_of (fours update.additions)) why.0 past ∙ ap (λ (k : ℕ). Some (TooLarge k)) why.1) (large n e).0 (large n e).1
+  limit_by (apply.IndexRange index len) e = no_step r (index_range index len e)
   limit_by apply.OutOfMemory e = no_step r (memory e)
 
   pub limit_refused : IfStep r

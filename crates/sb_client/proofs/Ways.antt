@@ -74,17 +74,10 @@ way_stop p done later some w = record {
 pub front_none : (known : Option (List ℕ)) (text : List ℕ) → text ≢ [] → HasFront known known text
 front_none known text some = record { taken = []; lost = text; has = sym (appended-nil known); rest = refl; missing = some }
 
--- what is left of a text that is made of a list
-pub flat_from : {X : Type 0} (f : X → List ℕ) (xs : List X) (i : ℕ) (x : X) → i < length xs → x ≡ get_or xs i x → flat_map f (drop i xs) ≡ f x ++ flat_map f (drop (i + 1) xs)
-flat_from f xs i x l e = ap (flat_map f) (drop_more xs i x l ∙ ap (λ y. y ∷ drop (i + 1) xs) (sym e))
-
--- the step of a loop that prints a list
-pub flat_step : {X : Type 0} (f : X → List ℕ) (xs : List X) (i : ℕ) (x : X) (line done all : List ℕ) → i < length xs → x ≡ get_or xs i x → line ≡ f x
-    → done ++ flat_map f (drop i xs) ≡ all → (done ++ line) ++ flat_map f (drop (i + 1) xs) ≡ all
-flat_step f xs i x line done all l e k h =
-    append_assoc done line (flat_map f (drop (i + 1) xs))
-    ∙ ap (λ bytes. done ++ bytes) (ap (λ bytes. bytes ++ flat_map f (drop (i + 1) xs)) k ∙ sym (flat_from f xs i x l e))
-    ∙ h
+-- the step of a loop that prints the members of a list
+pub members_step : (f : List ℕ → List ℕ) (all left : List (List ℕ)) (x : List ℕ) (done whole : List ℕ) → all ≡ x ∷ left
+    → done ++ flat_map f all ≡ whole → (done ++ f x) ++ flat_map f left ≡ whole
+members_step f all left x done whole e h = append_assoc done (f x) (flat_map f left) ∙ ap (λ (xs : List (List ℕ)). done ++ flat_map f xs) (sym e) ∙ h
 
 -- a text that is on its way, and then the page that is handed on whole
 pub way_end : {a b c : Option (List ℕ)} (p done : List ℕ) → IsOnItsWay a b p done → c ≡ appended b p → c ≡ appended a done

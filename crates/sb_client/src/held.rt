@@ -1,12 +1,12 @@
-ghost use Rattle.std.specs.Prelude.{◌≡◌, ◌≢◌, ℕ, true, false, length, Ok, IsErr, IfOk, OnOk, OnErr};
+ghost use Rattle.std.specs.Prelude.{◌≡◌, ◌≢◌, ◌<◌, ◌≤◌, ℕ, true, false, length, Ok, IsErr, IfOk, OnOk, OnErr, IsErrOf};
+ghost use Rattle.sb_model.specs.Prefixes.{set_of, concatenation};
 ghost use Rattle.sb_client.specs.PlainBody.{fours};
 ghost use Rattle.sb_client.specs.Step.{nothing_held, list_step, result_of, digest_of};
 ghost use Rattle.sb_client.specs.Views.{update_of, held_of, list_result_of};
 
 use crate::body::PlainUpdate;
-use hash_prefixes::Prefix;
-use prefix_set::{ApplyFault, PrefixSet};
-use sb_model::{Bytes, ListName, OutOfMemory, Row};
+use prefix_set::{ApplyFault, Edit, Merged, PrefixSet};
+use sb_model::{Bytes, ListName, OutOfMemory};
 use std::alloc::Global;
 
 /// A list that a client holds.
@@ -35,18 +35,21 @@ pub(crate) enum UpdateResult {
     Refused(UpdateFault),
 }
 
-/// The prefixes that stand one after the other, four bytes each.
-fn prefixes_in(alloc: Global, bytes: &[u8]) -> Result<Row<Prefix>, OutOfMemory>
-    ensures { IfOk result (λ prefixes. prefixes ≡ fours bytes.now) }
+/// The set of the prefixes that stand one after the other, four bytes each, and its digest.
+fn set_of_fours(alloc: Global, bytes: &[u8]) -> Result<Merged, ApplyFault>
+    ensures ok { IfOk result (λ merged. merged.set ≡ set_of (fours bytes.now)) }
+    ensures digest { IfOk result (λ merged. merged.digest ≡ digest_of merged.set) }
+    ensures few { IfOk result (λ merged. length merged.set ≤ 1_048_576) }
+    ensures short { IfOk result (λ merged. length (concatenation merged.set) ≤ 8_388_608) }
+    ensures too_many { (n : ℕ) → IsErrOf result (ApplyFault.TooMany n)
+        → (length (set_of (fours bytes.now)) ≡ n) × (1_048_576 < n) }
+    ensures too_large { (n : ℕ) → IsErrOf result (ApplyFault.TooLarge n)
+        → (length (set_of (fours bytes.now)) ≤ 1_048_576)
+        × (length (concatenation (set_of (fours bytes.now))) ≡ n) × (8_388_608 < n) }
 {
-    let mut prefixes = Row::with_capacity(alloc, bytes.len() / 4)?;
-    let mut rest = bytes;
-    while rest.len() >= 4 {
-        let (four, tail) = rest.split_at(4);
-        prefixes.push(Prefix::from_bytes(four).unwrap())?;
-        rest = tail;
-    }
-    Ok(prefixes)
+    let mut edit = Edit::new(alloc);
+    edit.add_each(4, &bytes[..bytes.len() - bytes.len() % 4])?;
+    PrefixSet::empty(alloc).merge(alloc, edit)
 }
 
 impl HeldList {
@@ -71,31 +74,36 @@ impl HeldList {
         UpdateResult::Refused(fault)
     }
 
-    /// Refuses what is no set. Want of memory is no refusal.
+    /// Refuses what is no set. Want of memory is no refusal, and an index comes with removals alone.
     fn refuse_set(&mut self, fault: ApplyFault) -> Result<UpdateResult, OutOfMemory>
         ensures many { (n : ℕ) → fault ≡ ApplyFault.TooMany n
             → (result ≡ Ok (UpdateResult.Refused (UpdateFault.TooMany n))) × (self.new ≡ record self.old { resync = true }) }
         ensures large { (n : ℕ) → fault ≡ ApplyFault.TooLarge n
             → (result ≡ Ok (UpdateResult.Refused (UpdateFault.TooLarge n))) × (self.new ≡ record self.old { resync = true }) }
+        ensures index { (index len : ℕ) → fault ≡ ApplyFault.IndexRange index len → IsErr result }
         ensures memory { fault ≡ ApplyFault.OutOfMemory → IsErr result }
         ensures err { OnErr result (self.new ≡ self.old) }
     {
         match fault {
             ApplyFault::TooMany(count) => Ok(self.refuse(UpdateFault::TooMany(count))),
             ApplyFault::TooLarge(bytes) => Ok(self.refuse(UpdateFault::TooLarge(bytes))),
-            ApplyFault::OutOfMemory => Err(OutOfMemory),
+            ApplyFault::IndexRange { .. } | ApplyFault::OutOfMemory => Err(OutOfMemory),
         }
     }
 
     /// Takes a set for an update, where its digest is the given one.
-    fn install(&mut self, set: PrefixSet, new_state: Bytes, given: [u8; 32]) -> UpdateResult
-        ensures same { digest_of set ≡ given → (result ≡ UpdateResult.Installed (length set))
-            × (held_of self.new ≡ record { name = self.old.name; token = new_state; set = set; resync = false }) }
-        ensures other { digest_of set ≢ given
-            → (result ≡ UpdateResult.Refused (UpdateFault.Checksum (digest_of set) given))
+    fn install(&mut self, merged: Merged, new_state: Bytes, given: [u8; 32]) -> UpdateResult
+        requires { merged.digest ≡ digest_of merged.set }
+        ensures same { digest_of merged.set ≡ given → (result ≡ UpdateResult.Installed (length merged.set))
+            × (held_of self.new ≡ record { name = self.old.name; token = new_state; set = merged.set; resync = false }) }
+        ensures other { digest_of merged.set ≢ given
+            → (result ≡ UpdateResult.Refused (UpdateFault.Checksum (digest_of merged.set) given))
             × (self.new ≡ record self.old { resync = true }) }
     {
-        let computed = set.digest();
+        let Merged {
+            set,
+            digest: computed,
+        } = merged;
         if computed != given {
             return self.refuse(UpdateFault::Checksum { computed, given });
         }
@@ -121,10 +129,8 @@ impl HeldList {
             new_state,
             checksum,
         } = update;
-        let prefixes = prefixes_in(alloc, additions.as_slice())?;
-        drop(additions);
-        match PrefixSet::from_row(prefixes) {
-            Ok(set) => Ok(self.install(set, new_state, checksum)),
+        match set_of_fours(alloc, additions.as_slice()) {
+            Ok(merged) => Ok(self.install(merged, new_state, checksum)),
             Err(fault) => self.refuse_set(fault),
         }
     }

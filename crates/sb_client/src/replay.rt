@@ -131,8 +131,8 @@ fn print_prefixes<O: Sink>(held: &HeldList, out: &mut O, page: &mut Bytes) -> Re
     ensures err { OnErr result (HasFront (O.contents out.old) (O.contents out.new)
         (page.old ++ flat_map prefix_line held.now.set)) }
 {
-    for prefix in held.set.as_slice() {
-        if let Err(stop) = print_prefix(prefix.as_bytes(), out, page) {
+    for prefix in held.set.iter() {
+        if let Err(stop) = print_prefix(prefix, out, page) {
             return Err(stop);
         }
     }

@@ -1,7 +1,7 @@
 -- What a log in memory tells.
-use Rattle.std.proofs.Common.{◌≡◌, ℕ, List, length, Bool, true, false, cond, nat_lt, Option, Some, None, refl}
+use Rattle.std.proofs.Common.{ℕ, List, length, Bool, true, false, cond, nat_lt, Option, Some, None, refl}
 use Rattle.sb_outside.specs.Outside.{IfTold, with_entry}
-use Rattle.sb_outside.specs.Logs.{with_room, logged}
+use Rattle.sb_outside.specs.Logs.{logged}
 
 told_if : {A : Type 0} (b : Bool) (entries : List A) (entry : A) → IfTold (with_entry (cond b (Some entries) None) entry) (with_entry (Some entries) entry)
 told_if true entries entry = refl

@@ -1,10 +1,10 @@
 -- The steps of a session in memory, and the log of a link with one more session.
-use Rattle.std.proofs.Common.{◌≡◌, ℕ, ◌+◌, ◌<◌, ◌≤◌, Bool, true, false, cond, nat_lt, List, [], ◌∷◌, ◌++◌, length, take, drop, Option, Some, None, refl, sym, ap, ◌∙◌, arith}
+use Rattle.std.proofs.Common.{◌≡◌, ℕ, ◌+◌, List, [], ◌∷◌, ◌++◌, length, take, drop, Option, Some, None, refl, sym, ap, ◌∙◌}
 use Rattle.std.proofs.Math.Seq.{take-add}
 use Rattle.std.proofs.lemmas.List.{drop-drop}
 use Rattle.std.specs.Option.{option_map}
 use Rattle.sb_outside.specs.Outside.{raised, IfTold}
-use Rattle.sb_outside.specs.Sessions.{with_received, last_changed, on_last, on_last-push}
+use Rattle.sb_outside.specs.Sessions.{with_received, last_changed, on_last-push}
 use Rattle.sb_outside.specs.Plays.{SessionInMemory, LinkInMemory, log_of, after_bytes}
 use Rattle.sb_outside.specs.declared.links.Session.{Session}
 

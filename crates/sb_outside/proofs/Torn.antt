@@ -1,5 +1,5 @@
 -- What a keeper in memory keeps after a failure is what a keeper may keep.
-use Rattle.std.proofs.Common.{◌≡◌, ℕ, ◌<◌, ◌≤◌, ◌⊎◌, List, length, take, Option, Some, refl, sym, ap, inl, inr, ⊎_elim}
+use Rattle.std.proofs.Common.{ℕ, List, length, take, Option, Some, refl, sym, ap, inl, inr, ⊎_elim}
 use Rattle.std.proofs.lemmas.List.{take_all}
 use Rattle.std.proofs.lemmas.Bool.{cases_lt}
 use Rattle.sb_outside.specs.Keeping.{IsTorn}

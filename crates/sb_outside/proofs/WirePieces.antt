@@ -1,11 +1,10 @@
 -- What a wire in memory has left, and what its entry says, by the place that it has come to.
-use Rattle.std.proofs.Common.{◌≡◌, ℕ, ◌+◌, ◌<◌, ◌≤◌, ◌↔◌, Bool, true, false, cond, IsTrue, nat_lt, List, [], ◌∷◌, ◌++◌, length, take, drop, Some, refl, sym, ap, ◌∙◌, append_assoc, append-nil, arith, rules, length-drop}
+use Rattle.std.proofs.Common.{◌≡◌, ℕ, ◌+◌, ◌<◌, ◌≤◌, ◌↔◌, Bool, true, false, cond, IsTrue, nat_lt, List, [], ◌++◌, length, take, drop, Some, refl, sym, ap, ◌∙◌, append_assoc, arith, rules, length-drop}
 use Rattle.std.proofs.lemmas.List.{take-append-drop, drop-drop, take_all}
 use Rattle.std.specs.List.{concat}
 use Rattle.sb_outside.specs.Outside.{GivesFront}
 use Rattle.sb_outside.specs.Connections.{HasEnded, IsEntryOf}
 use Rattle.sb_outside.specs.Wires.{pieces_of}
-use Rattle.sb_outside.specs.declared.doors.Connection.{Connection}
 
 -- the next bytes are given
 pub gives_next : (ended : Bool) (left : List (List ℕ)) (sends bytes : List ℕ) (k n : ℕ) → ended ≡ false → cond ended [] (pieces_of (drop k sends)) ≡ left → bytes ≡ take n (drop k sends)

@@ -11,3 +11,4 @@ pub mod KeptTexts
 pub mod Wires
 pub mod Plays
 pub mod Standard
+pub mod Tcp

@@ -1,5 +1,5 @@
 -- The wire and the door in memory, as contracts see them.
-use Rattle.std.specs.Prelude.{ℕ, List, [], ◌∷◌, map, Option}
+use Rattle.std.specs.Prelude.{ℕ, List, [], ◌∷◌, Option}
 use Rattle.sb_outside.specs.declared.doors.Connection.{Connection}
 
 -- a wire in memory, which gives some bytes and then the end of input

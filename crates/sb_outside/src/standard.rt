@@ -58,7 +58,7 @@ fn read_again<R: Read>(reader: &mut R, buffer: &mut [u8]) -> Result<usize, Faile
         match reader.read(buffer) {
             Ok(n) => return Ok(n),
             Err(e) if e.kind() == ErrorKind::Interrupted => {}
-            Err(_) => return Err(Failed),
+            Err(_) => break,
         }
     }
     Err(Failed)

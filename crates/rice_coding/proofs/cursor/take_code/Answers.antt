@@ -1,6 +1,5 @@
 use Rattle.std.proofs.Common.{◌≡◌, ℕ, ◌+◌, ◌*◌, ◌^◌, ◌%◌, ◌<◌, ◌≤◌, Bool, List, Some, take, arith, ap, sym, ◌∙◌, rules}
-use Rattle.rice_coding.specs.Bits.{bits_from}
-use Rattle.rice_coding.specs.Reading.{number_of}
+use Rattle.rice_coding.specs.Bits.{bits_from, number_of}
 use Rattle.rice_coding.proofs.CodeFacts.{delta_at-no_zero, delta_at-short, delta_at-some, delta_high, shifted_whole, delta_fits, low_lt}
 use Rattle.rice_coding.proofs.cursor.take_code.Goals as goal
 
@@ -18,7 +17,7 @@ returns-then-quotient-ne0-clause-some c =
     let ones = c.in_ok-quotient.ensures.some in
     let rest = bits_from c.in_ok-quotient.at.bytes.now c.in_ok-quotient.at.offset in
     let low = number_of (take c.args.parameter rest) in
-    let many : 2 ^ 32 ≤ ones.0 = omega (arith, ones.2) in (
+    let many : 2 ^ 34 ≤ ones.0 = omega (arith, ones.2) in (
       ones.0 * 2 ^ c.args.parameter + low,
       delta_at-some c.args.parameter ones.0 (bits_from c.args.at.bytes.now c.args.at.offset) rest ones.1 c.in_ok-low.ensures.long
           ∙ ap (λ (left : List Bool). Some (ones.0 * 2 ^ c.args.parameter + low, left)) (sym c.in_ok-low.ensures.after),
@@ -30,7 +29,7 @@ pub overflow_add-quotient : goal.overflow_add-quotient
 overflow_add-quotient c =
     let rest = bits_from c.in_ok-quotient.at.bytes.now c.in_ok-quotient.at.offset in
     let low : c.in_ok-low.low < 2 ^ c.args.parameter = omega (arith, c.in_ok-low.ensures.number, low_lt c.args.parameter rest c.in_ok-low.ensures.long) in
-    let few : c.in_ok-quotient.quotient < 2 ^ 32 = omega arith in
+    let few : c.in_ok-quotient.quotient < 2 ^ 34 = omega arith in
     let fits : c.in_ok-quotient.quotient * 2 ^ c.args.parameter % 2 ^ 64 + c.in_ok-low.low < 2 ^ 64 = delta_fits c.in_ok-quotient.quotient c.args.parameter c.in_ok-low.low few c.requires.few low in
     search rules
 

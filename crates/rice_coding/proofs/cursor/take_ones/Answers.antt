@@ -10,7 +10,7 @@ returns-then-not-has-clause-none c =
     let bits = bits_from c.loop-place.place.bytes.now c.loop-place.place.offset in
     let run : c.trailing_ones-run.result < 57 = c.if-run-lt57.true in
     let ones : (i : ℕ) → i < c.trailing_ones-run.result → get_or bits i false ≡ true =
-    λ i below. run_ones bits c.window.result c.trailing_ones-run.result c.window.type_inv c.window.ensures c.trailing_ones-run.ensures i (omega arith) below in
+    λ i below. run_ones bits c.window.result 57 c.trailing_ones-run.result c.window.type_inv c.window.ensures c.trailing_ones-run.ensures i (omega arith) below in
     let short : length bits < c.trailing_ones-run.result + 1 = short_from_has c.has.result _ _ c.if-not-has.true c.has.ensures in
     let none : unary bits ≡ None = unary_none bits c.trailing_ones-run.result ones (omega arith) in
     c.loop-place.invariant.1 ∙ ap (after_ones c.loop-place.invariant.0) none
@@ -20,9 +20,9 @@ returns-then-run-lt57-clause-some c =
     let bits = bits_from c.loop-place.place.bytes.now c.loop-place.place.offset in
     let run : c.trailing_ones-run.result < 57 = c.if-run-lt57.true in
     let ones : (i : ℕ) → i < c.trailing_ones-run.result → get_or bits i false ≡ true =
-    λ i below. run_ones bits c.window.result c.trailing_ones-run.result c.window.type_inv c.window.ensures c.trailing_ones-run.ensures i (omega arith) below in
+    λ i below. run_ones bits c.window.result 57 c.trailing_ones-run.result c.window.type_inv c.window.ensures c.trailing_ones-run.ensures i (omega arith) below in
     let clear : get_or bits c.trailing_ones-run.result false ≡ false =
-    run_zero bits c.window.result c.trailing_ones-run.result c.window.type_inv c.window.ensures c.trailing_ones-run.ensures run in
+    run_zero bits c.window.result 57 c.trailing_ones-run.result c.window.type_inv (omega arith) c.window.ensures c.trailing_ones-run.ensures run in
     let long : c.trailing_ones-run.result + 1 ≤ length bits = long_from_has c.has.result _ _ c.if-not-has.false c.has.ensures in
     let some : unary bits ≡ Some (c.trailing_ones-run.result, drop (c.trailing_ones-run.result + 1) bits) = unary_some bits c.trailing_ones-run.result ones (omega arith) clear in (
       c.loop-place.invariant.0 + c.trailing_ones-run.result,
@@ -35,7 +35,7 @@ skip-place-requires-clause-there c =
     let bits = bits_from c.loop-place.place.bytes.now c.loop-place.place.offset in
     let run : 57 ≤ c.trailing_ones-run.result = c.if-run-lt57.false in
     let one : get_or bits 56 false ≡ true =
-    run_ones bits c.window.result c.trailing_ones-run.result c.window.type_inv c.window.ensures c.trailing_ones-run.ensures 56 (omega arith) (omega arith) in
+    run_ones bits c.window.result 57 c.trailing_ones-run.result c.window.type_inv c.window.ensures c.trailing_ones-run.ensures 56 (omega arith) (omega arith) in
     within_from_one bits 56 one
 
 pub loop-place-smaller : goal.loop-place-smaller
@@ -43,7 +43,7 @@ loop-place-smaller c =
     let bits = bits_from c.loop-place.place.bytes.now c.loop-place.place.offset in
     let run : 57 ≤ c.trailing_ones-run.result = c.if-run-lt57.false in
     let one : get_or bits 56 false ≡ true =
-    run_ones bits c.window.result c.trailing_ones-run.result c.window.type_inv c.window.ensures c.trailing_ones-run.ensures 56 (omega arith) (omega arith) in
+    run_ones bits c.window.result 57 c.trailing_ones-run.result c.window.type_inv c.window.ensures c.trailing_ones-run.ensures 56 (omega arith) (omega arith) in
     let long : 57 ≤ length bits = within_from_one bits 56 one in
     omega (arith, ap length c.skip-place.ensures, length-drop 57 bits)
 
@@ -52,7 +52,7 @@ loop-place-preserved c =
     let bits = bits_from c.loop-place.place.bytes.now c.loop-place.place.offset in
     let run : 57 ≤ c.trailing_ones-run.result = c.if-run-lt57.false in
     let ones : (i : ℕ) → i < 57 → get_or bits i false ≡ true =
-    λ i below. run_ones bits c.window.result c.trailing_ones-run.result c.window.type_inv c.window.ensures c.trailing_ones-run.ensures i below (omega arith) in (
+    λ i below. run_ones bits c.window.result 57 c.trailing_ones-run.result c.window.type_inv c.window.ensures c.trailing_ones-run.ensures i below (omega arith) in (
       c.loop-place.invariant.0 + 57,
       c.loop-place.invariant.1
           ∙ ap (after_ones c.loop-place.invariant.0) (unary_after bits 57 ones ∙ ap (λ (rest : List Bool). after_ones 57 (unary rest)) (sym c.skip-place.ensures))

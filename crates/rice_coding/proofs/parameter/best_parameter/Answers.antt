@@ -1,13 +1,14 @@
-use Rattle.std.proofs.Common.{ℕ, ◌+◌, ◌≤◌, sym, subst, arith}
-use Rattle.rice_coding.specs.Codes.{coded_length, differences}
+use Rattle.std.proofs.Common.{arith}
+use Rattle.rice_coding.specs.Codes.{differences}
 use Rattle.rice_coding.proofs.EncodeFacts.{fewest_here}
 use Rattle.rice_coding.proofs.parameter.best_parameter.Goals as goal
 
-pub returns-then-bits-fewest-clause-best : goal.returns-then-bits-fewest-clause-best
-returns-then-bits-fewest-clause-best c =
+pub returns-then-lower-likely-clause-best : goal.returns-then-lower-likely-clause-best
+returns-then-lower-likely-clause-best c =
     let deltas = differences c.args.first c.args.rest.now in
-    let best = c.loop-parameter.best in
-    let known = c.loop-parameter.invariant in
-    let P : ℕ → Type 0 = λ n. coded_length best deltas ≤ coded_length n deltas in
-    let rises : coded_length best deltas ≤ coded_length (best + 1) deltas = subst P (sym known.1) (omega (arith, known.2, c.count_bits-bits.ensures, c.if-bits-fewest.true)) in
-    fewest_here best deltas known.0 (omega (arith, known.1, c.loop-parameter-test.true)) rises (λ other low below. omega (arith, known.2, known.3 other low below))
+    let lower = c.walk_down-lower.ensures in
+    let near = c.likely_parameter.ensures in
+    let same = c.choose-likely.ensures.parameter in
+    fewest_here c.walk_down-lower.result.parameter deltas lower.low (omega (arith, lower.high, near.high, same))
+    (λ some. omega (arith, lower.bits, lower.below some))
+    (λ some. omega (arith, lower.bits, lower.above c.if-lower-likely.true))

@@ -1,4 +1,4 @@
-use Rattle.std.proofs.Common.{◌≡◌, ℕ, List, ◌++◌, drop}
+use Rattle.std.proofs.Common.{◌≡◌, ℕ, List, ◌++◌}
 use Rattle.std.specs.List.{flat_map}
 use Rattle.sb_client.specs.Printed.{prefix_line}
 use Rattle.sb_outside.specs.Writing.{IsOnItsWay}
@@ -9,6 +9,5 @@ abbrev pub invariant-loop-prefix : goal.invariant-loop-prefix
 invariant-loop-prefix g l =
     (done : List ℕ)
     × IsOnItsWay (g.O.Sink.contents l.initial.out) (g.O.Sink.contents l.out) l.page done
-    × (done ++ flat_map prefix_line (drop l.prefix-index l.prefix-items) ≡ l.initial.page ++ flat_map prefix_line l.held.set)
-    × (l.prefix-items ≡ l.held.set)
+    × (done ++ flat_map prefix_line l.prefix-iterator ≡ l.initial.page ++ flat_map prefix_line l.held.set)
     × (g.O.Sink.faults l.out ≡ g.O.Sink.faults l.initial.out)

@@ -8,25 +8,25 @@ use Rattle.rice_coding.proofs.reader.RiceReader.next.Goals as goal
 pub returns-then-bits-ge8-clause-fault : goal.returns-then-bits-ge8-clause-fault
 returns-then-bits-ge8-clause-fault c =
     let r = c.self.inside in
-    let bits = bits_from r.at.bytes.now r.at.offset in
-    let is : c.args.self.now ≡ stopped (Some (LeftOver c.remaining-bits.result)) =
+    let bits = bits_from r.at.bytes.now r.at.bit in
+    let is : c.args.self.now ≡ stopped (Some (LeftOver c.bits_left-bits.result)) =
     sym c.self.view_is ∙ reading_given r.parameter r.left r.given r.value bits c.if-self-eq0.false
-    ∙ reading_over r.parameter r.left r.given r.value c.remaining-bits.result bits c.if-self-eq0-2.true c.remaining-bits.ensures c.if-bits-ge8.true in
+    ∙ reading_over r.parameter r.left r.given r.value c.bits_left-bits.result bits c.if-self-eq0-2.true c.bits_left-bits.ensures c.if-bits-ge8.true in
     (ap (λ (x : Reading). x.values) is, ap (λ (x : Reading). x.fault) is, refl)
 
 pub returns-then-self-eq0-2-clause-end : goal.returns-then-self-eq0-2-clause-end
 returns-then-self-eq0-2-clause-end c =
     let r = c.self.inside in
-    let bits = bits_from r.at.bytes.now r.at.offset in
+    let bits = bits_from r.at.bytes.now r.at.bit in
     let is : c.args.self.now ≡ stopped None =
     sym c.self.view_is ∙ reading_given r.parameter r.left r.given r.value bits c.if-self-eq0.false
-    ∙ reading_end r.parameter r.left r.given r.value c.remaining-bits.result bits c.if-self-eq0-2.true c.remaining-bits.ensures c.if-bits-ge8.false in
+    ∙ reading_end r.parameter r.left r.given r.value c.bits_left-bits.result bits c.if-self-eq0-2.true c.bits_left-bits.ensures c.if-bits-ge8.false in
     (ap (λ (x : Reading). x.values) is, ap (λ (x : Reading). x.fault) is, refl)
 
 pub returns-in_default-clause-fault : goal.returns-in_default-clause-fault
 returns-in_default-clause-fault c =
     let r = c.self.inside in
-    let bits = bits_from r.at.bytes.now r.at.offset in
+    let bits = bits_from r.at.bytes.now r.at.bit in
     let is : c.args.self.now ≡ stopped (Some (Ended r.given)) =
     sym c.self.view_is ∙ reading_given r.parameter r.left r.given r.value bits c.if-self-eq0.false
     ∙ reading_ended r.parameter r.left r.given r.value bits c.if-self-eq0-2.false c.in_default.ensures.none in
@@ -35,7 +35,7 @@ returns-in_default-clause-fault c =
 pub returns-then-value-from-clause-fault : goal.returns-then-value-from-clause-fault
 returns-then-value-from-clause-fault c =
     let r = c.self.inside in
-    let bits = bits_from r.at.bytes.now r.at.offset in
+    let bits = bits_from r.at.bytes.now r.at.bit in
     let code = c.in-Some.ensures.some in
     let is : c.args.self.now ≡ stopped (Some (Range r.given)) =
     sym c.self.view_is ∙ reading_given r.parameter r.left r.given r.value bits c.if-self-eq0.false
@@ -45,21 +45,21 @@ returns-then-value-from-clause-fault c =
 pub returns-clause-value : goal.returns-clause-value
 returns-clause-value c =
     let r = c.self.inside in
-    let bits = bits_from r.at.bytes.now r.at.offset in
+    let bits = bits_from r.at.bytes.now r.at.bit in
     let code = c.in-Some.ensures.some in
     let value = c.from.result + c.in-Some.delta in
-    let is : c.args.self.now ≡ with_value value (reading_after r.parameter (r.left - 1) (r.given + 1) value (bits_from c.in-Some.at.bytes.now c.in-Some.at.offset)) =
+    let is : c.args.self.now ≡ with_value value (reading_after r.parameter (r.left - 1) (r.given + 1) value (bits_from c.in-Some.at.bytes.now c.in-Some.at.bit)) =
     sym c.self.view_is ∙ reading_given r.parameter r.left r.given r.value bits c.if-self-eq0.false
-    ∙ reading_value r.parameter r.left r.given r.value code.0 value bits (bits_from c.in-Some.at.bytes.now c.in-Some.at.offset) c.if-self-eq0-2.false code.1 (omega (arith, code.2)) (omega arith) in
+    ∙ reading_value r.parameter r.left r.given r.value code.0 value bits (bits_from c.in-Some.at.bytes.now c.in-Some.at.bit) c.if-self-eq0-2.false code.1 (omega (arith, code.2)) (omega arith) in
     ap (λ (x : Reading). x.values) is
 
 pub returns-clause-value_fault : goal.returns-clause-value_fault
 returns-clause-value_fault c =
     let r = c.self.inside in
-    let bits = bits_from r.at.bytes.now r.at.offset in
+    let bits = bits_from r.at.bytes.now r.at.bit in
     let code = c.in-Some.ensures.some in
     let value = c.from.result + c.in-Some.delta in
-    let is : c.args.self.now ≡ with_value value (reading_after r.parameter (r.left - 1) (r.given + 1) value (bits_from c.in-Some.at.bytes.now c.in-Some.at.offset)) =
+    let is : c.args.self.now ≡ with_value value (reading_after r.parameter (r.left - 1) (r.given + 1) value (bits_from c.in-Some.at.bytes.now c.in-Some.at.bit)) =
     sym c.self.view_is ∙ reading_given r.parameter r.left r.given r.value bits c.if-self-eq0.false
-    ∙ reading_value r.parameter r.left r.given r.value code.0 value bits (bits_from c.in-Some.at.bytes.now c.in-Some.at.offset) c.if-self-eq0-2.false code.1 (omega (arith, code.2)) (omega arith) in
+    ∙ reading_value r.parameter r.left r.given r.value code.0 value bits (bits_from c.in-Some.at.bytes.now c.in-Some.at.bit) c.if-self-eq0-2.false code.1 (omega (arith, code.2)) (omega arith) in
     ap (λ (x : Reading). x.fault) (sym is)

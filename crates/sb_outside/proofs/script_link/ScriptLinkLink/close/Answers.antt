@@ -1,4 +1,4 @@
-use Rattle.std.proofs.Common.{◌≡◌, ◌≤◌, zero, Some, refl, ap}
+use Rattle.std.proofs.Common.{◌≡◌, Some, ap}
 use Rattle.sb_outside.specs.Sessions.{with_close}
 use Rattle.sb_outside.specs.Plays.{LinkInMemory, SessionInMemory}
 use Rattle.sb_outside.proofs.PlayedSteps.{told_after}

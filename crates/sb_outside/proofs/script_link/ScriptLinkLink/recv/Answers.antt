@@ -1,4 +1,4 @@
-use Rattle.std.proofs.Common.{◌≡◌, ◌≤◌, zero, Some, refl, ap, take}
+use Rattle.std.proofs.Common.{◌≡◌, Some, ap, take}
 use Rattle.sb_outside.specs.Sessions.{with_received, with_end, with_failure}
 use Rattle.sb_outside.specs.Plays.{LinkInMemory, SessionInMemory}
 use Rattle.sb_outside.proofs.PlayedSteps.{told_after}

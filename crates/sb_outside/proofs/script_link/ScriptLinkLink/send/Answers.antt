@@ -1,4 +1,4 @@
-use Rattle.std.proofs.Common.{◌≡◌, ◌≤◌, zero, Some, refl, ap, ◌++◌, List, ℕ, take, length, arith, append-nil}
+use Rattle.std.proofs.Common.{◌≡◌, Some, ap, take, arith, append-nil}
 use Rattle.sb_outside.specs.Sessions.{with_sent, with_failure}
 use Rattle.sb_outside.specs.Plays.{LinkInMemory, SessionInMemory}
 use Rattle.sb_outside.proofs.PlayedSteps.{told_after}

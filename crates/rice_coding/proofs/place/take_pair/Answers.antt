@@ -1,0 +1,36 @@
+use Rattle.std.proofs.Common.{◌≡◌, ℕ, ◌+◌, ◌-◌, ◌*◌, ◌<◌, ◌≤◌, Bool, false, List, Some, length, get_or, drop, eqb, arith, ap, sym, ◌∙◌}
+use Rattle.std.specs.Int.{bit_at}
+use Rattle.std.proofs.lemmas.List.{drop-drop, length-drop}
+use Rattle.rice_coding.specs.Bits.{bits_from}
+use Rattle.rice_coding.proofs.BitFacts.{length-bits_from, drop-bits_from}
+use Rattle.rice_coding.proofs.CodeFacts.{word_after}
+use Rattle.rice_coding.proofs.place.take_pair.Goals as goal
+
+pub invariant_of-result : goal.invariant_of-result
+invariant_of-result c =
+    let at = c.args.at in
+    let near = c.cursor_at-near.result in
+    let long : 57 ≤ 8 * length at.bytes.now - at.bit =
+    omega (arith, length-bits_from near.bytes.now near.offset, length-bits_from at.bytes.now at.bit, ap length c.cursor_at-near.ensures, near.in_byte, c.if-near-lt8.false) in
+    record { within = omega (arith, long, c.in_ok-bit.ensures.1, c.in_ok-first.ensures.short, c.in_ok-second.ensures.short) }
+
+pub returns-clause-read : goal.returns-clause-read
+returns-clause-read c =
+    let at = c.args.at in
+    let near = c.cursor_at-near.result in
+    let bits = bits_from at.bytes.now at.bit in
+    let word = c.window-word.result in
+    let first = c.in_ok-first.first in
+    let second = c.in_ok-second.second in
+    let between = drop first.length bits in
+    let long : 57 ≤ length bits = omega (arith, length-bits_from near.bytes.now near.offset, ap length c.cursor_at-near.ensures, near.in_byte, c.if-near-lt8.false) in
+    let same : (i : ℕ) → i < 57 → get_or bits i false ≡ eqb (bit_at word i) 1 =
+    λ i below. ap (λ (bits : List Bool). get_or bits i false) (sym c.cursor_at-near.ensures) ∙ c.window-word.ensures i below in
+    let left : 57 - first.length ≤ length between = omega (arith, long, length-drop first.length bits) in
+    let after : drop second.length between ≡ bits_from at.bytes.now c.in_ok-bit.bit =
+    drop-drop second.length first.length bits ∙ drop-bits_from at.bytes.now at.bit (first.length + second.length) ∙ ap (bits_from at.bytes.now) (sym c.in_ok-bit.ensures.1) in (
+      between,
+      c.in_ok-first.ensures.first bits long same,
+      c.in_ok-second.ensures.first between left (word_after bits word 57 first.length c.in_ok-first.ensures.short same)
+          ∙ ap (λ (bits : List Bool). Some (second.delta, bits)) after,
+    )
