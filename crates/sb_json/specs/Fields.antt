@@ -4,7 +4,7 @@ use Rattle.sb_json.specs.declared.fields.Field.{Field}
 use Rattle.sb_json.specs.declared.fields.Field.TheVariants as field
 
 -- the name of a field in JSON; the top value is told of as a message
-unfoldable pub key_of : Field → List ℕ
+abbrev pub key_of : Field → List ℕ
 key_of field.Client = codes "client"
 key_of field.ClientId = codes "clientId"
 key_of field.ClientVersion = codes "clientVersion"
@@ -55,7 +55,7 @@ key_of field.ThreatLists = codes "threatLists"
 key_of field.Root = codes "message"
 
 -- its name in a printed fault, where two are told with the object that they stand in
-unfoldable pub label_of : Field → List ℕ
+abbrev pub label_of : Field → List ℕ
 label_of field.Client = codes "client"
 label_of field.ClientId = codes "clientId"
 label_of field.ClientVersion = codes "clientVersion"

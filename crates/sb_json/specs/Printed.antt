@@ -1,6 +1,5 @@
 -- The printed causes of message faults.
 use Rattle.std.specs.Prelude.{ℕ, List, [], ◌++◌, decimal, codes}
-use Rattle.sb_json.specs.declared.fields.Field.{Field}
 use Rattle.sb_json.specs.declared.faults.FieldFault.{FieldFault}
 use Rattle.sb_json.specs.declared.faults.FieldFault.TheVariants as fault
 use Rattle.sb_json.specs.declared.faults.MessageFault.{MessageFault}

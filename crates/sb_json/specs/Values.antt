@@ -1,5 +1,5 @@
 -- What a field of a JSON value is read as, or why it cannot be.
-use Rattle.std.specs.Prelude.{ℕ, ◌+◌, ◌-◌, ◌%◌, ◌==◌, ◌&&◌, ◌||◌, Bool, not, nat_lt, nat_le, if◌then◌else◌, List, [], ◌∷◌, ◌++◌, length, map, slice_index, Option, Some, None, Result, Ok, Err}
+use Rattle.std.specs.Prelude.{ℕ, ◌%◌, ◌==◌, ◌&&◌, ◌||◌, Bool, not, nat_lt, nat_le, if◌then◌else◌, List, [], ◌∷◌, ◌++◌, length, map, slice_index, Option, Some, None, Result, Ok, Err}
 use Rattle.std.specs.Char.{is_ascii_digit}
 use Rattle.std.specs.List.{list_all, list_any}
 use Rattle.std.specs.Str.{is_utf8, chars}
@@ -49,22 +49,35 @@ needed field (Some value) = Ok value
 abbrev pub needed_of : Field → Data → Result Data FieldFault
 needed_of field value = needed field (field_of field value)
 
--- the number that a text of digits stands for: `0`, or digits that do not begin with 0
-abbrev pub numeral : List ℕ → Option ℕ
-numeral text =
-    if list_all is_ascii_digit text && nat_lt 0 (length text) && (length text == 1 || not (slice_index text 0 == 48))
-    then Some (digits_value 10 text) else None
+-- whether a text is `0`, or digits that do not begin with 0
+abbrev pub is_numeral : List ℕ → Bool
+is_numeral text = list_all is_ascii_digit text && nat_lt 0 (length text) && (length text == 1 || not (slice_index text 0 == 48))
 
-abbrev pub within : Field → ℕ → Option ℕ → Result ℕ FieldFault
-within field most None = Err (Number field)
-within field most (Some n) = if nat_le n most then Ok n else Err (Number field)
+-- the number that such a text stands for
+abbrev pub numeral : List ℕ → Option ℕ
+numeral text = if is_numeral text then Some (digits_value 10 text) else None
+
+-- a number that is not above `most`
+abbrev pub at_most : ℕ → Option ℕ → Option ℕ
+at_most most None = None
+at_most most (Some n) = if nat_le n most then Some n else None
+
+abbrev pub or_fault : {A : Type 0} → FieldFault → Option A → Result A FieldFault
+or_fault fault None = Err fault
+or_fault fault (Some a) = Ok a
+
+abbrev pub without_cause : {A E : Type 0} → FieldFault → Result A E → Result A FieldFault
+without_cause fault (Ok a) = Ok a
+without_cause fault (Err cause) = Err fault
+
+-- ---- the readings of one value
 
 -- a whole number from 0 to `most`, as a JSON number without fraction and exponent or as a string
 abbrev pub whole_in : Field → ℕ → Data → Result ℕ FieldFault
 whole_in field most null = Err (WrongKind field)
 whole_in field most (boolean b) = Err (WrongKind field)
-whole_in field most (number n) = within field most (as_u64 n)
-whole_in field most (string s) = within field most (numeral s)
+whole_in field most (number n) = or_fault (Number field) (at_most most (as_u64 n))
+whole_in field most (string s) = or_fault (Number field) (at_most most (numeral s))
 whole_in field most (array ds) = Err (WrongKind field)
 whole_in field most (object ms) = Err (WrongKind field)
 
@@ -86,14 +99,26 @@ items_in field (string s) = Err (WrongKind field)
 items_in field (array ds) = Ok ds
 items_in field (object ms) = Err (WrongKind field)
 
+-- an object, as it stands
+abbrev pub object_in : Field → Data → Result Data FieldFault
+object_in field null = Err (WrongKind field)
+object_in field (boolean b) = Err (WrongKind field)
+object_in field (number n) = Err (WrongKind field)
+object_in field (string s) = Err (WrongKind field)
+object_in field (array ds) = Err (WrongKind field)
+object_in field (object ms) = Ok (object ms)
+
 -- `-` and `_` count as `+` and `/` (RFC 4648, section 5)
 abbrev pub in_standard_alphabet : ℕ → ℕ
 in_standard_alphabet byte = if byte == 45 then 43 else if byte == 95 then 47 else byte
 
+abbrev pub is_padding : ℕ → Bool
+is_padding byte = byte == 61
+
 -- Where a text has no `=` and its length leaves 2 or 3 by four, the missing `=` are added.
 abbrev pub with_padding : List ℕ → List ℕ
 with_padding text =
-    if list_any (λ byte. byte == 61) text then text
+    if list_any is_padding text then text
     else if length text % 4 == 2 then text ++ 61 ∷ 61 ∷ []
     else if length text % 4 == 3 then text ++ 61 ∷ []
     else text
@@ -102,32 +127,35 @@ with_padding text =
 abbrev pub base64_of : List ℕ → Option (List ℕ)
 base64_of text = decoded_of standard (with_padding (map in_standard_alphabet text))
 
-abbrev pub or_fault : {A : Type 0} → FieldFault → Option A → Result A FieldFault
-or_fault fault None = Err fault
-or_fault fault (Some a) = Ok a
+-- the bytes of a string in base64
+abbrev pub bytes_in : Field → Data → Result (List ℕ) FieldFault
+bytes_in field value = string_in field value >>= λ s. or_fault (Base64 field) (base64_of s)
 
-abbrev pub without_cause : {A E : Type 0} → FieldFault → Result A E → Result A FieldFault
-without_cause fault (Ok a) = Ok a
-without_cause fault (Err cause) = Err fault
+-- the duration of a string
+abbrev pub duration_in : Field → Data → Result ℕ FieldFault
+duration_in field value = string_in field value >>= λ s. without_cause (Duration field) (duration_of s)
 
 -- ---- the readings of a field that has to be there
 
 abbrev pub whole_of : Field → ℕ → Data → Result ℕ FieldFault
 whole_of field most value = needed_of field value >>= whole_in field most
 
--- the characters of a text
-abbrev pub text_of : Field → Data → Result (List ℕ) FieldFault
-text_of field value = needed_of field value >>= string_in field >>= λ s. Ok (chars s)
-
 -- the bytes of a text, as they stand
 abbrev pub string_of : Field → Data → Result (List ℕ) FieldFault
 string_of field value = needed_of field value >>= string_in field
 
+-- the characters of a text
+abbrev pub text_of : Field → Data → Result (List ℕ) FieldFault
+text_of field value = string_of field value >>= λ s. Ok (chars s)
+
 abbrev pub items_of : Field → Data → Result Items FieldFault
 items_of field value = needed_of field value >>= items_in field
 
+abbrev pub object_of : Field → Data → Result Data FieldFault
+object_of field value = needed_of field value >>= object_in field
+
 abbrev pub bytes_of : Field → Data → Result (List ℕ) FieldFault
-bytes_of field value = needed_of field value >>= string_in field >>= λ s. or_fault (Base64 field) (base64_of s)
+bytes_of field value = needed_of field value >>= bytes_in field
 
 abbrev pub duration_of_field : Field → Data → Result ℕ FieldFault
-duration_of_field field value = needed_of field value >>= string_in field >>= λ s. without_cause (Duration field) (duration_of s)
+duration_of_field field value = needed_of field value >>= duration_in field

@@ -1,9 +1,12 @@
 ghost use Rattle.std.specs.Prelude.{◌≡◌};
+ghost use Rattle.sb_json.specs.Faults.{fault_in_item};
 ghost use Rattle.sb_json.specs.declared.faults.FieldFault.TheVariants.{OutOfMemory as FieldMemory};
 ghost use Rattle.sb_json.specs.declared.faults.MessageFault.TheVariants.{OutOfMemory as MessageMemory};
 
 use crate::Field;
 use sb_model::OutOfMemory;
+use std::error::Error;
+use std::fmt;
 
 /// Why a field is not read.
 #[derive(Clone, Copy, Debug, PartialEq, Eq, Hash)]
@@ -22,7 +25,7 @@ pub enum FieldFault {
     Size(Field, u64),
     /// 7: it is no duration.
     Duration(Field),
-    /// Memory was refused. It never stands inside another fault.
+    /// Memory was refused. It never stands inside another fault: `MessageFault::of` takes it out.
     OutOfMemory,
 }
 
@@ -38,6 +41,50 @@ pub enum MessageFault {
     /// Memory was refused.
     OutOfMemory,
 }
+
+impl MessageFault {
+    /// The fault of a message that has this fault of a field in this item. Want of memory is the message's
+    /// own.
+    pub fn of(fault: FieldFault, item: u64) -> MessageFault
+        ensures { result ≡ fault_in_item fault item }
+    {
+        match fault {
+            FieldFault::OutOfMemory => MessageFault::OutOfMemory,
+            _ => MessageFault::Field(fault, item),
+        }
+    }
+}
+
+impl fmt::Display for FieldFault {
+    fn fmt<W: fmt::Write>(&self, f: &mut fmt::Formatter<W>) -> fmt::Result {
+        match self {
+            FieldFault::Missing(field) => write!(f, "{} is missing", field.label()),
+            FieldFault::WrongKind(field) => write!(f, "{} is of the wrong kind", field.label()),
+            FieldFault::Number(field) => write!(f, "{} is no number in its range", field.label()),
+            FieldFault::Base64(field) => write!(f, "{} is not base64", field.label()),
+            FieldFault::Name(field) => write!(f, "{} is an unknown name", field.label()),
+            FieldFault::Size(field, size) => write!(f, "{} has {size} bytes", field.label()),
+            FieldFault::Duration(field) => write!(f, "{} is no duration", field.label()),
+            FieldFault::OutOfMemory => f.write_str("out of memory"),
+        }
+    }
+}
+
+impl Error for FieldFault {}
+
+impl fmt::Display for MessageFault {
+    fn fmt<W: fmt::Write>(&self, f: &mut fmt::Formatter<W>) -> fmt::Result {
+        match self {
+            MessageFault::NotJson => f.write_str("not JSON"),
+            MessageFault::Field(fault, 0) => write!(f, "{fault}"),
+            MessageFault::Field(fault, item) => write!(f, "{fault}, in item {item}"),
+            MessageFault::TooManyItems(count) => write!(f, "{count} items are too many"),
+            MessageFault::OutOfMemory => f.write_str("out of memory"),
+        }
+    }
+}
+
+impl Error for MessageFault {}
 
 impl From<OutOfMemory> for FieldFault {
     ghost from_gives = { λ _ fault. fault ≡ FieldMemory };

@@ -4,10 +4,14 @@
 
 pub use faults::{FieldFault, MessageFault};
 pub use fields::Field;
+pub use kinds::{bytes_item, duration_item, items_item, object_item, string_item, whole_item};
 pub use printing::push_message_cause;
-pub use values::{bytes, duration, field, items, read_json, string, text, whole};
+pub use values::{bytes, duration, field, items, object, read_json, string, text, whole};
 
+mod encoded;
 mod faults;
 mod fields;
+mod kinds;
+mod numerals;
 mod printing;
 mod values;
