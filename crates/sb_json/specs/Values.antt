@@ -22,11 +22,7 @@ value_of text = if is_utf8 text then read text else None
 -- A field that is null counts as absent.
 abbrev pub if_there : Data → Option Data
 if_there null = None
-if_there (boolean b) = Some (boolean b)
-if_there (number n) = Some (number n)
-if_there (string s) = Some (string s)
-if_there (array ds) = Some (array ds)
-if_there (object ms) = Some (object ms)
+if_there value = Some value
 
 abbrev pub there : Option Data → Option Data
 there None = None
@@ -74,39 +70,24 @@ without_cause fault (Err cause) = Err fault
 
 -- a whole number from 0 to `most`, as a JSON number without fraction and exponent or as a string
 abbrev pub whole_in : Field → ℕ → Data → Result ℕ FieldFault
-whole_in field most null = Err (WrongKind field)
-whole_in field most (boolean b) = Err (WrongKind field)
 whole_in field most (number n) = or_fault (Number field) (at_most most (as_u64 n))
 whole_in field most (string s) = or_fault (Number field) (at_most most (numeral s))
-whole_in field most (array ds) = Err (WrongKind field)
-whole_in field most (object ms) = Err (WrongKind field)
+whole_in field most value = Err (WrongKind field)
 
 -- the bytes of a string
 abbrev pub string_in : Field → Data → Result (List ℕ) FieldFault
-string_in field null = Err (WrongKind field)
-string_in field (boolean b) = Err (WrongKind field)
-string_in field (number n) = Err (WrongKind field)
 string_in field (string s) = Ok s
-string_in field (array ds) = Err (WrongKind field)
-string_in field (object ms) = Err (WrongKind field)
+string_in field value = Err (WrongKind field)
 
 -- the items of a list
 abbrev pub items_in : Field → Data → Result Items FieldFault
-items_in field null = Err (WrongKind field)
-items_in field (boolean b) = Err (WrongKind field)
-items_in field (number n) = Err (WrongKind field)
-items_in field (string s) = Err (WrongKind field)
 items_in field (array ds) = Ok ds
-items_in field (object ms) = Err (WrongKind field)
+items_in field value = Err (WrongKind field)
 
 -- an object, as it stands
 abbrev pub object_in : Field → Data → Result Data FieldFault
-object_in field null = Err (WrongKind field)
-object_in field (boolean b) = Err (WrongKind field)
-object_in field (number n) = Err (WrongKind field)
-object_in field (string s) = Err (WrongKind field)
-object_in field (array ds) = Err (WrongKind field)
 object_in field (object ms) = Ok (object ms)
+object_in field value = Err (WrongKind field)
 
 -- `-` and `_` count as `+` and `/` (RFC 4648, section 5)
 abbrev pub in_standard_alphabet : ℕ → ℕ

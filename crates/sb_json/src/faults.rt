@@ -58,13 +58,13 @@ impl MessageFault {
 impl fmt::Display for FieldFault {
     fn fmt<W: fmt::Write>(&self, f: &mut fmt::Formatter<W>) -> fmt::Result {
         match self {
-            FieldFault::Missing(field) => write!(f, "{} is missing", field.label()),
-            FieldFault::WrongKind(field) => write!(f, "{} is of the wrong kind", field.label()),
-            FieldFault::Number(field) => write!(f, "{} is no number in its range", field.label()),
-            FieldFault::Base64(field) => write!(f, "{} is not base64", field.label()),
-            FieldFault::Name(field) => write!(f, "{} is an unknown name", field.label()),
-            FieldFault::Size(field, size) => write!(f, "{} has {size} bytes", field.label()),
-            FieldFault::Duration(field) => write!(f, "{} is no duration", field.label()),
+            FieldFault::Missing(field) => write!(f, "{field} is missing"),
+            FieldFault::WrongKind(field) => write!(f, "{field} is of the wrong kind"),
+            FieldFault::Number(field) => write!(f, "{field} is no number in its range"),
+            FieldFault::Base64(field) => write!(f, "{field} is not base64"),
+            FieldFault::Name(field) => write!(f, "{field} is an unknown name"),
+            FieldFault::Size(field, size) => write!(f, "{field} has {size} bytes"),
+            FieldFault::Duration(field) => write!(f, "{field} is no duration"),
             FieldFault::OutOfMemory => f.write_str("out of memory"),
         }
     }

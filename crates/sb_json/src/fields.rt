@@ -1,6 +1,8 @@
 ghost use Rattle.std.specs.Prelude.{◌≡◌};
 ghost use Rattle.sb_json.specs.Fields.{key_of, label_of};
 
+use std::fmt;
+
 /// A member of an object of a message, or the top value of one.
 #[derive(Clone, Copy, Debug, PartialEq, Eq, Hash)]
 pub enum Field {
@@ -124,5 +126,12 @@ impl Field {
             Field::ThreatHash => "threat.hash",
             _ => self.key(),
         }
+    }
+}
+
+/// As its label.
+impl fmt::Display for Field {
+    fn fmt<W: fmt::Write>(&self, f: &mut fmt::Formatter<W>) -> fmt::Result {
+        f.write_str(self.label())
     }
 }
