@@ -1,26 +1,13 @@
 -- Standard padded base64 is in the standard alphabet and padded.
-use Rattle.std.proofs.Common.{◌≡◌, ℕ, ◌+◌, ◌%◌, List, [], ◌∷◌, length, map, true, false, cond, refl, sym, ap, ◌∙◌, arith, rules, zero, suc, get_or, Some, None, Ok, Err}
+use Rattle.std.proofs.Common.{◌≡◌, ℕ, ◌+◌, ◌%◌, List, [], ◌∷◌, length, map, true, false, cond, refl, sym, ap, ◌∙◌, arith, zero, suc, get_or}
 use Rattle.std.specs.Prelude.{replicate, slice_index}
 use Rattle.std.proofs.Math.ListN.{get_or-map}
 use Rattle.std.proofs.lemmas.List.{map-append, length-append, length-replicate}
-use Rattle.std.specs.Result.{result_ok}
 use Rattle.std.specs.List.{list_any}
 use Rattle.base64.specs.Engines.{standard}
-use Rattle.base64.specs.GeneralPurpose.{decode_of, decoded_of, encode_of, engine_symbols, IsStrict}
+use Rattle.base64.specs.GeneralPurpose.{decoded_of, encode_of, engine_symbols}
 use Rattle.base64.specs.Rfc4648.{encode_symbols, padding_len}
-use Rattle.base64.specs.declared.decode.DecodeError.{DecodeError}
 use Rattle.sb_json.specs.Values.{in_standard_alphabet, is_padding, with_padding, base64_of}
-
-pub decoded_some : (text bytes : List ℕ) → decode_of standard text ≡ Ok bytes → Some bytes ≡ decoded_of standard text
-unfolding decoded_of
-decoded_some text bytes h = sym (ap result_ok h)
-
-pub decoded_none : (text : List ℕ) (e : DecodeError) → decode_of standard text ≡ Err e → None ≡ decoded_of standard text
-unfolding decoded_of
-decoded_none text e h = sym (ap result_ok h)
-
-pub standard_is_strict : IsStrict standard
-standard_is_strict = search rules
 
 -- a letter of the standard alphabet stays
 letter : (t : List ℕ) → map in_standard_alphabet t ≡ t → (k : ℕ) → in_standard_alphabet (slice_index t k) ≡ slice_index t k

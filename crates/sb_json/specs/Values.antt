@@ -4,7 +4,7 @@ use Rattle.std.specs.Char.{is_ascii_digit}
 use Rattle.std.specs.List.{list_all, list_any}
 use Rattle.std.specs.Str.{is_utf8, chars}
 use Rattle.std.specs.Str.Parse.{digits_value}
-use Rattle.serde_json.specs.Data.{Data, null, boolean, number, string, array, object, Items}
+use Rattle.serde_json.specs.Data.{Data, null, number, string, array, object, Items}
 use Rattle.serde_json.specs.Find.{get, as_u64}
 use Rattle.serde_json.specs.Read.{read}
 use Rattle.base64.specs.Engines.{standard}

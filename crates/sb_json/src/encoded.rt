@@ -9,6 +9,7 @@ use sb_model::{Bytes, OutOfMemory};
 use std::alloc::Global;
 
 /// The bytes that a text is the standard padded base64 of.
+#[tactic(auto, unfolding(base64::specs::GeneralPurpose::decoded_of))]
 fn decoded(alloc: Global, text: &[u8]) -> Result<Option<Bytes>, OutOfMemory>
     ensures bytes { IfOk result (λ bytes. bytes ≡ decoded_of standard text.now) }
     ensures exact { IfOk result (λ bytes. IfSome bytes (λ b. text.now ≡ encode_of standard b)) }
