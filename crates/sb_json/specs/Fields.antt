@@ -1,0 +1,61 @@
+-- The names of fields.
+use Rattle.std.specs.Prelude.{ℕ, List, codes}
+use Rattle.sb_json.specs.declared.fields.Field.{Field}
+use Rattle.sb_json.specs.declared.fields.Field.TheVariants as field
+
+-- the name of a field in JSON; the top value is told of as a message
+abbrev pub key_of : Field → List ℕ
+key_of field.Client = codes "client"
+key_of field.ClientId = codes "clientId"
+key_of field.ClientVersion = codes "clientVersion"
+key_of field.ListUpdateRequests = codes "listUpdateRequests"
+key_of field.ThreatType = codes "threatType"
+key_of field.PlatformType = codes "platformType"
+key_of field.ThreatEntryType = codes "threatEntryType"
+key_of field.State = codes "state"
+key_of field.Constraints = codes "constraints"
+key_of field.MaxUpdateEntries = codes "maxUpdateEntries"
+key_of field.MaxDatabaseEntries = codes "maxDatabaseEntries"
+key_of field.SupportedCompressions = codes "supportedCompressions"
+key_of field.ListUpdateResponses = codes "listUpdateResponses"
+key_of field.ResponseType = codes "responseType"
+key_of field.Additions = codes "additions"
+key_of field.Removals = codes "removals"
+key_of field.CompressionType = codes "compressionType"
+key_of field.RawHashes = codes "rawHashes"
+key_of field.PrefixSize = codes "prefixSize"
+key_of field.RawHashBytes = codes "rawHashes"
+key_of field.RawIndices = codes "rawIndices"
+key_of field.Indices = codes "indices"
+key_of field.RiceHashes = codes "riceHashes"
+key_of field.RiceIndices = codes "riceIndices"
+key_of field.FirstValue = codes "firstValue"
+key_of field.RiceParameter = codes "riceParameter"
+key_of field.NumEntries = codes "numEntries"
+key_of field.EncodedData = codes "encodedData"
+key_of field.NewClientState = codes "newClientState"
+key_of field.BaseState = codes "baseState"
+key_of field.Checksum = codes "checksum"
+key_of field.Sha256 = codes "sha256"
+key_of field.MinimumWaitDuration = codes "minimumWaitDuration"
+key_of field.ClientStates = codes "clientStates"
+key_of field.ThreatInfo = codes "threatInfo"
+key_of field.ThreatTypes = codes "threatTypes"
+key_of field.PlatformTypes = codes "platformTypes"
+key_of field.ThreatEntryTypes = codes "threatEntryTypes"
+key_of field.ThreatEntries = codes "threatEntries"
+key_of field.Hash = codes "hash"
+key_of field.Matches = codes "matches"
+key_of field.Threat = codes "threat"
+key_of field.ThreatHash = codes "hash"
+key_of field.CacheDuration = codes "cacheDuration"
+key_of field.NegativeCacheDuration = codes "negativeCacheDuration"
+key_of field.Url = codes "url"
+key_of field.ThreatLists = codes "threatLists"
+key_of field.Root = codes "message"
+
+-- its name in a printed fault, where two are told with the object that they stand in
+abbrev pub label_of : Field → List ℕ
+label_of field.RawHashBytes = codes "rawHashes.rawHashes"
+label_of field.ThreatHash = codes "threat.hash"
+label_of named = key_of named

@@ -1,0 +1,68 @@
+ghost use Rattle.std.specs.Prelude.{◌≡◌, ◌++◌, decimal, codes, OnOk};
+ghost use Rattle.sb_json.specs.Fields.{label_of};
+ghost use Rattle.sb_json.specs.Printed.{field_fault_text, cause_text};
+
+use crate::{Field, FieldFault, MessageFault};
+use itoa::Buffer;
+use sb_model::{Bytes, OutOfMemory};
+
+fn push_number(text: &mut Bytes, number: u64) -> Result<(), OutOfMemory>
+    ensures { OnOk result (text.new ≡ text.old ++ decimal number) }
+{
+    let mut buffer = Buffer::new();
+    text.append(buffer.format(number).as_bytes())
+}
+
+fn push_label(text: &mut Bytes, field: Field) -> Result<(), OutOfMemory>
+    ensures { OnOk result (text.new ≡ text.old ++ label_of field) }
+{
+    text.append(field.label().as_bytes())
+}
+
+/// Appends what is wrong, and the field that it is wrong with.
+fn push_named(text: &mut Bytes, word: &str, field: Field) -> Result<(), OutOfMemory>
+    ensures { OnOk result (text.new ≡ text.old ++ (word.now ++ label_of field)) }
+{
+    text.append(word.as_bytes())?;
+    push_label(text, field)
+}
+
+fn push_field_fault(text: &mut Bytes, fault: FieldFault) -> Result<(), OutOfMemory>
+    ensures { OnOk result (text.new ≡ text.old ++ field_fault_text fault) }
+{
+    match fault {
+        FieldFault::Missing(field) => push_named(text, "missing ", field),
+        FieldFault::WrongKind(field) => push_named(text, "wrong-kind ", field),
+        FieldFault::Number(field) => push_named(text, "number ", field),
+        FieldFault::Base64(field) => push_named(text, "base64 ", field),
+        FieldFault::Name(field) => push_named(text, "name ", field),
+        FieldFault::Size(field, size) => {
+            text.append(b"size ")?;
+            push_number(text, size)?;
+            push_named(text, " ", field)
+        }
+        FieldFault::Duration(field) => push_named(text, "duration ", field),
+        FieldFault::OutOfMemory => Ok(()),
+    }
+}
+
+/// Appends the printed cause of a fault, as `field missing threatType 2`. Want of memory, which is none of
+/// a message's causes, prints nothing.
+pub fn push_message_cause(text: &mut Bytes, fault: &MessageFault) -> Result<(), OutOfMemory>
+    ensures { OnOk result (text.new ≡ text.old ++ cause_text fault.now) }
+{
+    match fault {
+        MessageFault::NotJson => text.append(b"not-json"),
+        MessageFault::Field(fault, item) => {
+            text.append(b"field ")?;
+            push_field_fault(text, *fault)?;
+            text.push(b' ')?;
+            push_number(text, *item)
+        }
+        MessageFault::TooManyItems(count) => {
+            text.append(b"too-many-items ")?;
+            push_number(text, *count)
+        }
+        MessageFault::OutOfMemory => Ok(()),
+    }
+}
