@@ -1,1 +1,5 @@
+pub mod Compressions
 pub mod Lists
+pub mod NoFault
+pub mod OneReading
+pub mod Texts

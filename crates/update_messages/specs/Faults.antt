@@ -46,7 +46,7 @@ faults_of_rice holder =
 abbrev pub faults_of_raw_hashes : Result Data FieldFault → List (Option FieldFault)
 faults_of_raw_hashes holder =
     fault_of (holder >>= response.prefix_size_row)
-    ∷ fault_of (holder >>= λ hashes. response.prefix_size_row hashes >>= λ size. response.raw_bytes_row size hashes) ∷ []
+    ∷ fault_of (holder >>= response.prefix_size_row >>= λ size. holder >>= response.raw_bytes_row size) ∷ []
 
 -- what is looked at in a set goes by its compression
 abbrev pub faults_of_hashes : Data → Result Compression FieldFault → List (Option FieldFault)
@@ -103,6 +103,9 @@ fault_of_asked value =
     ∷ fault_of (request.constraints_row value >>= request.max_database_row)
     ∷ fault_of_list fault_of_name (request.constraints_row value >>= request.compressions_row) ∷ [])
 
+abbrev pub faults_of_client : Result Data FieldFault → List (Option FieldFault)
+faults_of_client holder = fault_of (holder >>= request.client_id_row) ∷ fault_of (holder >>= request.client_version_row) ∷ []
+
 -- ---- the messages
 
 -- A fault in the item with a number. Items count from 1, and 0 is outside them.
@@ -132,8 +135,7 @@ fault_of_updates (Err fault) = Some (fault_in_item fault 0)
 abbrev pub fault_of_request : Data → Option MessageFault
 fault_of_request value =
     first (in_item 0 (fault_of (request.root_row value))
-    ∷ in_item 0 (fault_of (request.client_row value >>= request.client_id_row))
-    ∷ in_item 0 (fault_of (request.client_row value >>= request.client_version_row))
+    ∷ in_item 0 (first (faults_of_client (request.client_row value)))
     ∷ fault_of_requests (request.requests_row value) ∷ [])
 
 abbrev pub fault_of_response : Data → Option MessageFault

@@ -1,5 +1,5 @@
 -- Which message a JSON value is: each field of the message is what its row is read as.
-use Rattle.std.specs.Prelude.{◌≡◌, ℕ, ◌≤◌, List, [], ◌∷◌, length, Option, Some, Result, Ok, Err, codes}
+use Rattle.std.specs.Prelude.{◌≡◌, ℕ, ◌≤◌, Bool, List, [], ◌∷◌, length, Option, Some, Result, Ok, Err, codes}
 use Rattle.serde_json.specs.Data.{Data, Items, no_items, item}
 use Rattle.sb_json.specs.Values.{◌>>=◌, value_of}
 use Rattle.sb_json.specs.declared.faults.FieldFault.{FieldFault}
@@ -10,6 +10,7 @@ use Rattle.update_messages.specs.declared.sets.Additions.TheVariants as added
 use Rattle.update_messages.specs.declared.sets.Removals.{Removals}
 use Rattle.update_messages.specs.declared.sets.Removals.TheVariants as removed
 use Rattle.update_messages.specs.declared.response.FetchResponse.{FetchResponse}
+use Rattle.update_messages.specs.declared.client.ClientInfo.{ClientInfo}
 use Rattle.update_messages.specs.Messages.{AskedList, Request, UpdatedList, most_items}
 use Rattle.update_messages.specs.Rows.{threat_row, platform_row, entry_row}
 use Rattle.update_messages.specs.RequestRows as request
@@ -32,6 +33,13 @@ ReadsList Reads (Err fault) values = ⊥
 abbrev pub ReadsName : Data → List ℕ → Type 0
 ReadsName value name = request.compression_name_row value ≡ Ok name
 
+-- Which compressions a list of names has. Names of others are skipped.
+pub record TakesCompressions (items : Result Items FieldFault) (raw rice : Bool) : Type 0 where
+  pub names : List (List ℕ)
+  pub names_read : ReadsList ReadsName items names
+  pub raw_taken : raw ≡ request.is_among names (codes "RAW")
+  pub rice_taken : rice ≡ request.is_among names (codes "RICE")
+
 pub record ReadsAskedList (value : Data) (asked : AskedList) : Type 0 where
   pub object : request.request_row value ≡ Ok value
   pub threat : threat_row value ≡ Ok asked.name.threat
@@ -40,15 +48,16 @@ pub record ReadsAskedList (value : Data) (asked : AskedList) : Type 0 where
   pub state : request.state_row value ≡ Ok asked.state
   pub max_update : (request.constraints_row value >>= request.max_update_row) ≡ Ok asked.max_update
   pub max_database : (request.constraints_row value >>= request.max_database_row) ≡ Ok asked.max_database
-  pub compressions : List (List ℕ)
-  pub compressions_read : ReadsList ReadsName (request.constraints_row value >>= request.compressions_row) compressions
-  pub raw : asked.raw ≡ request.is_among compressions (codes "RAW")
-  pub rice : asked.rice ≡ request.is_among compressions (codes "RICE")
+  pub compressions : TakesCompressions (request.constraints_row value >>= request.compressions_row) asked.raw asked.rice
+
+-- who asks
+pub record ReadsClient (holder : Result Data FieldFault) (client : ClientInfo) : Type 0 where
+  pub id : (holder >>= request.client_id_row) ≡ Ok client.id
+  pub version : (holder >>= request.client_version_row) ≡ Ok client.version
 
 pub record ReadsRequest (value : Data) (message : Request) : Type 0 where
   pub object : request.root_row value ≡ Ok value
-  pub client_id : (request.client_row value >>= request.client_id_row) ≡ Ok message.client.id
-  pub client_version : (request.client_row value >>= request.client_version_row) ≡ Ok message.client.version
+  pub client : ReadsClient (request.client_row value) message.client
   pub few : length message.items ≤ most_items
   pub items : ReadsList ReadsAskedList (request.requests_row value) message.items
 

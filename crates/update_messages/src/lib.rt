@@ -7,12 +7,14 @@
 #![tactic(auto)]
 
 pub use client::ClientInfo;
+pub use reading_request::read_request;
 pub use reading_response::read_response;
 pub use request::{FetchRequest, ListRequest};
 pub use response::{FetchResponse, ListUpdate};
 pub use sets::{Additions, Compression, Removals};
 
 mod client;
+mod reading_request;
 mod reading_response;
 mod reading_sets;
 mod request;

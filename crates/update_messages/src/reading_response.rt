@@ -1,9 +1,10 @@
-ghost use Rattle.std.specs.Prelude.{◌≡◌, ◌⊎◌, Ok, Err, Some, None, IfOk, IfErr};
+ghost use Rattle.std.specs.Prelude.{◌≡◌, ◌⊎◌, Ok, Err, Some, None, IfOk, IfErr, MatchResult};
 ghost use Rattle.serde_json.specs.View.{view, items_view};
 ghost use Rattle.sb_json.specs.Values.{value_of};
 ghost use Rattle.update_messages.specs.ResponseRows as row;
 ghost use Rattle.update_messages.specs.Reading.{EachReads, ReadsUpdatedList, ReadsResponse, IsTextOf};
 ghost use Rattle.update_messages.specs.Faults.{first_from, fault_of_update, fault_of_response, fault_of_text};
+ghost use Rattle.update_messages.specs.declared.response.FetchResponse.{FetchResponse};
 
 use crate::reading_sets::{additions, removals};
 use crate::rows::{check_object, entry, items_or_none, platform, state_or_empty, threat};
@@ -131,6 +132,16 @@ fn response_of(alloc: Global, value: &Value) -> Result<FetchResponse, MessageFau
     }
 }
 
+/// The response that a text is.
+fn response_in(alloc: Global, text: &[u8]) -> Result<FetchResponse, MessageFault>
+    ensures ok { IfOk result (λ message. IsTextOf ReadsResponse text.now message) }
+    ensures err { IfErr result (λ fault. (fault ≡ MessageFault.OutOfMemory)
+        ⊎ (fault_of_text fault_of_response (value_of text.now) ≡ Some fault)) }
+{
+    let value = read_json(alloc, text)?;
+    response_of(alloc, &value)
+}
+
 /// Reads the answer to a fetch request.
 ///
 /// A text that is no response is refused by its first fault: `NotJson`, and then the fields in the order of
@@ -139,7 +150,8 @@ pub fn read_response(alloc: Global, text: &[u8]) -> Result<FetchResponse, Messag
     ensures ok { IfOk result (λ message. IsTextOf ReadsResponse text.now message) }
     ensures err { IfErr result (λ fault. (fault ≡ MessageFault.OutOfMemory)
         ⊎ (fault_of_text fault_of_response (value_of text.now) ≡ Some fault)) }
+    ensures only { (message : FetchResponse) → IsTextOf ReadsResponse text.now message
+        → MatchResult result (λ found. found ≡ message) (λ fault. fault ≡ MessageFault.OutOfMemory) }
 {
-    let value = read_json(alloc, text)?;
-    response_of(alloc, &value)
+    response_in(alloc, text)
 }
