@@ -1,4 +1,5 @@
 pub mod Compressions
+pub mod Existence
 pub mod Lists
 pub mod NoFault
 pub mod OneReading

@@ -92,7 +92,7 @@ asked_clean d a h =
     ∙ passes _ _ _ h.max_update ∙ passes _ _ _ h.max_database
     ∙ passes_by _ _ (list_clean ReadsName fault_of_name name_clean _ h.compressions.names h.compressions.names_read)
 
-count_of_each : {A : Type 0} (Reads : Data → A → Type 0) (ds : Items) (xs : List A) → EachReads Reads ds xs → item_count ds ≡ length xs
+pub count_of_each : {A : Type 0} (Reads : Data → A → Type 0) (ds : Items) (xs : List A) → EachReads Reads ds xs → item_count ds ≡ length xs
 count_of_each Reads no_items [] h = refl
 count_of_each Reads no_items (x ∷ xs) h = absurd h
 count_of_each Reads (item d ds) [] h = absurd h

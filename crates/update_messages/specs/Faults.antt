@@ -62,21 +62,27 @@ faults_of_indices set (Ok compression.Raw) = fault_of_list fault_of_index (respo
 faults_of_indices set (Ok compression.Rice) = faults_of_rice (response.rice_indices_row set)
 faults_of_indices set (Err fault) = []
 
-abbrev pub fault_of_addition : Data → Option FieldFault
-fault_of_addition set =
-    first (fault_of (response.addition_row set)
+abbrev pub faults_of_addition : Data → List (Option FieldFault)
+faults_of_addition set =
+    fault_of (response.addition_row set)
     ∷ fault_of (response.compression_row set)
-    ∷ faults_of_hashes set (response.compression_row set))
+    ∷ faults_of_hashes set (response.compression_row set)
+
+abbrev pub fault_of_addition : Data → Option FieldFault
+fault_of_addition set = first (faults_of_addition set)
+
+abbrev pub faults_of_removal : Data → List (Option FieldFault)
+faults_of_removal set =
+    fault_of (response.removal_row set)
+    ∷ fault_of (response.compression_row set)
+    ∷ faults_of_indices set (response.compression_row set)
 
 abbrev pub fault_of_removal : Data → Option FieldFault
-fault_of_removal set =
-    first (fault_of (response.removal_row set)
-    ∷ fault_of (response.compression_row set)
-    ∷ faults_of_indices set (response.compression_row set))
+fault_of_removal set = first (faults_of_removal set)
 
-abbrev pub fault_of_update : Data → Option FieldFault
-fault_of_update value =
-    first (fault_of (response.update_row value)
+abbrev pub faults_of_update : Data → List (Option FieldFault)
+faults_of_update value =
+    fault_of (response.update_row value)
     ∷ fault_of (threat_row value)
     ∷ fault_of (platform_row value)
     ∷ fault_of (entry_row value)
@@ -85,23 +91,29 @@ fault_of_update value =
     ∷ fault_of_list fault_of_removal (response.removals_row value)
     ∷ fault_of (response.new_state_row value)
     ∷ fault_of (response.base_state_row value)
-    ∷ fault_of (response.digest_row value) ∷ [])
+    ∷ fault_of (response.digest_row value) ∷ []
+
+abbrev pub fault_of_update : Data → Option FieldFault
+fault_of_update value = first (faults_of_update value)
 
 -- ---- the request
 
 abbrev pub fault_of_name : Data → Option FieldFault
 fault_of_name value = fault_of (request.compression_name_row value)
 
-abbrev pub fault_of_asked : Data → Option FieldFault
-fault_of_asked value =
-    first (fault_of (request.request_row value)
+abbrev pub faults_of_asked : Data → List (Option FieldFault)
+faults_of_asked value =
+    fault_of (request.request_row value)
     ∷ fault_of (threat_row value)
     ∷ fault_of (platform_row value)
     ∷ fault_of (entry_row value)
     ∷ fault_of (request.state_row value)
     ∷ fault_of (request.constraints_row value >>= request.max_update_row)
     ∷ fault_of (request.constraints_row value >>= request.max_database_row)
-    ∷ fault_of_list fault_of_name (request.constraints_row value >>= request.compressions_row) ∷ [])
+    ∷ fault_of_list fault_of_name (request.constraints_row value >>= request.compressions_row) ∷ []
+
+abbrev pub fault_of_asked : Data → Option FieldFault
+fault_of_asked value = first (faults_of_asked value)
 
 abbrev pub faults_of_client : Result Data FieldFault → List (Option FieldFault)
 faults_of_client holder = fault_of (holder >>= request.client_id_row) ∷ fault_of (holder >>= request.client_version_row) ∷ []
@@ -132,17 +144,23 @@ abbrev pub fault_of_updates : Result Items FieldFault → Option MessageFault
 fault_of_updates (Ok items) = first_from fault_of_update 1 items
 fault_of_updates (Err fault) = Some (fault_in_item fault 0)
 
-abbrev pub fault_of_request : Data → Option MessageFault
-fault_of_request value =
-    first (in_item 0 (fault_of (request.root_row value))
+abbrev pub faults_of_request : Data → List (Option MessageFault)
+faults_of_request value =
+    in_item 0 (fault_of (request.root_row value))
     ∷ in_item 0 (first (faults_of_client (request.client_row value)))
-    ∷ fault_of_requests (request.requests_row value) ∷ [])
+    ∷ fault_of_requests (request.requests_row value) ∷ []
+
+abbrev pub fault_of_request : Data → Option MessageFault
+fault_of_request value = first (faults_of_request value)
+
+abbrev pub faults_of_response : Data → List (Option MessageFault)
+faults_of_response value =
+    in_item 0 (fault_of (request.root_row value))
+    ∷ fault_of_updates (response.updates_row value)
+    ∷ in_item 0 (fault_of (response.wait_row value)) ∷ []
 
 abbrev pub fault_of_response : Data → Option MessageFault
-fault_of_response value =
-    first (in_item 0 (fault_of (request.root_row value))
-    ∷ fault_of_updates (response.updates_row value)
-    ∷ in_item 0 (fault_of (response.wait_row value)) ∷ [])
+fault_of_response value = first (faults_of_response value)
 
 -- the first fault of a text: first of all that it is not JSON
 abbrev pub fault_of_text : (Data → Option MessageFault) → Option Data → Option MessageFault

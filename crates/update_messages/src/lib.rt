@@ -7,6 +7,7 @@
 #![tactic(auto)]
 
 pub use client::ClientInfo;
+pub use laws::{values_read_one_way, values_read_or_have_a_fault};
 pub use reading_request::read_request;
 pub use reading_response::read_response;
 pub use request::{FetchRequest, ListRequest};
@@ -14,6 +15,7 @@ pub use response::{FetchResponse, ListUpdate};
 pub use sets::{Additions, Compression, Removals};
 
 mod client;
+mod laws;
 mod reading_request;
 mod reading_response;
 mod reading_sets;
