@@ -1,0 +1,168 @@
+-- The first fault of a JSON value that is no message: the faults of its rows, in the order in which they are looked at.
+use Rattle.std.specs.Prelude.{ℕ, ◌+◌, nat_le, if◌then◌else◌, List, [], ◌∷◌, ◌++◌, Option, Some, None, Result, Ok, Err}
+use Rattle.serde_json.specs.Data.{Data, Items, no_items, item}
+use Rattle.sb_json.specs.Values.{◌>>=◌}
+use Rattle.sb_json.specs.Faults.{fault_in_item}
+use Rattle.sb_json.specs.declared.faults.FieldFault.{FieldFault}
+use Rattle.sb_json.specs.declared.faults.MessageFault.{MessageFault}
+use Rattle.sb_json.specs.declared.faults.MessageFault.TheVariants.{NotJson, TooManyItems}
+use Rattle.update_messages.specs.declared.sets.Compression.{Compression}
+use Rattle.update_messages.specs.declared.sets.Compression.TheVariants as compression
+use Rattle.update_messages.specs.Messages.{most_items}
+use Rattle.update_messages.specs.Rows.{threat_row, platform_row, entry_row}
+use Rattle.update_messages.specs.RequestRows as request
+use Rattle.update_messages.specs.ResponseRows as response
+
+-- the fault of a row, where it has one
+abbrev pub fault_of : {A : Type 0} → Result A FieldFault → Option FieldFault
+fault_of (Ok a) = None
+fault_of (Err fault) = Some fault
+
+-- the first that is there
+abbrev pub first : {F : Type 0} → List (Option F) → Option F
+first [] = None
+first (None ∷ more) = first more
+first (Some fault ∷ more) = Some fault
+
+-- the first fault of the items
+abbrev pub first_of_items : (Data → Option FieldFault) → Items → Option FieldFault
+first_of_items fault no_items = None
+first_of_items fault (item d ds) = first (fault d ∷ first_of_items fault ds ∷ [])
+
+-- the fault of a list, or the first of its items
+abbrev pub fault_of_list : (Data → Option FieldFault) → Result Items FieldFault → Option FieldFault
+fault_of_list fault (Ok items) = first_of_items fault items
+fault_of_list fault (Err f) = Some f
+
+-- ---- the response
+
+abbrev pub faults_of_rice : Result Data FieldFault → List (Option FieldFault)
+faults_of_rice holder =
+    fault_of (holder >>= response.first_value_row)
+    ∷ fault_of (holder >>= response.rice_parameter_row)
+    ∷ fault_of (holder >>= response.entry_count_row)
+    ∷ fault_of (holder >>= response.encoded_row) ∷ []
+
+abbrev pub faults_of_raw_hashes : Result Data FieldFault → List (Option FieldFault)
+faults_of_raw_hashes holder =
+    fault_of (holder >>= response.prefix_size_row)
+    ∷ fault_of (holder >>= response.prefix_size_row >>= λ size. holder >>= response.raw_bytes_row size) ∷ []
+
+-- what is looked at in a set goes by its compression
+abbrev pub faults_of_hashes : Data → Result Compression FieldFault → List (Option FieldFault)
+faults_of_hashes set (Ok compression.Raw) = faults_of_raw_hashes (response.raw_hashes_row set)
+faults_of_hashes set (Ok compression.Rice) = faults_of_rice (response.rice_hashes_row set)
+faults_of_hashes set (Err fault) = []
+
+abbrev pub fault_of_index : Data → Option FieldFault
+fault_of_index value = fault_of (response.index_row value)
+
+abbrev pub faults_of_indices : Data → Result Compression FieldFault → List (Option FieldFault)
+faults_of_indices set (Ok compression.Raw) = fault_of_list fault_of_index (response.raw_indices_row set >>= response.indices_row) ∷ []
+faults_of_indices set (Ok compression.Rice) = faults_of_rice (response.rice_indices_row set)
+faults_of_indices set (Err fault) = []
+
+abbrev pub faults_of_addition : Data → List (Option FieldFault)
+faults_of_addition set =
+    fault_of (response.addition_row set)
+    ∷ fault_of (response.compression_row set)
+    ∷ faults_of_hashes set (response.compression_row set)
+
+abbrev pub fault_of_addition : Data → Option FieldFault
+fault_of_addition set = first (faults_of_addition set)
+
+abbrev pub faults_of_removal : Data → List (Option FieldFault)
+faults_of_removal set =
+    fault_of (response.removal_row set)
+    ∷ fault_of (response.compression_row set)
+    ∷ faults_of_indices set (response.compression_row set)
+
+abbrev pub fault_of_removal : Data → Option FieldFault
+fault_of_removal set = first (faults_of_removal set)
+
+abbrev pub faults_of_update : Data → List (Option FieldFault)
+faults_of_update value =
+    fault_of (response.update_row value)
+    ∷ fault_of (threat_row value)
+    ∷ fault_of (platform_row value)
+    ∷ fault_of (entry_row value)
+    ∷ fault_of (response.response_type_row value)
+    ∷ fault_of_list fault_of_addition (response.additions_row value)
+    ∷ fault_of_list fault_of_removal (response.removals_row value)
+    ∷ fault_of (response.new_state_row value)
+    ∷ fault_of (response.base_state_row value)
+    ∷ fault_of (response.digest_row value) ∷ []
+
+abbrev pub fault_of_update : Data → Option FieldFault
+fault_of_update value = first (faults_of_update value)
+
+-- ---- the request
+
+abbrev pub fault_of_name : Data → Option FieldFault
+fault_of_name value = fault_of (request.compression_name_row value)
+
+abbrev pub faults_of_asked : Data → List (Option FieldFault)
+faults_of_asked value =
+    fault_of (request.request_row value)
+    ∷ fault_of (threat_row value)
+    ∷ fault_of (platform_row value)
+    ∷ fault_of (entry_row value)
+    ∷ fault_of (request.state_row value)
+    ∷ fault_of (request.constraints_row value >>= request.max_update_row)
+    ∷ fault_of (request.constraints_row value >>= request.max_database_row)
+    ∷ fault_of_list fault_of_name (request.constraints_row value >>= request.compressions_row) ∷ []
+
+abbrev pub fault_of_asked : Data → Option FieldFault
+fault_of_asked value = first (faults_of_asked value)
+
+abbrev pub faults_of_client : Result Data FieldFault → List (Option FieldFault)
+faults_of_client holder = fault_of (holder >>= request.client_id_row) ∷ fault_of (holder >>= request.client_version_row) ∷ []
+
+-- ---- the messages
+
+-- A fault in the item with a number. Items count from 1, and 0 is outside them.
+abbrev pub in_item : ℕ → Option FieldFault → Option MessageFault
+in_item number None = None
+in_item number (Some fault) = Some (fault_in_item fault number)
+
+-- the first fault of the items from the one with a number on
+abbrev pub first_from : (Data → Option FieldFault) → ℕ → Items → Option MessageFault
+first_from fault number no_items = None
+first_from fault number (item d ds) = first (in_item number (fault d) ∷ first_from fault (number + 1) ds ∷ [])
+
+-- how many items there are
+abbrev pub item_count : Items → ℕ
+item_count no_items = 0
+item_count (item d ds) = item_count ds + 1
+
+-- the items, where there are no more than a request may have
+abbrev pub fault_of_requests : Result Items FieldFault → Option MessageFault
+fault_of_requests (Ok items) = if nat_le (item_count items) most_items then first_from fault_of_asked 1 items else Some (TooManyItems (item_count items))
+fault_of_requests (Err fault) = Some (fault_in_item fault 0)
+
+abbrev pub fault_of_updates : Result Items FieldFault → Option MessageFault
+fault_of_updates (Ok items) = first_from fault_of_update 1 items
+fault_of_updates (Err fault) = Some (fault_in_item fault 0)
+
+abbrev pub faults_of_request : Data → List (Option MessageFault)
+faults_of_request value =
+    in_item 0 (fault_of (request.root_row value))
+    ∷ in_item 0 (first (faults_of_client (request.client_row value)))
+    ∷ fault_of_requests (request.requests_row value) ∷ []
+
+abbrev pub fault_of_request : Data → Option MessageFault
+fault_of_request value = first (faults_of_request value)
+
+abbrev pub faults_of_response : Data → List (Option MessageFault)
+faults_of_response value =
+    in_item 0 (fault_of (request.root_row value))
+    ∷ fault_of_updates (response.updates_row value)
+    ∷ in_item 0 (fault_of (response.wait_row value)) ∷ []
+
+abbrev pub fault_of_response : Data → Option MessageFault
+fault_of_response value = first (faults_of_response value)
+
+-- the first fault of a text: first of all that it is not JSON
+abbrev pub fault_of_text : (Data → Option MessageFault) → Option Data → Option MessageFault
+fault_of_text fault None = Some NotJson
+fault_of_text fault (Some value) = fault value

@@ -1,0 +1,25 @@
+//! The fetch messages of the Safe Browsing Update API, version 4 (`threatListUpdates.fetch`), which are read strictly and
+//! written in one way.
+//!
+//! `specs/Messages.antt` has the messages as contracts see them, `RequestRows` and `ResponseRows` the tables
+//! of their fields, `Reading` which message a JSON value is, `Faults` the first fault of one that is none, and
+//! `Answer` what a server answers.
+#![tactic(auto)]
+
+pub use client::ClientInfo;
+pub use laws::{values_read_one_way, values_read_or_have_a_fault};
+pub use reading_request::read_request;
+pub use reading_response::read_response;
+pub use request::{FetchRequest, ListRequest};
+pub use response::{FetchResponse, ListUpdate};
+pub use sets::{Additions, Compression, Removals};
+
+mod client;
+mod laws;
+mod reading_request;
+mod reading_response;
+mod reading_sets;
+mod request;
+mod response;
+mod rows;
+mod sets;
