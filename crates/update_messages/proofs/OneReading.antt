@@ -1,19 +1,16 @@
 -- A value reads as at most one message.
-use Rattle.std.proofs.Common.{◌≡◌, ℕ, ◌+◌, List, [], ◌∷◌, Result, Ok, Err, Bool, refl, sym, subst, ◌∙◌}
+use Rattle.std.proofs.Common.{◌≡◌, ℕ, List, [], ◌∷◌, Result, Ok, Err, Bool, refl, sym, subst}
 use Rattle.serde_json.specs.Data.{Data, Items, no_items, item}
 use Rattle.sb_json.specs.Values.{◌>>=◌}
 use Rattle.sb_json.specs.declared.faults.FieldFault.{FieldFault}
 use Rattle.rice_coding.specs.declared.record.RiceRecord.{RiceRecord}
-use Rattle.update_messages.specs.declared.client.ClientInfo.{ClientInfo}
-use Rattle.update_messages.specs.declared.sets.Additions.{Additions}
 use Rattle.update_messages.specs.declared.sets.Additions.TheVariants as added
-use Rattle.update_messages.specs.declared.sets.Removals.{Removals}
 use Rattle.update_messages.specs.declared.sets.Removals.TheVariants as removed
 use Rattle.update_messages.specs.declared.response.FetchResponse.{FetchResponse}
-use Rattle.update_messages.specs.Messages.{AskedList, Request, UpdatedList}
+use Rattle.update_messages.specs.Messages.{Request}
 use Rattle.update_messages.specs.RequestRows as request
 use Rattle.update_messages.specs.ResponseRows as response
-use Rattle.update_messages.specs.Reading.{EachReads, ReadsList, ReadsName, TakesCompressions, ReadsAskedList, ReadsClient, ReadsRequest, ReadsRice, ReadsRaw, ReadsIndex, ReadsAddition, ReadsRemoval, ReadsUpdatedList, ReadsResponse}
+use Rattle.update_messages.specs.Reading.{EachReads, ReadsList, ReadsName, TakesCompressions, ReadsAskedList, ReadsRequest, ReadsRice, ReadsRaw, ReadsIndex, ReadsAddition, ReadsRemoval, ReadsUpdatedList, ReadsResponse}
 
 pub same : {A : Type 0} (r : Result A FieldFault) (a b : A) → r ≡ Ok a → r ≡ Ok b → a ≡ b
 same r a b e f = cc

@@ -1,5 +1,5 @@
 -- Texts that read as a message.
-use Rattle.std.proofs.Common.{◌≡◌, ℕ, List, ◌⊎◌, inl, inr, Option, Some, None, Result, Ok, Err, IfOk, IfErr, MatchResult, refl, sym, subst, ap, ◌∙◌}
+use Rattle.std.proofs.Common.{◌≡◌, ℕ, List, ◌⊎◌, inl, inr, Option, Some, None, Result, Ok, Err, IfOk, IfErr, MatchResult, subst}
 use Rattle.serde_json.specs.Data.{Data}
 use Rattle.sb_json.specs.Values.{value_of}
 use Rattle.sb_json.specs.declared.faults.MessageFault.{MessageFault}

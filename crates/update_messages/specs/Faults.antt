@@ -1,5 +1,5 @@
 -- The first fault of a JSON value that is no message: the faults of its rows, in the order in which they are looked at.
-use Rattle.std.specs.Prelude.{ℕ, ◌+◌, nat_le, if◌then◌else◌, List, [], ◌∷◌, ◌++◌, Option, Some, None, Result, Ok, Err}
+use Rattle.std.specs.Prelude.{ℕ, ◌+◌, nat_le, if◌then◌else◌, List, [], ◌∷◌, Option, Some, None, Result, Ok, Err}
 use Rattle.serde_json.specs.Data.{Data, Items, no_items, item}
 use Rattle.sb_json.specs.Values.{◌>>=◌}
 use Rattle.sb_json.specs.Faults.{fault_in_item}

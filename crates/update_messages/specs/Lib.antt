@@ -5,3 +5,4 @@ pub mod Reading
 pub mod RequestRows
 pub mod ResponseRows
 pub mod Rows
+pub mod Writing

@@ -1,5 +1,5 @@
 -- Which message a JSON value is: each field of the message is what its row is read as.
-use Rattle.std.specs.Prelude.{◌≡◌, ℕ, ◌≤◌, Bool, List, [], ◌∷◌, length, Option, Some, Result, Ok, Err, codes}
+use Rattle.std.specs.Prelude.{◌≡◌, ℕ, ◌≤◌, Bool, List, [], ◌∷◌, length, Some, Result, Ok, Err, codes}
 use Rattle.serde_json.specs.Data.{Data, Items, no_items, item}
 use Rattle.sb_json.specs.Values.{◌>>=◌, value_of}
 use Rattle.sb_json.specs.declared.faults.FieldFault.{FieldFault}

@@ -1,5 +1,5 @@
 -- The rows of the fetch request (`threatListUpdates.fetch` of the Safe Browsing Update API, version 4), in the order in which they are looked at.
-use Rattle.std.specs.Prelude.{ℕ, ◌||◌, Bool, false, List, [], ◌∷◌, length, Result, Ok, Err, codes}
+use Rattle.std.specs.Prelude.{ℕ, Bool, List, [], Result, Ok}
 use Rattle.std.specs.Str.{bytes_eq, chars}
 use Rattle.std.specs.List.{list_any}
 use Rattle.serde_json.specs.Data.{Data, Items}

@@ -1,7 +1,7 @@
 -- The kinds of fields that the rows of both messages have. A row says what a field of an object is read as, or its fault.
-use Rattle.std.specs.Prelude.{ℕ, ◌==◌, nat_le, if◌then◌else◌, List, [], ◌∷◌, length, Option, Some, None, Result, Ok, Err}
-use Rattle.serde_json.specs.Data.{Data, null, Items, no_items, item}
-use Rattle.sb_json.specs.Values.{◌>>=◌, field_of, or_fault, whole_in, string_in, items_in, object_in, bytes_in, string_of}
+use Rattle.std.specs.Prelude.{ℕ, nat_le, if◌then◌else◌, List, [], length, Option, Some, None, Result, Ok, Err}
+use Rattle.serde_json.specs.Data.{Data, null, Items, no_items}
+use Rattle.sb_json.specs.Values.{◌>>=◌, field_of, or_fault, whole_in, items_in, object_in, bytes_in, string_of}
 use Rattle.sb_json.specs.declared.fields.Field.{Field}
 use Rattle.sb_json.specs.declared.fields.Field.TheVariants as field
 use Rattle.sb_json.specs.declared.faults.FieldFault.{FieldFault}

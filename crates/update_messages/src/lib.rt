@@ -13,9 +13,12 @@ pub use reading_response::read_response;
 pub use request::{FetchRequest, ListRequest};
 pub use response::{FetchResponse, ListUpdate};
 pub use sets::{Additions, Compression, Removals};
+pub use writing_request::write_request;
+pub use writing_response::write_response;
 
 mod client;
 mod laws;
+mod members;
 mod reading_request;
 mod reading_response;
 mod reading_sets;
@@ -23,3 +26,5 @@ mod request;
 mod response;
 mod rows;
 mod sets;
+mod writing_request;
+mod writing_response;

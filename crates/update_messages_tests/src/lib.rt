@@ -11,3 +11,5 @@ mod requests;
 mod response_faults;
 #[cfg(test)]
 mod responses;
+#[cfg(test)]
+mod writing;

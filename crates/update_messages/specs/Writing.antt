@@ -1,0 +1,155 @@
+-- The one spelling of each message: the compact JSON of a value whose members stand in the byte order of their keys.
+use Rattle.std.specs.Prelude.{ℕ, ◌==◌, Bool, true, false, if◌then◌else◌, List, [], ◌∷◌, ◌++◌, map, Option, Some, None, decimal, codes, encode_utf8_all}
+use Rattle.serde_json.specs.Data.{Data, string, number, array, object, unsigned, Members, no_members, member, put}
+use Rattle.serde_json.specs.View.{items_of}
+use Rattle.serde_json.specs.Written.{compact_text}
+use Rattle.base64.specs.Engines.{standard}
+use Rattle.base64.specs.GeneralPurpose.{encode_of}
+use Rattle.sb_json.specs.Fields.{key_of}
+use Rattle.sb_json.specs.declared.fields.Field.{Field}
+use Rattle.sb_json.specs.declared.fields.Field.TheVariants as field
+use Rattle.sb_model.specs.Names.{threat_word, platform_word, entry_word}
+use Rattle.sb_model.specs.Time.{duration_text}
+use Rattle.rice_coding.specs.declared.record.RiceRecord.{RiceRecord}
+use Rattle.update_messages.specs.declared.client.ClientInfo.{ClientInfo}
+use Rattle.update_messages.specs.declared.sets.Additions.{Additions}
+use Rattle.update_messages.specs.declared.sets.Additions.TheVariants as added
+use Rattle.update_messages.specs.declared.sets.Removals.{Removals}
+use Rattle.update_messages.specs.declared.sets.Removals.TheVariants as removed
+use Rattle.update_messages.specs.declared.response.FetchResponse.{FetchResponse}
+use Rattle.update_messages.specs.Messages.{AskedList, Request, UpdatedList}
+
+-- members with one more, at its place in the byte order, where there is something to write
+abbrev pub with_member : Field → Option Data → Members → Members
+with_member name None members = members
+with_member name (Some value) members = put (key_of name) value members
+
+-- ---- what is left out: empty texts, bytes and lists, zero numbers and durations, and objects that are bare
+
+abbrev pub text_written : List ℕ → Option Data
+text_written [] = None
+text_written (c ∷ cs) = Some (string (encode_utf8_all (c ∷ cs)))
+
+abbrev pub bytes_written : List ℕ → Option Data
+bytes_written [] = None
+bytes_written (b ∷ bs) = Some (string (encode_of standard (b ∷ bs)))
+
+abbrev pub number_written : ℕ → Option Data
+number_written n = if n == 0 then None else Some (number (unsigned n))
+
+-- a number of 64 bits is a string
+abbrev pub long_written : ℕ → Option Data
+long_written n = if n == 0 then None else Some (string (decimal n))
+
+abbrev pub duration_written : ℕ → Option Data
+duration_written nanos = if nanos == 0 then None else Some (string (duration_text nanos))
+
+abbrev pub values_written : List Data → Option Data
+values_written [] = None
+values_written (d ∷ ds) = Some (array (items_of (d ∷ ds)))
+
+abbrev pub list_written : {A : Type 0} → (A → Data) → List A → Option Data
+list_written write xs = values_written (map write xs)
+
+abbrev pub unless_bare : Members → Option Data
+unless_bare no_members = None
+unless_bare (member key value members) = Some (object (member key value members))
+
+-- ---- the response
+
+abbrev pub rice_written : RiceRecord → Data
+rice_written rice = object (
+    with_member field.EncodedData (bytes_written rice.coded) (
+    with_member field.FirstValue (long_written rice.first) (
+    with_member field.NumEntries (number_written rice.count) (
+    with_member field.RiceParameter (number_written rice.parameter) no_members))))
+
+abbrev pub hashes_written : ℕ → List ℕ → Data
+hashes_written size bytes = object (
+    with_member field.PrefixSize (number_written size) (
+    with_member field.RawHashBytes (bytes_written bytes) no_members))
+
+abbrev pub indices_written : List ℕ → Data
+indices_written indices = object (with_member field.Indices (list_written (λ index. number (unsigned index)) indices) no_members)
+
+-- an entry set, with the word of its compression
+abbrev pub set_written : List ℕ → Field → Data → Data
+set_written word name value = object (with_member field.CompressionType (Some (string word)) (with_member name (Some value) no_members))
+
+abbrev pub addition_written : Additions → Data
+addition_written (added.Raw size bytes) = set_written (codes "RAW") field.RawHashes (hashes_written size bytes)
+addition_written (added.Rice rice) = set_written (codes "RICE") field.RiceHashes (rice_written rice)
+
+abbrev pub removal_written : Removals → Data
+removal_written (removed.Raw indices) = set_written (codes "RAW") field.RawIndices (indices_written indices)
+removal_written (removed.Rice rice) = set_written (codes "RICE") field.RiceIndices (rice_written rice)
+
+abbrev pub response_type_word : Bool → List ℕ
+response_type_word true = codes "FULL_UPDATE"
+response_type_word false = codes "PARTIAL_UPDATE"
+
+abbrev pub checksum_written : List ℕ → Data
+checksum_written digest = object (with_member field.Sha256 (bytes_written digest) no_members)
+
+-- the members of an update from `platformType` on, and all of them
+abbrev pub later_members : UpdatedList → Members
+later_members update =
+    with_member field.PlatformType (Some (string (platform_word update.name.platform))) (
+    with_member field.Removals (list_written removal_written update.removals) (
+    with_member field.ResponseType (Some (string (response_type_word update.full))) (
+    with_member field.ThreatEntryType (Some (string (entry_word update.name.entry))) (
+    with_member field.ThreatType (Some (string (threat_word update.name.threat))) no_members))))
+
+abbrev pub update_written : UpdatedList → Data
+update_written update = object (
+    with_member field.Additions (list_written addition_written update.additions) (
+    with_member field.BaseState (bytes_written update.base) (
+    with_member field.Checksum (Some (checksum_written update.checksum)) (
+    with_member field.NewClientState (bytes_written update.new_state) (later_members update)))))
+
+abbrev pub response_written : FetchResponse → Data
+response_written message = object (
+    with_member field.ListUpdateResponses (list_written update_written message.items) (
+    with_member field.MinimumWaitDuration (duration_written message.wait) no_members))
+
+-- ---- the request
+
+abbrev pub client_members : ClientInfo → Members
+client_members client =
+    with_member field.ClientId (text_written client.id) (
+    with_member field.ClientVersion (text_written client.version) no_members)
+
+abbrev pub word_if : Bool → List ℕ → List Data
+word_if true word = string word ∷ []
+word_if false word = []
+
+-- RAW before RICE
+abbrev pub compressions_written : Bool → Bool → Option Data
+compressions_written raw rice = values_written (word_if raw (codes "RAW") ++ word_if rice (codes "RICE"))
+
+abbrev pub constraint_members : AskedList → Members
+constraint_members asked =
+    with_member field.MaxDatabaseEntries (number_written asked.max_database) (
+    with_member field.MaxUpdateEntries (number_written asked.max_update) (
+    with_member field.SupportedCompressions (compressions_written asked.raw asked.rice) no_members))
+
+abbrev pub asked_written : AskedList → Data
+asked_written asked = object (
+    with_member field.Constraints (unless_bare (constraint_members asked)) (
+    with_member field.PlatformType (Some (string (platform_word asked.name.platform))) (
+    with_member field.State (bytes_written asked.state) (
+    with_member field.ThreatEntryType (Some (string (entry_word asked.name.entry))) (
+    with_member field.ThreatType (Some (string (threat_word asked.name.threat))) no_members)))))
+
+abbrev pub request_written : Request → Data
+request_written message = object (
+    with_member field.Client (unless_bare (client_members message.client)) (
+    with_member field.ListUpdateRequests (list_written asked_written message.items) no_members))
+
+-- ---- the spellings
+
+abbrev pub spelling_of_request : Request → List ℕ
+spelling_of_request message = compact_text (request_written message)
+
+abbrev pub spelling_of_response : FetchResponse → List ℕ
+spelling_of_response message = compact_text (response_written message)

@@ -1,0 +1,115 @@
+ghost use Rattle.std.specs.Prelude.{◌≡◌, map, Some, option_map, IfOk, OnOk};
+ghost use Rattle.serde_json.specs.Data.{string};
+ghost use Rattle.serde_json.specs.View.{view, members_view};
+ghost use Rattle.update_messages.specs.Writing as spec;
+
+use base64::engine::general_purpose::STANDARD;
+use itoa::Buffer;
+use sb_json::Field;
+use sb_model::{Duration, OutOfMemory, Text, write_duration};
+use serde_json::{Map, Value};
+use std::alloc::Global;
+
+/// Puts a member at its place, where there is something to write.
+pub(crate) fn put_member(
+    alloc: Global,
+    members: &mut Map<String, Value>,
+    name: Field,
+    value: Option<Value>,
+) -> Result<(), OutOfMemory>
+    ensures { OnOk result (members_view members.new.entries
+        ≡ spec.with_member name (option_map view value) (members_view members.old.entries)) }
+{
+    match value {
+        Some(value) => Ok(serde_json::put(members, alloc, name.key(), value)?),
+        None => Ok(()),
+    }
+}
+
+/// A string.
+pub(crate) fn string_value(alloc: Global, text: &str) -> Result<Option<Value>, OutOfMemory>
+    ensures { IfOk result (λ value. option_map view value ≡ Some (string text.now)) }
+{
+    Ok(Some(Value::try_from_str(alloc, text)?))
+}
+
+/// A text, unless it is empty.
+pub(crate) fn text_value(alloc: Global, text: &Text) -> Result<Option<Value>, OutOfMemory>
+    ensures { IfOk result (λ value. option_map view value ≡ spec.text_written text.now) }
+{
+    if text.is_empty() {
+        return Ok(None);
+    }
+    string_value(alloc, text.as_str())
+}
+
+/// Bytes in standard padded base64 (RFC 4648, section 4), unless there are none.
+pub(crate) fn bytes_value(alloc: Global, bytes: &[u8]) -> Result<Option<Value>, OutOfMemory>
+    ensures { IfOk result (λ value. option_map view value ≡ spec.bytes_written bytes.now) }
+{
+    if bytes.is_empty() {
+        return Ok(None);
+    }
+    Ok(Some(Value::String(STANDARD.encode(alloc, bytes)?)))
+}
+
+/// A number, unless it is zero.
+pub(crate) fn number_value(number: u32) -> Option<Value>
+    ensures { option_map view result ≡ spec.number_written number }
+{
+    if number == 0 {
+        None
+    } else {
+        Some(Value::from(number))
+    }
+}
+
+/// A number of 64 bits as a string, unless it is zero.
+pub(crate) fn long_value(alloc: Global, number: u64) -> Result<Option<Value>, OutOfMemory>
+    ensures { IfOk result (λ value. option_map view value ≡ spec.long_written number) }
+{
+    if number == 0 {
+        return Ok(None);
+    }
+    let mut buffer = Buffer::new();
+    string_value(alloc, buffer.format(number))
+}
+
+/// A duration, unless it is zero.
+pub(crate) fn duration_value(
+    alloc: Global,
+    duration: Duration,
+) -> Result<Option<Value>, OutOfMemory>
+    ensures { IfOk result (λ value. option_map view value ≡ spec.duration_written duration) }
+{
+    if duration.seconds() == 0 && duration.nanos() == 0 {
+        return Ok(None);
+    }
+    let text = write_duration(alloc, duration)?;
+    match String::from_utf8(text.into_vec()) {
+        Ok(text) => Ok(Some(Value::String(text))),
+        Err(_) => Err(OutOfMemory),
+    }
+}
+
+/// A list, unless it is empty.
+pub(crate) fn list_value(items: Vec<Value>) -> Option<Value>
+    ensures { option_map view result ≡ spec.values_written (map view items.items) }
+{
+    if items.is_empty() {
+        None
+    } else {
+        Some(Value::Array(items))
+    }
+}
+
+/// An object, unless it is bare.
+pub(crate) fn object_value(members: Map<String, Value>) -> Option<Value>
+    ensures { option_map view result ≡ spec.unless_bare (members_view members.entries) }
+{
+    if members.is_empty() {
+        None
+    } else {
+        Some(Value::Object(members))
+    }
+}

@@ -1,0 +1,132 @@
+ghost use Rattle.std.specs.Prelude.{◌≡◌, ◌++◌, map, IfOk, OnOk};
+ghost use Rattle.serde_json.specs.View.{view, members_view};
+ghost use Rattle.update_messages.specs.Writing as spec;
+
+use crate::members::{
+    bytes_value, list_value, number_value, object_value, put_member, string_value, text_value,
+};
+use crate::{ClientInfo, FetchRequest, ListRequest};
+use sb_json::Field;
+use sb_model::{Bytes, OutOfMemory};
+use serde_json::{Map, Value};
+use std::alloc::Global;
+
+fn client_members(alloc: Global, client: &ClientInfo) -> Result<Map<String, Value>, OutOfMemory>
+    ensures { IfOk result (λ members. members_view members.entries ≡ spec.client_members client.now) }
+{
+    let mut members = Map::new(alloc);
+    let id = text_value(alloc, &client.id)?;
+    let version = text_value(alloc, &client.version)?;
+    put_member(alloc, &mut members, Field::ClientVersion, version)?;
+    put_member(alloc, &mut members, Field::ClientId, id)?;
+    Ok(members)
+}
+
+fn push_word(
+    alloc: Global,
+    words: &mut Vec<Value>,
+    taken: bool,
+    word: &str,
+) -> Result<(), OutOfMemory>
+    ensures { OnOk result (map view words.new.items ≡ map view words.old.items ++ spec.word_if taken word.now) }
+{
+    if !taken {
+        return Ok(());
+    }
+    words.push(Value::try_from_str(alloc, word)?)?;
+    Ok(())
+}
+
+fn compression_values(alloc: Global, raw: bool, rice: bool) -> Result<Vec<Value>, OutOfMemory>
+    ensures { IfOk result (λ words. spec.values_written (map view words.items) ≡ spec.compressions_written raw rice) }
+{
+    let mut words = Vec::new(alloc);
+    push_word(alloc, &mut words, raw, "RAW")?;
+    push_word(alloc, &mut words, rice, "RICE")?;
+    Ok(words)
+}
+
+fn constraint_members(alloc: Global, asked: &ListRequest) -> Result<Map<String, Value>, OutOfMemory>
+    ensures { IfOk result (λ members. members_view members.entries ≡ spec.constraint_members asked.now) }
+{
+    let mut members = Map::new(alloc);
+    let words = compression_values(alloc, asked.raw, asked.rice)?;
+    put_member(
+        alloc,
+        &mut members,
+        Field::SupportedCompressions,
+        list_value(words),
+    )?;
+    put_member(
+        alloc,
+        &mut members,
+        Field::MaxUpdateEntries,
+        number_value(asked.max_update),
+    )?;
+    put_member(
+        alloc,
+        &mut members,
+        Field::MaxDatabaseEntries,
+        number_value(asked.max_database),
+    )?;
+    Ok(members)
+}
+
+fn asked_value(alloc: Global, asked: &ListRequest) -> Result<Value, OutOfMemory>
+    ensures { IfOk result (λ value. view value ≡ spec.asked_written asked.now) }
+{
+    let mut members = Map::new(alloc);
+    let threat = string_value(alloc, asked.name.threat.word())?;
+    let entry = string_value(alloc, asked.name.entry.word())?;
+    let state = bytes_value(alloc, asked.state.as_slice())?;
+    let platform = string_value(alloc, asked.name.platform.word())?;
+    let constraints = constraint_members(alloc, asked)?;
+    put_member(alloc, &mut members, Field::ThreatType, threat)?;
+    put_member(alloc, &mut members, Field::ThreatEntryType, entry)?;
+    put_member(alloc, &mut members, Field::State, state)?;
+    put_member(alloc, &mut members, Field::PlatformType, platform)?;
+    put_member(
+        alloc,
+        &mut members,
+        Field::Constraints,
+        object_value(constraints),
+    )?;
+    Ok(Value::Object(members))
+}
+
+fn asked_values(alloc: Global, lists: &[ListRequest]) -> Result<Vec<Value>, OutOfMemory>
+    ensures { IfOk result (λ values. map view values.items ≡ map spec.asked_written lists.now) }
+{
+    let mut values = Vec::with_capacity(alloc, lists.len())?;
+    for list in lists {
+        values.push(asked_value(alloc, list)?)?;
+    }
+    Ok(values)
+}
+
+fn request_value(alloc: Global, message: &FetchRequest) -> Result<Value, OutOfMemory>
+    ensures { IfOk result (λ value. view value ≡ spec.request_written message.now) }
+{
+    let mut members = Map::new(alloc);
+    let items = asked_values(alloc, message.items.as_slice())?;
+    let client = client_members(alloc, &message.client)?;
+    put_member(
+        alloc,
+        &mut members,
+        Field::ListUpdateRequests,
+        list_value(items),
+    )?;
+    put_member(alloc, &mut members, Field::Client, object_value(client))?;
+    Ok(Value::Object(members))
+}
+
+/// Writes a fetch request in its one spelling: compact JSON, whose keys stand in byte order, and in which empty
+/// texts, bytes and lists, zero numbers, and a client or constraints without fields are left out.
+#[tactic(auto, using(crate::proofs::Floats::request_has_none))]
+pub fn write_request(alloc: Global, message: &FetchRequest) -> Result<Bytes, OutOfMemory>
+    ensures { IfOk result (λ text. text ≡ spec.spelling_of_request message.now) }
+{
+    let value = request_value(alloc, message)?;
+    let text = value.to_string(alloc)?;
+    Ok(Bytes::from_vec(text.into_bytes()))
+}
