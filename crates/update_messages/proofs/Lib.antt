@@ -1,4 +1,5 @@
 pub mod Compressions
+pub mod DurationBytes
 pub mod Existence
 pub mod Floats
 pub mod Lists

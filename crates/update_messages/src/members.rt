@@ -85,11 +85,9 @@ pub(crate) fn duration_value(
     if duration.seconds() == 0 && duration.nanos() == 0 {
         return Ok(None);
     }
-    let text = write_duration(alloc, duration)?;
-    match String::from_utf8(text.into_vec()) {
-        Ok(text) => Ok(Some(Value::String(text))),
-        Err(_) => Err(OutOfMemory),
-    }
+    let bytes = write_duration(alloc, duration)?;
+    let text = String::from_utf8(bytes.into_vec()).unwrap();
+    Ok(Some(Value::String(text)))
 }
 
 /// A list, unless it is empty.
