@@ -1,9 +1,10 @@
 //! The fetch messages of the Safe Browsing Update API, version 4 (`threatListUpdates.fetch`), which are read strictly and
 //! written in one way.
 //!
-//! `specs/Messages.antt` has the messages as contracts see them, `RequestRows` and `ResponseRows` the tables
-//! of their fields, `Reading` which message a JSON value is, `Faults` the first fault of one that is none, and
-//! `Answer` what a server answers.
+//! `specs/Messages.antt` has the messages as contracts see them, `Ranges` what every one of them keeps,
+//! `RequestRows` and `ResponseRows` the tables of their fields, `Reading` which message a JSON value is, `Faults`
+//! the first fault of one that is none, `Writing` the one spelling of a message, and `Answer` what a server
+//! answers.
 #![tactic(auto)]
 
 pub use client::ClientInfo;

@@ -1,6 +1,9 @@
-ghost use Rattle.std.specs.Prelude.{◌≡◌, map, Some, option_map, IfOk, OnOk};
+ghost use Rattle.std.specs.Prelude.{◌≡◌, ◌≤◌, map, Some, option_map, IfOk, OnOk};
 ghost use Rattle.serde_json.specs.Data.{string};
 ghost use Rattle.serde_json.specs.View.{view, members_view};
+ghost use Rattle.base64.specs.GeneralPurpose.{IsBytes};
+ghost use Rattle.sb_model.specs.Time.{most_nanos};
+ghost use Rattle.update_messages.specs.Ranges.{IsText};
 ghost use Rattle.update_messages.specs.Writing as spec;
 
 use base64::engine::general_purpose::STANDARD;
@@ -35,7 +38,8 @@ pub(crate) fn string_value(alloc: Global, text: &str) -> Result<Option<Value>, O
 
 /// A text, unless it is empty.
 pub(crate) fn text_value(alloc: Global, text: &Text) -> Result<Option<Value>, OutOfMemory>
-    ensures { IfOk result (λ value. option_map view value ≡ spec.text_written text.now) }
+    ensures value { IfOk result (λ value. option_map view value ≡ spec.text_written text.now) }
+    ensures range { IsText text.now }
 {
     if text.is_empty() {
         return Ok(None);
@@ -45,7 +49,8 @@ pub(crate) fn text_value(alloc: Global, text: &Text) -> Result<Option<Value>, Ou
 
 /// Bytes in standard padded base64 (RFC 4648, section 4), unless there are none.
 pub(crate) fn bytes_value(alloc: Global, bytes: &[u8]) -> Result<Option<Value>, OutOfMemory>
-    ensures { IfOk result (λ value. option_map view value ≡ spec.bytes_written bytes.now) }
+    ensures value { IfOk result (λ value. option_map view value ≡ spec.bytes_written bytes.now) }
+    ensures range { IsBytes bytes.now }
 {
     if bytes.is_empty() {
         return Ok(None);
@@ -80,7 +85,8 @@ pub(crate) fn duration_value(
     alloc: Global,
     duration: Duration,
 ) -> Result<Option<Value>, OutOfMemory>
-    ensures { IfOk result (λ value. option_map view value ≡ spec.duration_written duration) }
+    ensures value { IfOk result (λ value. option_map view value ≡ spec.duration_written duration) }
+    ensures range { IfOk result (λ _. duration ≤ most_nanos) }
 {
     if duration.seconds() == 0 && duration.nanos() == 0 {
         return Ok(None);

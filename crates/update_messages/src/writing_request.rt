@@ -1,5 +1,8 @@
-ghost use Rattle.std.specs.Prelude.{◌≡◌, ◌++◌, map, IfOk, OnOk};
+ghost use Rattle.std.specs.Prelude.{◌≡◌, ◌++◌, All, map, IfOk, OnOk};
 ghost use Rattle.serde_json.specs.View.{view, members_view};
+ghost use Rattle.update_messages.specs.Messages.{Request};
+ghost use Rattle.update_messages.specs.Ranges.{IsClientInRange, IsAskedInRange, IsRequestInRange};
+ghost use Rattle.update_messages.specs.Reading.{ReadsRequest, IsTextOf};
 ghost use Rattle.update_messages.specs.Writing as spec;
 
 use crate::members::{
@@ -12,7 +15,8 @@ use serde_json::{Map, Value};
 use std::alloc::Global;
 
 fn client_members(alloc: Global, client: &ClientInfo) -> Result<Map<String, Value>, OutOfMemory>
-    ensures { IfOk result (λ members. members_view members.entries ≡ spec.client_members client.now) }
+    ensures value { IfOk result (λ members. members_view members.entries ≡ spec.client_members client.now) }
+    ensures range { IfOk result (λ _. IsClientInRange client.now) }
 {
     let mut members = Map::new(alloc);
     let id = text_value(alloc, &client.id)?;
@@ -73,7 +77,8 @@ fn constraint_members(alloc: Global, asked: &ListRequest) -> Result<Map<String, 
 }
 
 fn asked_value(alloc: Global, asked: &ListRequest) -> Result<Value, OutOfMemory>
-    ensures { IfOk result (λ value. view value ≡ spec.asked_written asked.now) }
+    ensures value { IfOk result (λ value. view value ≡ spec.asked_written asked.now) }
+    ensures range { IfOk result (λ _. IsAskedInRange asked.now) }
 {
     let mut members = Map::new(alloc);
     let threat = string_value(alloc, asked.name.threat.word())?;
@@ -95,7 +100,8 @@ fn asked_value(alloc: Global, asked: &ListRequest) -> Result<Value, OutOfMemory>
 }
 
 fn asked_values(alloc: Global, lists: &[ListRequest]) -> Result<Vec<Value>, OutOfMemory>
-    ensures { IfOk result (λ values. map view values.items ≡ map spec.asked_written lists.now) }
+    ensures value { IfOk result (λ values. map view values.items ≡ map spec.asked_written lists.now) }
+    ensures range { IfOk result (λ _. All IsAskedInRange lists.now) }
 {
     let mut values = Vec::with_capacity(alloc, lists.len())?;
     for list in lists {
@@ -105,7 +111,8 @@ fn asked_values(alloc: Global, lists: &[ListRequest]) -> Result<Vec<Value>, OutO
 }
 
 fn request_value(alloc: Global, message: &FetchRequest) -> Result<Value, OutOfMemory>
-    ensures { IfOk result (λ value. view value ≡ spec.request_written message.now) }
+    ensures value { IfOk result (λ value. view value ≡ spec.request_written message.now) }
+    ensures range { IfOk result (λ _. IsRequestInRange message.now) }
 {
     let mut members = Map::new(alloc);
     let items = asked_values(alloc, message.items.as_slice())?;
@@ -122,9 +129,12 @@ fn request_value(alloc: Global, message: &FetchRequest) -> Result<Value, OutOfMe
 
 /// Writes a fetch request in its one spelling: compact JSON, whose keys stand in byte order, and in which empty
 /// texts, bytes and lists, zero numbers, and a client or constraints without fields are left out.
+/// The text reads as the message, and as no other.
 #[tactic(auto, using(crate::proofs::Floats::request_has_none))]
 pub fn write_request(alloc: Global, message: &FetchRequest) -> Result<Bytes, OutOfMemory>
-    ensures { IfOk result (λ text. text ≡ spec.spelling_of_request message.now) }
+    ensures spelling { IfOk result (λ text. text ≡ spec.spelling_of_request message.now) }
+    ensures read_again { IfOk result (λ text. IsTextOf ReadsRequest text message.now) }
+    ensures no_other { IfOk result (λ text. (other : Request) → IsTextOf ReadsRequest text other → other ≡ message.now) }
 {
     let value = request_value(alloc, message)?;
     let text = value.to_string(alloc)?;

@@ -1,6 +1,9 @@
-ghost use Rattle.std.specs.Prelude.{◌≡◌, false, map, Some, option_map, IfOk};
+ghost use Rattle.std.specs.Prelude.{◌≡◌, false, All, map, Some, option_map, IfOk};
 ghost use Rattle.serde_json.specs.Data.{Data, number, unsigned};
 ghost use Rattle.serde_json.specs.View.{view, members_view};
+ghost use Rattle.base64.specs.GeneralPurpose.{IsBytes};
+ghost use Rattle.update_messages.specs.Ranges.{IsAdditionOfBytes, IsRemovalOfBytes, IsUpdateInRange, IsResponseInRange};
+ghost use Rattle.update_messages.specs.Reading.{ReadsResponse, IsTextOf};
 ghost use Rattle.update_messages.specs.Writing as spec;
 
 use crate::members::{
@@ -14,7 +17,8 @@ use serde_json::{Map, Value};
 use std::alloc::Global;
 
 fn rice_value(alloc: Global, rice: &RiceRecord) -> Result<Value, OutOfMemory>
-    ensures { IfOk result (λ value. view value ≡ spec.rice_written rice.now) }
+    ensures value { IfOk result (λ value. view value ≡ spec.rice_written rice.now) }
+    ensures range { IfOk result (λ _. IsBytes rice.now.coded) }
 {
     let mut members = Map::new(alloc);
     let coded = bytes_value(alloc, rice.coded.as_slice())?;
@@ -37,7 +41,8 @@ fn rice_value(alloc: Global, rice: &RiceRecord) -> Result<Value, OutOfMemory>
 }
 
 fn hashes_value(alloc: Global, size: u8, bytes: &Bytes) -> Result<Value, OutOfMemory>
-    ensures { IfOk result (λ value. view value ≡ spec.hashes_written size bytes.now) }
+    ensures value { IfOk result (λ value. view value ≡ spec.hashes_written size bytes.now) }
+    ensures range { IfOk result (λ _. IsBytes bytes.now) }
 {
     let mut members = Map::new(alloc);
     let hashes = bytes_value(alloc, bytes.as_slice())?;
@@ -81,7 +86,8 @@ fn set_value(alloc: Global, word: &str, name: Field, value: Value) -> Result<Val
 }
 
 fn addition_value(alloc: Global, set: &Additions) -> Result<Value, OutOfMemory>
-    ensures { IfOk result (λ value. view value ≡ spec.addition_written set.now) }
+    ensures value { IfOk result (λ value. view value ≡ spec.addition_written set.now) }
+    ensures range { IfOk result (λ _. IsAdditionOfBytes set.now) }
 {
     match set {
         Additions::Raw { size, bytes } => {
@@ -96,7 +102,8 @@ fn addition_value(alloc: Global, set: &Additions) -> Result<Value, OutOfMemory>
 }
 
 fn addition_values(alloc: Global, sets: &[Additions]) -> Result<Vec<Value>, OutOfMemory>
-    ensures { IfOk result (λ values. map view values.items ≡ map spec.addition_written sets.now) }
+    ensures value { IfOk result (λ values. map view values.items ≡ map spec.addition_written sets.now) }
+    ensures range { IfOk result (λ _. All IsAdditionOfBytes sets.now) }
 {
     let mut values = Vec::with_capacity(alloc, sets.len())?;
     for set in sets {
@@ -106,7 +113,8 @@ fn addition_values(alloc: Global, sets: &[Additions]) -> Result<Vec<Value>, OutO
 }
 
 fn removal_value(alloc: Global, set: &Removals) -> Result<Value, OutOfMemory>
-    ensures { IfOk result (λ value. view value ≡ spec.removal_written set.now) }
+    ensures value { IfOk result (λ value. view value ≡ spec.removal_written set.now) }
+    ensures range { IfOk result (λ _. IsRemovalOfBytes set.now) }
 {
     match set {
         Removals::Raw(indices) => {
@@ -121,7 +129,8 @@ fn removal_value(alloc: Global, set: &Removals) -> Result<Value, OutOfMemory>
 }
 
 fn removal_values(alloc: Global, sets: &[Removals]) -> Result<Vec<Value>, OutOfMemory>
-    ensures { IfOk result (λ values. map view values.items ≡ map spec.removal_written sets.now) }
+    ensures value { IfOk result (λ values. map view values.items ≡ map spec.removal_written sets.now) }
+    ensures range { IfOk result (λ _. All IsRemovalOfBytes sets.now) }
 {
     let mut values = Vec::with_capacity(alloc, sets.len())?;
     for set in sets {
@@ -131,7 +140,8 @@ fn removal_values(alloc: Global, sets: &[Removals]) -> Result<Vec<Value>, OutOfM
 }
 
 fn checksum_value(alloc: Global, digest: &[u8]) -> Result<Value, OutOfMemory>
-    ensures { IfOk result (λ value. view value ≡ spec.checksum_written digest.now) }
+    ensures value { IfOk result (λ value. view value ≡ spec.checksum_written digest.now) }
+    ensures range { IfOk result (λ _. IsBytes digest.now) }
 {
     let mut members = Map::new(alloc);
     let bytes = bytes_value(alloc, digest)?;
@@ -150,7 +160,8 @@ fn response_type_word(full: bool) -> &'static str
 }
 
 fn later_members(alloc: Global, update: &ListUpdate) -> Result<Map<String, Value>, OutOfMemory>
-    ensures { IfOk result (λ members. members_view members.entries ≡ spec.later_members update.now) }
+    ensures value { IfOk result (λ members. members_view members.entries ≡ spec.later_members update.now) }
+    ensures range { IfOk result (λ _. All IsRemovalOfBytes update.now.removals) }
 {
     let mut members = Map::new(alloc);
     let threat = string_value(alloc, update.name.threat.word())?;
@@ -167,7 +178,8 @@ fn later_members(alloc: Global, update: &ListUpdate) -> Result<Map<String, Value
 }
 
 fn update_value(alloc: Global, update: &ListUpdate) -> Result<Value, OutOfMemory>
-    ensures { IfOk result (λ value. view value ≡ spec.update_written update.now) }
+    ensures value { IfOk result (λ value. view value ≡ spec.update_written update.now) }
+    ensures range { IfOk result (λ _. IsUpdateInRange update.now) }
 {
     let mut members = later_members(alloc, update)?;
     let new_state = bytes_value(alloc, update.new_state.as_slice())?;
@@ -182,7 +194,8 @@ fn update_value(alloc: Global, update: &ListUpdate) -> Result<Value, OutOfMemory
 }
 
 fn update_values(alloc: Global, updates: &[ListUpdate]) -> Result<Vec<Value>, OutOfMemory>
-    ensures { IfOk result (λ values. map view values.items ≡ map spec.update_written updates.now) }
+    ensures value { IfOk result (λ values. map view values.items ≡ map spec.update_written updates.now) }
+    ensures range { IfOk result (λ _. All IsUpdateInRange updates.now) }
 {
     let mut values = Vec::with_capacity(alloc, updates.len())?;
     for update in updates {
@@ -192,7 +205,8 @@ fn update_values(alloc: Global, updates: &[ListUpdate]) -> Result<Vec<Value>, Ou
 }
 
 fn response_value(alloc: Global, message: &FetchResponse) -> Result<Value, OutOfMemory>
-    ensures { IfOk result (λ value. view value ≡ spec.response_written message.now) }
+    ensures value { IfOk result (λ value. view value ≡ spec.response_written message.now) }
+    ensures range { IfOk result (λ _. IsResponseInRange message.now) }
 {
     let mut members = Map::new(alloc);
     let wait = duration_value(alloc, message.wait)?;
@@ -208,10 +222,13 @@ fn response_value(alloc: Global, message: &FetchResponse) -> Result<Value, OutOf
 }
 
 /// Writes the answer to a fetch request in its one spelling: compact JSON, whose keys stand in byte order, and
-/// in which empty bytes and lists, zero numbers and a zero duration are left out.
+/// in which empty bytes and lists, zero numbers and a zero duration are left out. The text reads as the message,
+/// and as no other.
 #[tactic(auto, using(crate::proofs::Floats::response_has_none))]
 pub fn write_response(alloc: Global, message: &FetchResponse) -> Result<Bytes, OutOfMemory>
-    ensures { IfOk result (λ text. text ≡ spec.spelling_of_response message.now) }
+    ensures spelling { IfOk result (λ text. text ≡ spec.spelling_of_response message.now) }
+    ensures read_again { IfOk result (λ text. IsTextOf ReadsResponse text message.now) }
+    ensures no_other { IfOk result (λ text. (other : FetchResponse) → IsTextOf ReadsResponse text other → other ≡ message.now) }
 {
     let value = response_value(alloc, message)?;
     let text = value.to_string(alloc)?;

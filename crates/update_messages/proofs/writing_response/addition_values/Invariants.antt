@@ -1,7 +1,11 @@
-use Rattle.std.proofs.Common.{◌≡◌, take, map}
+use Rattle.std.proofs.Common.{◌≡◌, take, map, All}
 use Rattle.serde_json.specs.View.{view}
+use Rattle.update_messages.specs.Ranges.{IsAdditionOfBytes}
 use Rattle.update_messages.specs.Writing as spec
 use Rattle.update_messages.proofs.writing_response.addition_values.Given as goal
 
 abbrev pub invariant-loop-set : goal.invariant-loop-set
-invariant-loop-set l = map view l.values.items ≡ map (spec.addition_written) (take l.set-index l.sets)
+invariant-loop-set l = record {
+  values : map view l.values.items ≡ map spec.addition_written (take l.set-index l.sets);
+  range : All IsAdditionOfBytes (take l.set-index l.sets);
+}
