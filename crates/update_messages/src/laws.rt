@@ -1,9 +1,15 @@
-ghost use Rattle.std.specs.Prelude.{◌≡◌, ◌↔◌, None};
+ghost use Rattle.std.specs.Prelude.{◌≡◌, ◌↔◌, None, MatchResult};
 ghost use Rattle.serde_json.specs.Data.{Data};
 ghost use Rattle.update_messages.specs.declared.response.FetchResponse.{FetchResponse};
 ghost use Rattle.update_messages.specs.Messages.{Request};
 ghost use Rattle.update_messages.specs.Reading.{ReadsRequest, ReadsResponse};
 ghost use Rattle.update_messages.specs.Faults.{fault_of_request, fault_of_response};
+
+use crate::{
+    FetchRequest, FetchResponse, read_request, read_response, write_request, write_response,
+};
+use sb_json::MessageFault;
+use std::alloc::Global;
 
 /// A JSON value reads as at most one request, and as at most one response.
 pub fn values_read_one_way()
@@ -16,3 +22,25 @@ pub fn values_read_or_have_a_fault()
     ensures request { (value : Data) → ((message : Request) × ReadsRequest value message) ↔ (fault_of_request value ≡ None) }
     ensures response { (value : Data) → ((message : FetchResponse) × ReadsResponse value message) ↔ (fault_of_response value ≡ None) }
 {}
+
+/// A request that is written and read again is the same request, unless memory is refused.
+pub fn written_requests_read_again(
+    alloc: Global,
+    message: &FetchRequest,
+) -> Result<FetchRequest, MessageFault>
+    ensures { MatchResult result (λ found. found ≡ message.now) (λ fault. fault ≡ MessageFault.OutOfMemory) }
+{
+    let text = write_request(alloc, message)?;
+    read_request(alloc, text.as_slice())
+}
+
+/// A response that is written and read again is the same response, unless memory is refused.
+pub fn written_responses_read_again(
+    alloc: Global,
+    message: &FetchResponse,
+) -> Result<FetchResponse, MessageFault>
+    ensures { MatchResult result (λ found. found ≡ message.now) (λ fault. fault ≡ MessageFault.OutOfMemory) }
+{
+    let text = write_response(alloc, message)?;
+    read_response(alloc, text.as_slice())
+}
