@@ -1,20 +1,25 @@
 use crate::bodies::json;
 use std::alloc::Global;
 use std::test::Fail;
-use update_messages::{read_request, read_response, write_request, write_response};
+use update_messages::{
+    read_request, read_response, write_request, write_response, written_requests_read_again,
+    written_responses_read_again,
+};
 
-// Whether a response that is read is written in the same bytes.
+// Whether a response that is read, written and read again is written in the same bytes.
 fn writes_response(alloc: Global, text: &str) -> Result<bool, Fail> {
     let text = json(alloc, text)?;
     let response = read_response(alloc, text.as_slice())?;
-    let written = write_response(alloc, &response)?;
+    let again = written_responses_read_again(alloc, &response)?;
+    let written = write_response(alloc, &again)?;
     Ok(written.as_slice() == text.as_slice())
 }
 
 fn writes_request(alloc: Global, text: &str) -> Result<bool, Fail> {
     let text = json(alloc, text)?;
     let request = read_request(alloc, text.as_slice())?;
-    let written = write_request(alloc, &request)?;
+    let again = written_requests_read_again(alloc, &request)?;
+    let written = write_request(alloc, &again)?;
     Ok(written.as_slice() == text.as_slice())
 }
 
