@@ -42,6 +42,10 @@ none_past len (x ∷ xs) h =
     ap (λ (b : Bool). cond b (Some x) (first_past len xs)) (lt-leb len x (All-head (λ index. index < len) x xs h))
     ∙ none_past len xs (All-tail (λ index. index < len) x xs h)
 
+-- the places that a newer set lacks are places of the older one
+pub removed_in_range : (old newer : List (List ℕ)) → first_past (length old) (removed_places old newer) ≡ None
+removed_in_range old newer = none_past (length old) (removed_places old newer) (removed_within old newer)
+
 pub no_apply_fault : (set : List (List ℕ)) (removals : List ℕ) (additions : List (List ℕ)) → first_past (length set) removals ≡ None
     → limit_fault (applied set removals additions) ≡ None → apply_fault set removals additions ≡ None
 no_apply_fault set removals additions none within =
@@ -101,5 +105,5 @@ module _ (old newer held wanted additions : List (List ℕ)) (removals : List �
   pub difference_applies : apply_fault old removals additions ≡ None
   difference_applies =
       no_apply_fault old removals additions
-      (ap (first_past (length old)) are_removals ∙ none_past (length old) (removed_places old newer) (removed_within old newer set.rising))
+      (ap (first_past (length old)) are_removals ∙ removed_in_range old newer)
       (ap limit_fault difference_leads ∙ no_limit_fault newer (set.count, set.bytes))

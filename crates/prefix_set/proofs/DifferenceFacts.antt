@@ -196,6 +196,10 @@ Contains-filter test (x ∷ xs) z h passes = elim (Contains-cases x z xs h) [
     go true more = Contains-there x z (filter test xs) more
     go false more = more
 
+-- each removed place is one of the old set
+pub removed_within : (old newer : List (List ℕ)) → All (λ place. place < length old) (removed_places old newer)
+removed_within old newer = All-weaker (λ place. place < 0 + length old) (λ place. place < length old) (λ place h. omega arith) (removed_places old newer) (removed_inside 0 old newer)
+
 -- ---- from one set to the other
 
 module _ (old newer : List (List ℕ)) (up : IsRising newer) where
@@ -243,7 +247,3 @@ module _ (old newer : List (List ℕ)) (up : IsRising newer) where
       rising_unique (applied old removals additions) newer (rising-set_of (without_places old removals ++ additions)) up
       (λ z h. to_newer z (Contains-append_cases (without_places old removals) additions z ((members-set_of (without_places old removals ++ additions) z).0 h)))
       (λ z h. (members-set_of (without_places old removals ++ additions) z).1 (from_newer z h))
-
-  -- each removed place is one of the old set
-  pub removed_within : All (λ place. place < length old) removals
-  removed_within = All-weaker (λ place. place < 0 + length old) (λ place. place < length old) (λ place h. omega arith) removals (removed_inside 0 old newer)

@@ -191,6 +191,13 @@ rising_unique (x ∷ xs) (y ∷ ys) up_x up_y to from =
     (λ z h. same_rest y z ys xs up_y h (subst (λ (w : List ℕ). Contains (w ∷ xs) z) head (from z (Contains-there y z ys h)))) in
     λ i. head i ∷ rest i
 
+-- the members determine the rising list
+pub set_unique : (xs ys : List (List ℕ)) → ((z : List ℕ) → Contains xs z ↔ Contains ys z) → set_of xs ≡ set_of ys
+set_unique xs ys same =
+    rising_unique (set_of xs) (set_of ys) (rising-set_of xs) (rising-set_of ys)
+    (λ z h. Contains-set_of ys z ((same z).0 (Contains-from_set_of xs z h)))
+    (λ z h. Contains-set_of xs z ((same z).1 (Contains-from_set_of ys z h)))
+
 -- a list that is sorted, and then rid of repeats, is the rising list of its members
 pub sorted_without_repeats : (xs sorted kept : List (List ℕ)) → IsPermutation xs sorted → IsSorted bytes_cmp sorted
     → IsFiltered (DiffersFromLast (pointwise nat_eq)) [] sorted kept → kept ≡ set_of xs

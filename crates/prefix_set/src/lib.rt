@@ -6,6 +6,7 @@ pub use difference::Delta;
 pub use edit::Edit;
 pub use fault::ApplyFault;
 pub use iteration::Members;
+pub use laws::{differences_lead, sets_go_by_members};
 pub use set::{MAX_BYTES, MAX_PREFIXES, Merged, PrefixSet};
 pub use store::PackedStore;
 
@@ -14,6 +15,7 @@ mod edit;
 mod fault;
 mod index;
 mod iteration;
+mod laws;
 mod layout;
 mod merge;
 mod packed;
