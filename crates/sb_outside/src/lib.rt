@@ -29,7 +29,7 @@ pub use tcp_link::TcpLink;
 pub use tcp_wire::TcpWire;
 pub use traits::{Failed, Sink, Source, write_all};
 pub use wires::Wire;
-pub use writing::{flush, flush_if_full};
+pub use writing::{FULL_BUFFER, flush, flush_if_full};
 
 mod clocks;
 mod doors;

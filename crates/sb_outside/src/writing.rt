@@ -1,4 +1,4 @@
-ghost use Rattle.std.specs.Prelude.{◌≡◌, ◌≤◌, [], OnOk, OnErr};
+ghost use Rattle.std.specs.Prelude.{◌≡◌, ◌<◌, ◌≤◌, [], length, OnOk, OnErr};
 ghost use Rattle.sb_outside.specs.Outside.{Rose, appended};
 ghost use Rattle.sb_outside.specs.Writing.{IsOnItsWay, HasFront};
 
@@ -6,7 +6,7 @@ use crate::{Failed, Sink, write_all};
 use sb_model::Bytes;
 
 /// From how many bytes on a buffer of output is full.
-const FULL: usize = 65_536;
+pub const FULL_BUFFER: usize = 65_536;
 
 /// Hands the text of a buffer to the sink, and empties the buffer. After an `Err` the sink took a front of
 /// it, and not the whole.
@@ -34,6 +34,8 @@ pub fn flush<O: Sink>(out: &mut O, buffer: &mut Bytes) -> Result<(), Failed>
 /// Hands the text of a buffer to the sink where it has 65,536 bytes or more.
 pub fn flush_if_full<O: Sink>(out: &mut O, buffer: &mut Bytes) -> Result<(), Failed>
     ensures ok { OnOk result (IsOnItsWay (O.contents out.old) (O.contents out.new) buffer.new buffer.old) }
+    ensures bounded { OnOk result (length buffer.new < FULL_BUFFER) }
+    ensures waits { length buffer.old < FULL_BUFFER → buffer.new ≡ buffer.old }
     ensures err { OnErr result (HasFront (O.contents out.old) (O.contents out.new) buffer.old) }
     ensures err_buffer { OnErr result (buffer.new ≡ buffer.old) }
 
@@ -43,7 +45,7 @@ pub fn flush_if_full<O: Sink>(out: &mut O, buffer: &mut Bytes) -> Result<(), Fai
     ensures failed { OnErr result (Rose (O.faults out.old) (O.faults out.new)) }
     ensures other { O.front out.new ≡ O.front out.old }
 {
-    if buffer.len() < FULL {
+    if buffer.len() < FULL_BUFFER {
         return Ok(());
     }
     flush(out, buffer)
