@@ -13,6 +13,7 @@ pub use store::PackedStore;
 mod difference;
 mod edit;
 mod fault;
+mod growing;
 mod index;
 mod iteration;
 mod laws;

@@ -1,32 +1,36 @@
 ghost use Rattle.std.specs.Prelude.{◌≡◌, ℕ, ◌≤◌, ◌↔◌, ◌++◌, length, take, IfOk, OnOk, Contains, IsTrue};
 ghost use Rattle.std.specs.List.Sorted.{IsStrictlyIncreasing};
-ghost use Rattle.sb_model.specs.Prefixes.{IsRising};
+ghost use Rattle.sb_model.specs.Prefixes.{IsRising, concatenation};
 ghost use Rattle.sb_model.specs.History.{IsPrefixSize};
 ghost use Rattle.prefix_set.specs.Apply.{applied};
 ghost use Rattle.prefix_set.specs.Kept.{kept_between, AreDone, TakesAddition};
 ghost use Rattle.prefix_set.specs.Search.{AreBefore};
 
+use crate::growing::{Growing, Grown};
 use crate::packed::PackedPrefixes;
 use crate::search::seek;
 use sb_model::OutOfMemory;
+use sha2::Digest;
 use std::alloc::Global;
 
-/// The set that removals and additions make of rising members.
-pub(crate) fn merged(
+/// The set that removals and additions make of rising members, hashed as it is written.
+pub(crate) fn merged<D: Digest>(
     alloc: Global,
     old: &PackedPrefixes,
     removals: Vec<u32>,
     additions: PackedPrefixes,
-) -> Result<PackedPrefixes, OutOfMemory>
+) -> Result<Grown<D>, OutOfMemory>
     requires { IsRising old.now }
-    ensures { IfOk result (λ set. set ≡ applied old.now removals.items additions) }
+    ensures set { IfOk result (λ grown. grown.members ≡ applied old.now removals.items additions) }
+    ensures hasher { IfOk result (λ grown. D.holds grown.hasher (concatenation grown.members)) }
 {
     let additions = additions.into_rising(alloc)?;
     if old.is_empty() {
-        return Ok(additions);
+        return Ok(Growing::of(additions).finish());
     }
     let removals = rising_numbers(removals);
-    merge_rising(alloc, old, &removals, &additions)
+    let set = merge_rising::<D>(alloc, old, &removals, &additions)?;
+    Ok(set.finish())
 }
 
 // Whether each number is below the next.
@@ -55,18 +59,19 @@ fn rising_numbers(numbers: Vec<u32>) -> Vec<u32>
 }
 
 // The members at the places of `removals` left out, and the additions put in.
-fn merge_rising(
+fn merge_rising<D: Digest>(
     alloc: Global,
     old: &PackedPrefixes,
     removals: &[u32],
     additions: &PackedPrefixes,
-) -> Result<PackedPrefixes, OutOfMemory>
+) -> Result<Growing<D>, OutOfMemory>
     requires old { IsRising old.now }
     requires removals { IsStrictlyIncreasing removals.now }
     requires additions { IsRising additions.now }
     ensures { IfOk result (λ set. set ≡ applied old.now removals.now additions.now) }
 {
-    let mut out = PackedPrefixes::with_capacity(alloc, old.byte_len())?;
+    let room = PackedPrefixes::with_capacity(alloc, old.byte_len())?;
+    let mut out = Growing::of(room);
     let mut done = Walked {
         place: 0,
         removals: 0,
@@ -86,8 +91,8 @@ struct Walked {
 }
 
 // Copies what is kept of the members in front of an addition, and then the addition.
-fn take_addition(
-    out: &mut PackedPrefixes,
+fn take_addition<D: Digest>(
+    out: &mut Growing<D>,
     old: &PackedPrefixes,
     removals: &[u32],
     done: Walked,
@@ -113,8 +118,8 @@ fn take_addition(
 }
 
 // Copies the members up to a place, in runs between the removals: how many removals are done then.
-fn copy_kept(
-    out: &mut PackedPrefixes,
+fn copy_kept<D: Digest>(
+    out: &mut Growing<D>,
     old: &PackedPrefixes,
     removals: &[u32],
     done: Walked,

@@ -254,6 +254,16 @@ impl PackedPrefixes {
         Sha256::digest(self.bytes.as_slice())
     }
 
+    /// The bytes of the prefixes one after the other, from a place in them on.
+    #[inline]
+    pub(crate) fn bytes_from(&self, from: usize) -> &[u8]
+        requires { from ≤ length (concatenation self.now) }
+        ensures { result.now ≡ drop from (concatenation self.now) }
+    {
+        let bytes = self.bytes.as_slice();
+        &bytes[from..]
+    }
+
     // Whether the prefixes are those of another list, one by one.
     fn has_members_of(&self, other: &PackedPrefixes) -> bool
         ensures { IsTrue result ↔ (self.now ≡ other.now) }

@@ -12,6 +12,7 @@ ghost use Rattle.prefix_set.specs.Limits.{ArePrefixes, IsPrefixSet};
 
 use crate::difference::{Delta, members_added, places_removed, prefix_of};
 use crate::edit::{Edit, EditParts, numbers_of};
+use crate::growing::{Grown, NoDigest};
 use crate::index::{HeadIndex, head_of, heads_below};
 use crate::merge::merged;
 use crate::packed::PackedPrefixes;
@@ -20,6 +21,7 @@ use crate::store::PackedStore;
 use crate::{ApplyFault, Members};
 use hash_prefixes::Prefix;
 use sb_model::{OutOfMemory, Steps};
+use sha2::{Digest, Sha256};
 use std::alloc::Global;
 use std::cmp::Ordering;
 use std::marker::Model;
@@ -55,6 +57,13 @@ impl Model for PrefixSet {
 pub struct Merged {
     pub set: PrefixSet,
     pub digest: [u8; 32],
+}
+
+// A set that a change made, and a hasher that has the bytes of its members.
+#[derive(Drop)]
+struct Changed<D> {
+    set: PrefixSet,
+    hasher: D,
 }
 
 // The members from one place on and before another.
@@ -136,7 +145,9 @@ impl PrefixSet {
             ↔ (Stays self.now removals.now x ⊎ Contains additions.now x)) }
     {
         let additions = PackedPrefixes::from_prefixes(alloc, additions)?;
-        self.changed(alloc, numbers_of(alloc, removals)?, additions)
+        let removals = numbers_of(alloc, removals)?;
+        let changed = self.changed::<NoDigest>(alloc, removals, additions)?;
+        Ok(changed.set)
     }
 
     /// What `apply` makes of the lists of an edit, and the digest of the set.
@@ -159,19 +170,24 @@ impl PrefixSet {
             removals,
             additions,
         } = edit.into_parts();
-        let set = self.changed(alloc, removals, additions)?;
-        let digest = set.digest();
-        Ok(Merged { set, digest })
+        let Changed { set, hasher } = self.changed::<Sha256>(alloc, removals, additions)?;
+        Ok(Merged {
+            set,
+            digest: hasher.finalize(),
+        })
     }
 
     // The one body of the two changes.
-    fn changed(
+    fn changed<D: Digest>(
         &self,
         alloc: Global,
         removals: Vec<u32>,
         additions: PackedPrefixes,
-    ) -> Result<PrefixSet, ApplyFault>
-        ensures ok { IfOk result (λ set. set ≡ applied self.now removals.items additions) }
+    ) -> Result<Changed<D>, ApplyFault>
+        ensures ok { IfOk result
+            (λ changed. changed.set ≡ applied self.now removals.items additions) }
+        ensures hasher { IfOk result
+            (λ changed. D.holds changed.hasher (concatenation changed.set)) }
         ensures within { OnOk result (apply_fault self.now removals.items additions ≡ None) }
         ensures fault { IfErr result (λ fault. (fault ≡ ApplyFault.OutOfMemory)
             ⊎ (apply_fault self.now removals.items additions ≡ Some fault)) }
@@ -182,10 +198,14 @@ impl PrefixSet {
                 len: self.len(),
             });
         }
-        PrefixSet::of_rising(
+        let Grown { members, hasher } = merged::<D>(
             alloc,
-            merged(alloc, self.store.packed(), removals, additions)?,
-        )
+            self.store.packed(),
+            removals,
+            additions,
+        )?;
+        let set = PrefixSet::of_rising(alloc, members)?;
+        Ok(Changed { set, hasher })
     }
 
     // The set of these rising members, if they are within the limits.

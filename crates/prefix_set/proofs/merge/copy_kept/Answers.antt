@@ -4,7 +4,7 @@ use Rattle.prefix_set.proofs.merge.copy_kept.Goals as goal
 use Rattle.prefix_set.proofs.merge.copy_kept.Goals.{then-removal-start+in_ok-push_range, else-removal-start, then-loop-removed-test+else-removals-removed, else-loop-removed-test}
 
 pub loop-removed-init : goal.loop-removed-init
-loop-removed-init c = record {
+loop-removed-init g c = record {
   from = omega arith;
   to = omega arith;
   done = c.requires.done;
@@ -12,14 +12,14 @@ loop-removed-init c = record {
 }
 
 pub loop-removed-preserved : goal.loop-removed-preserved
-loop-removed-preserved c = elim c.if-removal-start.branch [
+loop-removed-preserved g c = elim c.if-removal-start.branch [
   | then-removal-start+in_ok-push_range w ↦ rw (w.out-is, w.start-is) (record {
     from = omega arith;
     to = omega arith;
     done = done_more c.args.removals.now c.loop-removed.removed c.loop-removed.start _ c.loop-removed.invariant.done c.loop-removed-test.true (omega arith) (omega arith);
     copied = kept_removed c.args.out.now c.loop-removed.out w.push_range.new.self c.args.old.now c.args.removals.now c.args.done.place c.loop-removed.start
         c.loop-removed.removed (get_or c.args.removals.now c.loop-removed.removed 0) c.requires.removals c.loop-removed.invariant.done c.loop-removed-test.true refl
-        c.loop-removed.invariant.from (omega arith) (omega arith) c.loop-removed.invariant.copied w.in_ok-push_range.ensures.ok;
+        c.loop-removed.invariant.from (omega arith) (omega arith) c.loop-removed.invariant.copied w.in_ok-push_range.ensures;
   })
   | else-removal-start w ↦ rw (w.out-is, w.start-is) (record {
     from = omega arith;
@@ -30,9 +30,9 @@ loop-removed-preserved c = elim c.if-removal-start.branch [
 ]
 
 pub returns-clause-kept : goal.returns-clause-kept
-returns-clause-kept c =
+returns-clause-kept g c =
     kept_run c.args.out.now c.loop-removed.out c.push_range-2.new.self c.args.old.now c.args.removals.now c.args.done.place c.loop-removed.start c.loop-removed.removed c.args.to
     c.requires.removals c.loop-removed.invariant.done (elim c.loop-removed-test.branch [
       | then-loop-removed-test+else-removals-removed w ↦ λ _. w.if-removals-removed.false
       | else-loop-removed-test w ↦ λ inside. absurd (omega arith)
-    ]) c.loop-removed.invariant.from c.loop-removed.invariant.to c.requires.within c.loop-removed.invariant.copied c.in_ok-push_range-2.ensures.ok
+    ]) c.loop-removed.invariant.from c.loop-removed.invariant.to c.requires.within c.loop-removed.invariant.copied c.in_ok-push_range-2.ensures

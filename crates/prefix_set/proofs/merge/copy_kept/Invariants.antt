@@ -4,7 +4,7 @@ use Rattle.prefix_set.proofs.merge.copy_kept.Given as goal
 
 -- what is kept of the members in front of `start` was copied
 abbrev pub invariant-loop-removed : goal.invariant-loop-removed
-invariant-loop-removed l = record {
+invariant-loop-removed g l = record {
   from : l.fn.done.place ≤ l.start;
   to : l.start ≤ l.to;
   done : AreDone l.removals l.removed l.start;
@@ -12,4 +12,4 @@ invariant-loop-removed l = record {
 }
 
 abbrev pub decreases-loop-removed : goal.decreases-loop-removed
-decreases-loop-removed l = length l.removals - l.removed
+decreases-loop-removed g l = length l.removals - l.removed

@@ -4,7 +4,7 @@ use Rattle.prefix_set.proofs.merge.merge_rising.Given as goal
 
 -- the members in front of the place and the additions so far are merged
 abbrev pub invariant-loop-i : goal.invariant-loop-i
-invariant-loop-i l = record {
+invariant-loop-i g l = record {
   merged : IsMerged l.old l.removals l.additions l.done.place l.i l.out;
   done : AreDone l.removals l.done.removals l.done.place;
 }
