@@ -1,0 +1,24 @@
+//! The update client: the lists that a client holds, the request for them, and what an answer does to them.
+//!
+//! `specs/Held.antt` has what a held list is, `Step` what an update does to it and why it may be refused, `Asked` the
+//! request, `Replica` and `Genuine` what ties a client's lists to a server's history, and `Printed` the causes as they are printed.
+#![tactic(auto)]
+
+pub use fault::{ListResult, UpdateFault};
+pub use held::HeldList;
+pub use lists::ClientLists;
+pub use options::FetchOptions;
+pub use printing::{push_token, push_update_cause};
+
+mod asking;
+mod change;
+mod fault;
+mod feeding;
+mod held;
+mod judging;
+mod lists;
+mod options;
+mod ordering;
+mod pending;
+mod printing;
+mod taking;

@@ -1,0 +1,92 @@
+ghost use Rattle.std.specs.Prelude.{◌≡◌, ℕ, List, length, map, position, IfOk, OnOk, OnErr};
+ghost use Rattle.std.specs.List.Sorted.{IsStrictlySortedBy};
+ghost use Rattle.sb_model.specs.Names.{same_name, name_cmp};
+ghost use Rattle.update_client.specs.Held.{Held};
+ghost use Rattle.update_client.specs.Step.{list_step, result_of, after_update, after_updates, result_among, results_of};
+ghost use Rattle.update_client.specs.Taking.{changed, all_changed};
+
+use crate::judging::{Judgement, judge};
+use crate::pending::{Change, Fresh};
+use crate::{HeldList, ListResult};
+use sb_model::{ListName, OutOfMemory, Row};
+use std::alloc::Global;
+use update_messages::ListUpdate;
+
+/// Whether a held list has a name.
+pub(crate) fn has_name(held: &HeldList, name: ListName) -> bool
+    ensures { result ≡ same_name held.now.name name }
+{
+    let own = held.name;
+    own.threat.code() == name.threat.code()
+        && own.platform.code() == name.platform.code()
+        && own.entry.code() == name.entry.code()
+}
+
+/// The place of the held list of a name.
+pub(crate) fn place_of(lists: &[HeldList], name: ListName) -> Option<usize>
+    ensures { result ≡ position (λ (held : Held). same_name held.name name) lists.now }
+{
+    lists.iter().position(|held| has_name(held, name))
+}
+
+// Takes an update for its held list.
+fn take_update(
+    alloc: Global,
+    held: &HeldList,
+    change: &mut Change,
+    update: &ListUpdate,
+) -> Result<ListResult, OutOfMemory>
+    ensures list { OnOk result (changed held.now change.new ≡ list_step (changed held.now change.old) update.now) }
+    ensures outcome { IfOk result (λ outcome. outcome ≡ result_of (changed held.now change.old) update.now) }
+{
+    match judge(alloc, held, change, update)? {
+        Judgement::Fit(set) => {
+            let token = update.new_state.copy()?;
+            let entries = set.len();
+            change.fresh = Some(Fresh { token, set });
+            change.resync = false;
+            Ok(ListResult::Installed(entries))
+        }
+        Judgement::Unfit(fault) => {
+            change.resync = true;
+            Ok(ListResult::Refused(fault))
+        }
+    }
+}
+
+// Takes an update for the held list of its name, if there is one.
+fn take_item(
+    alloc: Global,
+    lists: &[HeldList],
+    changes: &mut [Change],
+    update: &ListUpdate,
+) -> Result<ListResult, OutOfMemory>
+    requires each { length changes.old ≡ length lists.now }
+    requires rising { IsStrictlySortedBy name_cmp (map (λ (held : Held). held.name) lists.now) }
+    ensures lists { OnOk result (all_changed lists.now changes.new ≡ after_update (all_changed lists.now changes.old) update.now) }
+    ensures outcome { IfOk result (λ outcome. outcome ≡ result_among (all_changed lists.now changes.old) update.now) }
+{
+    match place_of(lists, update.name) {
+        Some(place) => take_update(alloc, &lists[place], &mut changes[place], update),
+        None => Ok(ListResult::NotKept),
+    }
+}
+
+/// Takes updates one by one.
+pub(crate) fn take_items(
+    alloc: Global,
+    lists: &[HeldList],
+    changes: &mut [Change],
+    updates: &[ListUpdate],
+) -> Result<Row<ListResult>, OutOfMemory>
+    requires each { length changes.old ≡ length lists.now }
+    requires rising { IsStrictlySortedBy name_cmp (map (λ (held : Held). held.name) lists.now) }
+    ensures lists { OnOk result (all_changed lists.now changes.new ≡ after_updates (all_changed lists.now changes.old) updates.now) }
+    ensures results { IfOk result (λ results. results ≡ results_of (all_changed lists.now changes.old) updates.now) }
+{
+    let mut results = Row::with_capacity(alloc, updates.len())?;
+    for update in updates {
+        results.push(take_item(alloc, lists, changes, update)?)?;
+    }
+    Ok(results)
+}
