@@ -1,9 +1,8 @@
 ghost use Rattle.std.specs.Prelude.{◌≡◌, ◌≢◌, ℕ, ◌≤◌, length, map, All, IfOk, OnOk, OnErr};
-ghost use Rattle.std.specs.List.{IsDistinct};
 ghost use Rattle.std.specs.List.Sorted.{IsStrictlySortedBy};
 ghost use Rattle.std.specs.Option.{option_copied};
 ghost use Rattle.rice_coding.specs.declared.fault.RiceFault.TheVariants as rice;
-ghost use Rattle.sb_model.specs.Names.{same_name, name_cmp};
+ghost use Rattle.sb_model.specs.Names.{name_cmp};
 ghost use Rattle.update_client.specs.Held.{Held, IsHeld, AreHeldLists, most_lists, nothing_held, nothing_held_of, tokens_of};
 ghost use Rattle.update_client.specs.Asked.{request_asked};
 ghost use Rattle.update_client.specs.Step.{list_named, after_updates, results_of};
@@ -81,10 +80,10 @@ fn know_each(lists: &[HeldList])
 }
 
 impl ClientLists {
-    /// The lists of these names, of which nothing was installed yet, in the order of the names.
+    /// The lists of these names, of which nothing was installed yet, in the order of the names. A name
+    /// that is given twice has one list.
     pub fn new(alloc: Global, names: &[ListName]) -> Result<ClientLists, OutOfMemory>
-        requires few { length names.now ≤ most_lists }
-        requires distinct { IsDistinct same_name names.now }
+        requires { length names.now ≤ most_lists }
         ensures { IfOk result (λ lists. lists ≡ nothing_held_of names.now) }
     {
         let names = ordered(alloc, names)?;

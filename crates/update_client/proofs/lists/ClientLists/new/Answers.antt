@@ -5,4 +5,4 @@ use Rattle.update_client.proofs.lists.ClientLists.new.Goals as goal
 
 pub invariant_of-result : goal.invariant_of-result
 invariant_of-result c =
-    born c.args.names.now c.in_ok-lists.lists.items (c.in_ok-lists.ensures ∙ ap (map nothing_held) (c.deref.ensures.value ∙ c.in_ok-names.ensures)) c.requires.few
+    born c.args.names.now c.in_ok-lists.lists.items (c.in_ok-lists.ensures ∙ ap (map nothing_held) (c.deref.ensures.value ∙ c.in_ok-names.ensures)) c.requires
