@@ -1,0 +1,12 @@
+mod Rules
+mod Dashes
+mod Run
+mod Lookups
+mod Turns
+mod Walking
+mod Barring
+mod Gathering
+mod Endings
+mod Readings
+mod Getters
+mod NumeralTexts

@@ -1,0 +1,4 @@
+pub mod CommandLine
+pub mod Rows
+pub mod Barred
+pub mod Values

@@ -1,0 +1,73 @@
+-- The values that options and positional words have to be.
+use Rattle.std.specs.Prelude.{ℕ, Bool, true, not, ◌&&◌, ◌||◌, ◌==◌, nat_lt, nat_le, if◌then◌else◌, List, [], ◌∷◌, length, slice_index, Option, Some, None, option_map, option_and_then}
+use Rattle.std.specs.Char.{is_ascii_digit, is_ascii_alphanumeric}
+use Rattle.std.specs.List.{list_any, list_all, before_first, after_first}
+use Rattle.std.specs.Result.{result_ok}
+use Rattle.std.specs.Str.Parse.{digits_value}
+use Rattle.sb_model.specs.declared.names.ListName.{ListName}
+use Rattle.sb_model.specs.Names.{name_of, same_name}
+use Rattle.sb_words.specs.CommandLine.{Text, is_value}
+
+-- ---- numbers
+
+-- `0`, or digits that do not begin with 0
+abbrev pub is_numeral : Text → Bool
+is_numeral text = list_all is_ascii_digit text && nat_lt 0 (length text) && (length text == 1 || not (slice_index text 0 == 48))
+
+abbrev pub within : ℕ → ℕ → ℕ → Option ℕ
+within low high number = if nat_le low number && nat_le number high then Some number else None
+
+-- the number that a text stands for, where it is from `low` to `high`
+abbrev pub number_of : ℕ → ℕ → Text → Option ℕ
+number_of low high text = if is_numeral text then within low high (digits_value 10 text) else None
+
+-- ---- lists
+
+-- the names that texts are
+abbrev pub names_of : List Text → Option (List ListName)
+names_of [] = Some []
+names_of (text ∷ texts) = option_and_then (λ name. option_map (λ names. name ∷ names) (names_of texts)) (result_ok (name_of text))
+
+abbrev pub has_each_once : List ListName → Bool
+has_each_once [] = true
+has_each_once (name ∷ names) = not (list_any (same_name name) names) && has_each_once names
+
+-- 1 to 8 names
+abbrev pub few_names_of : List Text → Option (List ListName)
+few_names_of texts = if nat_lt 0 (length texts) && nat_le (length texts) 8 then names_of texts else None
+
+-- names of which none stands twice
+abbrev pub different : List ListName → Option (List ListName)
+different names = if has_each_once names then Some names else None
+
+-- the lists that texts name: 1 to 8, each once, in the order of the texts
+unfoldable pub lists_of : List Text → Option (List ListName)
+lists_of texts = option_and_then different (few_names_of texts)
+
+-- ---- keys and addresses
+
+abbrev pub is_key_byte : ℕ → Bool
+is_key_byte byte = is_ascii_alphanumeric byte || byte == 45 || byte == 95
+
+-- letters, digits, `-` and `_`, of which the first is no `-`
+abbrev pub is_key : Text → Bool
+is_key text = is_value text && list_all is_key_byte text
+
+abbrev pub is_host_byte : ℕ → Bool
+is_host_byte byte = is_ascii_alphanumeric byte || byte == 46 || byte == 45
+
+-- letters, digits, `.` and `-`, of which the first is no `-`
+abbrev pub is_host : Text → Bool
+is_host text = is_value text && list_all is_host_byte text
+
+abbrev pub is_colon : ℕ → Bool
+is_colon byte = byte == 58
+
+-- a host and a port of 1 to 65535
+abbrev pub address_of : Text → Text → Option (Text × ℕ)
+address_of host port = if is_host host then option_map (λ number. (host, number)) (number_of 1 65535 port) else None
+
+-- the same with a colon between them
+unfoldable pub host_port_of : Text → Option (Text × ℕ)
+host_port_of text =
+    if list_any is_colon text then address_of (before_first is_colon text) (after_first is_colon text) else None

@@ -1,0 +1,14 @@
+//! The words of a command line, read by the shape of its command, and the values that they give.
+#![tactic(auto)]
+
+pub use named_lists::lists;
+pub use reading::{Words, read_words};
+pub use shape::{OptionKind, OptionShape, Shape};
+pub use values::{HostPort, host_port, key, number};
+
+mod barred;
+mod building;
+mod named_lists;
+mod reading;
+mod shape;
+mod values;
