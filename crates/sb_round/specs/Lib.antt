@@ -1,0 +1,5 @@
+pub mod Collision
+pub mod Honest
+pub mod Law
+pub mod Printed
+pub mod Run

@@ -1,0 +1,51 @@
+ghost use Rattle.std.specs.Prelude.{◌≡◌, ◌++◌, decimal, OnOk};
+ghost use Rattle.sb_model.specs.Names.{text_of};
+ghost use Rattle.sb_round.specs.Printed.{result_text, taken_text};
+
+use itoa::Buffer;
+use sb_model::{Bytes, ListName, OutOfMemory};
+use update_client::{ListResult, push_update_cause};
+
+/// Appends a number in decimal.
+pub fn push_number(page: &mut Bytes, number: u64) -> Result<(), OutOfMemory>
+    ensures { OnOk result (page.new ≡ page.old ++ decimal number) }
+{
+    let mut buffer = Buffer::new();
+    page.append(buffer.format(number).as_bytes())
+}
+
+/// Appends a list's name.
+pub fn push_name(page: &mut Bytes, name: ListName) -> Result<(), OutOfMemory>
+    ensures { OnOk result (page.new ≡ page.old ++ text_of name) }
+{
+    page.append(name.threat.word().as_bytes())?;
+    page.push(b'/')?;
+    page.append(name.platform.word().as_bytes())?;
+    page.push(b'/')?;
+    page.append(name.entry.word().as_bytes())
+}
+
+fn push_result(page: &mut Bytes, update: &ListResult) -> Result<(), OutOfMemory>
+    ensures { OnOk result (page.new ≡ page.old ++ result_text update.now) }
+{
+    match update {
+        ListResult::Installed(entries) => {
+            page.append(b"installed ")?;
+            push_number(page, u64::from(*entries))
+        }
+        ListResult::Refused(fault) => {
+            page.append(b"refused ")?;
+            push_update_cause(page, fault)
+        }
+        ListResult::NotKept => page.append(b"not-kept"),
+    }
+}
+
+/// Appends a list's name and what became of its update.
+pub fn push_taken(page: &mut Bytes, name: ListName, update: &ListResult) -> Result<(), OutOfMemory>
+    ensures { OnOk result (page.new ≡ page.old ++ taken_text name update.now) }
+{
+    push_name(page, name)?;
+    page.push(b' ')?;
+    push_result(page, update)
+}
