@@ -25,8 +25,10 @@ fn gather(reader: &mut RiceReader, block: &mut Bytes) -> Result<bool, RiceFault>
     ensures numbers { OnOk result (pieces_of 4 block.new ++ map (to_le_bytes w32) reader.new.values
         ≡ pieces_of 4 block.old ++ map (to_le_bytes w32) reader.old.values) }
     ensures kept { OnOk result (reader.new.fault ≡ reader.old.fault) }
-    ensures fewer { IfOk result (λ ended. ended ≡ false → length reader.new.values < length reader.old.values) }
-    ensures ended { IfOk result (λ ended. ended ≡ true → (reader.new.values ≡ []) × (reader.old.fault ≡ None)) }
+    ensures fewer { IfOk result (λ ended.
+        ended ≡ false → length reader.new.values < length reader.old.values) }
+    ensures ended { IfOk result (λ ended.
+        ended ≡ true → (reader.new.values ≡ []) × (reader.old.fault ≡ None)) }
     ensures fault { IfErr result (IsFaultOf (outcome_of reader.old.values reader.old.fault)) }
 {
     for _gathered in 0..GATHERED {
@@ -57,7 +59,8 @@ fn add_numbers(edit: &mut Edit, reader: RiceReader, block: &mut Bytes) -> Result
 
 // Removes the members at the places that a reader gives.
 fn remove_numbers(edit: &mut Edit, reader: RiceReader) -> Result<(), RiceFault>
-    ensures ok { OnOk result (IsOkAnd (outcome_of reader.entry.values reader.entry.fault) (Removes edit.old edit.new)) }
+    ensures ok { OnOk result
+        (IsOkAnd (outcome_of reader.entry.values reader.entry.fault) (Removes edit.old edit.new)) }
     ensures fault { IfErr result (IsFaultOf (outcome_of reader.entry.values reader.entry.fault)) }
 {
     let mut reader = reader;

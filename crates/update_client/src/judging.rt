@@ -1,4 +1,4 @@
-ghost use Rattle.std.specs.Prelude.{◌≡◌, ◌&&◌, ℕ, List, [], None, Some, Ok, not, IfOk, OnOk, IfErr, ◌⊎◌, if◌then◌else◌};
+ghost use Rattle.std.specs.Prelude.{◌≡◌, ◌⊎◌, ◌&&◌, [], None, Some, Ok, not, IfOk, OnOk, IfErr, if◌then◌else◌};
 ghost use Rattle.std.specs.Str.{bytes_eq};
 ghost use Rattle.prefix_set.specs.Apply.{applied, apply_fault};
 ghost use Rattle.update_client.specs.Held.{digest_of};
@@ -25,7 +25,8 @@ pub(crate) enum Judgement {
 
 // Whether an update was made for another state than the held one.
 fn is_stale(token: &Bytes, update: &ListUpdate) -> bool
-    ensures { result ≡ (not update.now.full && not (bytes_eq update.now.base []) && not (bytes_eq update.now.base token.now)) }
+    ensures { result ≡ (not update.now.full && not (bytes_eq update.now.base [])
+        && not (bytes_eq update.now.base token.now)) }
 {
     !update.full && !update.base.is_empty() && update.base.as_slice() != token.as_slice()
 }
@@ -49,9 +50,11 @@ fn stale(
 
 // Makes the change of a set, or of the empty one for a full update.
 fn merged(alloc: Global, set: &PrefixSet, full: bool, edit: Edit) -> Result<Merged, ApplyFault>
-    ensures ok { IfOk result (λ merged. merged.set ≡ applied (if full then [] else set.now) edit.removals edit.additions) }
+    ensures ok { IfOk result (λ merged.
+        merged.set ≡ applied (if full then [] else set.now) edit.removals edit.additions) }
     ensures digest { IfOk result (λ merged. merged.digest ≡ digest_of merged.set) }
-    ensures within { OnOk result (apply_fault (if full then [] else set.now) edit.removals edit.additions ≡ None) }
+    ensures within { OnOk result
+        (apply_fault (if full then [] else set.now) edit.removals edit.additions ≡ None) }
     ensures fault { IfErr result (λ fault. (fault ≡ ApplyFault.OutOfMemory)
         ⊎ (apply_fault (if full then [] else set.now) edit.removals edit.additions ≡ Some fault)) }
 {

@@ -157,9 +157,13 @@ impl ClientLists {
         response: &FetchResponse,
     ) -> Result<Row<ListResult>, OutOfMemory>
         ensures lists { OnOk result (self.new ≡ after_updates self.old response.now.items) }
-        ensures results { IfOk result (λ results. results ≡ results_of self.old response.now.items) }
-        ensures no_memory { IfOk result (All (λ outcome. outcome ≢ ListResult.Refused (UpdateFault.Rice rice.OutOfMemory))) }
+        ensures results { IfOk result
+            (λ results. results ≡ results_of self.old response.now.items) }
         ensures err { OnErr result (self.new ≡ self.old) }
+
+        // Want of memory is no cause of a refusal.
+        ensures no_memory { IfOk result
+            (All (λ outcome. outcome ≢ ListResult.Refused (UpdateFault.Rice rice.OutOfMemory))) }
     {
         let mut changes = no_changes(alloc, &self.lists)?;
         let results = take_items(alloc, &self.lists, &mut changes, response.items.as_slice())?;

@@ -1,4 +1,4 @@
-ghost use Rattle.std.specs.Prelude.{◌≡◌, ℕ, List, length, map, position, IfOk, OnOk, OnErr};
+ghost use Rattle.std.specs.Prelude.{◌≡◌, length, map, position, IfOk, OnOk};
 ghost use Rattle.std.specs.List.Sorted.{IsStrictlySortedBy};
 ghost use Rattle.sb_model.specs.Names.{same_name, name_cmp};
 ghost use Rattle.update_client.specs.Held.{Held};
@@ -36,7 +36,8 @@ fn take_update(
     change: &mut Change,
     update: &ListUpdate,
 ) -> Result<ListResult, OutOfMemory>
-    ensures list { OnOk result (changed held.now change.new ≡ list_step (changed held.now change.old) update.now) }
+    ensures list { OnOk result
+        (changed held.now change.new ≡ list_step (changed held.now change.old) update.now) }
     ensures outcome { IfOk result (λ outcome. outcome ≡ result_of (changed held.now change.old) update.now) }
 {
     match judge(alloc, held, change, update)? {
@@ -63,8 +64,10 @@ fn take_item(
 ) -> Result<ListResult, OutOfMemory>
     requires each { length changes.old ≡ length lists.now }
     requires rising { IsStrictlySortedBy name_cmp (map (λ (held : Held). held.name) lists.now) }
-    ensures lists { OnOk result (all_changed lists.now changes.new ≡ after_update (all_changed lists.now changes.old) update.now) }
-    ensures outcome { IfOk result (λ outcome. outcome ≡ result_among (all_changed lists.now changes.old) update.now) }
+    ensures lists { OnOk result (all_changed lists.now changes.new
+        ≡ after_update (all_changed lists.now changes.old) update.now) }
+    ensures outcome { IfOk result (λ outcome.
+        outcome ≡ result_among (all_changed lists.now changes.old) update.now) }
 {
     match place_of(lists, update.name) {
         Some(place) => take_update(alloc, &lists[place], &mut changes[place], update),
@@ -81,8 +84,10 @@ pub(crate) fn take_items(
 ) -> Result<Row<ListResult>, OutOfMemory>
     requires each { length changes.old ≡ length lists.now }
     requires rising { IsStrictlySortedBy name_cmp (map (λ (held : Held). held.name) lists.now) }
-    ensures lists { OnOk result (all_changed lists.now changes.new ≡ after_updates (all_changed lists.now changes.old) updates.now) }
-    ensures results { IfOk result (λ results. results ≡ results_of (all_changed lists.now changes.old) updates.now) }
+    ensures lists { OnOk result (all_changed lists.now changes.new
+        ≡ after_updates (all_changed lists.now changes.old) updates.now) }
+    ensures results { IfOk result (λ results.
+        results ≡ results_of (all_changed lists.now changes.old) updates.now) }
 {
     let mut results = Row::with_capacity(alloc, updates.len())?;
     for update in updates {

@@ -32,6 +32,10 @@ fn causes_that_carry_numbers(rt: HostRuntime) -> Result<(), Fail> {
             "rice left-over 15",
         ),
         (
+            UpdateFault::Rice(RiceFault::OutOfMemory),
+            "rice out-of-memory",
+        ),
+        (
             UpdateFault::IndexRange { index: 3, len: 2 },
             "index-range 3 2",
         ),
