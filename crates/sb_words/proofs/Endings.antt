@@ -25,7 +25,7 @@ use Rattle.sb_words.specs.CommandLine.{has_no_repeat, has_plain_names, is_needed
 use Rattle.sb_words.specs.Rows.{FindsValues, by_words, positional_id, row_named, value_in_rows}
 use Rattle.sb_words.proofs.Rules.{filled_kind, filled_option, filled_positional, filled_rules, last_rules, top_with}
 use Rattle.sb_words.proofs.Lookups.{both_true, plain_name}
-use Rattle.sb_words.proofs.Run.{none_of}
+use Rattle.sb_words.specs.ClapCommand.{none_of}
 use Rattle.sb_words.proofs.Gathering.{Holds, all_explicit, among_cons, among_push, at_missing, find_push, is_among, is_fresh, new_row, positionals_in, rows_have}
 
 -- ---- each name once, from either end

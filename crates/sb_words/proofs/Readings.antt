@@ -20,11 +20,13 @@ use Rattle.sb_words.specs.declared.shape.OptionShape.{OptionShape}
 use Rattle.sb_words.specs.declared.shape.Shape.{Shape}
 use Rattle.sb_words.specs.CommandLine.{Given, Meaning, Piece, Text, after_dash, awaits, dashed_meaning, ends, first_piece, found_meaning, given_by, given_of, has_no_repeat, has_none, has_plain_names, is_supplied, is_value, kind_meaning, meaning_of, name_in, named_of, option, option_meaning, option_named, pieces_after, pieces_from, positional, positionals_of, refused, says, value_in, word_meaning}
 use Rattle.sb_words.specs.Barred.{has_barred}
-use Rattle.sb_words.specs.Rows.{FindsValues, app_for, given_in, positional_id, row_named}
+use Rattle.sb_words.specs.Rows.{FindsValues, given_in, positional_id, row_named}
+use Rattle.sb_words.specs.ClapCommand.{app_for}
 use Rattle.sb_words.proofs.Barring.{barred_says_nothing}
 use Rattle.sb_words.proofs.Rules.{built_is, built_with, filled_rules, simple, simple_and_free, top_with}
 use Rattle.sb_words.proofs.Lookups.{both_true, finds, named_is, plain_name}
-use Rattle.sb_words.proofs.Run.{none_of, none_of_both, pieces_use, run_is, settled_rows_of, use_of}
+use Rattle.sb_words.specs.ClapCommand.{none_of}
+use Rattle.sb_words.proofs.Run.{none_of_both, pieces_use, run_is, settled_rows_of, use_of}
 use Rattle.sb_words.proofs.Walking.{walks}
 use Rattle.sb_words.proofs.Gathering.{Holds, Uses, all_explicit, all_used, is_plain_piece, unused, used}
 use Rattle.sb_words.proofs.Endings.{check_is, finds_values, finished_says_same, fresh_from_start, no_default_fault}

@@ -12,7 +12,7 @@ use Rattle.sb_words.specs.declared.shape.OptionKind.{OptionKind}
 use Rattle.sb_words.specs.declared.shape.OptionKind.TheVariants.{Needed, Optional, Flag}
 use Rattle.sb_words.specs.declared.shape.OptionShape.{OptionShape}
 use Rattle.sb_words.specs.declared.shape.Shape.{Shape}
-use Rattle.sb_words.specs.Rows.{app_for, kind_rule, named_rule, option_rule, positional_rule, rules_for, with_rules}
+use Rattle.sb_words.specs.ClapCommand.{app_for, kind_rule, named_rule, option_rule, positional_rule, rules_for, with_rules}
 
 -- an option that takes a value, with what building fills in
 abbrev pub set_rule : Bool → Text → Rule

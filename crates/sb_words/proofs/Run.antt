@@ -7,12 +7,9 @@ use Rattle.clap.specs.Faults.{settle_fault, turn_fault, walk_fault}
 use Rattle.clap.specs.declared.builder.value_parser.Reading.TheVariants.{AsWritten}
 use Rattle.clap.specs.declared.parser.matches.ValueSource.TheVariants.{CommandLine}
 use Rattle.sb_words.specs.CommandLine.{Piece, option, flag, positional, first_piece}
+use Rattle.sb_words.specs.ClapCommand.{none_of}
 use Rattle.sb_words.specs.Rows.{positional_id}
 use Rattle.sb_words.proofs.Rules.{top_with}
-
-abbrev pub none_of : Kinds → Bool
-none_of [] = true
-none_of (k ∷ ks) = false
 
 pub none_of_both : (a b : Kinds) → none_of (or_else a b) ≡ (none_of a && none_of b)
 none_of_both [] b = refl

@@ -13,7 +13,8 @@ use Rattle.sb_words.specs.CommandLine.{after_dash}
 use Rattle.sb_words.specs.Rows.{positional_id}
 use Rattle.sb_words.proofs.Rules.{filled_positional, flag_rule, set_rule, top_with}
 use Rattle.sb_words.proofs.Dashes.{plain_ends, plain_long, plain_short}
-use Rattle.sb_words.proofs.Run.{none_of, run}
+use Rattle.sb_words.specs.ClapCommand.{none_of}
+use Rattle.sb_words.proofs.Run.{run}
 
 abbrev pub at_walk : Held → Waiting → Bool → Walk
 at_walk h waiting is_trailing =

@@ -21,7 +21,8 @@ use Rattle.sb_words.specs.Rows.{positional_id}
 use Rattle.sb_words.proofs.Rules.{filled_kind, filled_option, filled_positional, flag_rule, set_rule, top_with}
 use Rattle.sb_words.proofs.Dashes.{by_dashes, one_dash_barred}
 use Rattle.sb_words.proofs.Lookups.{Finds, named_is}
-use Rattle.sb_words.proofs.Run.{none_of, none_of_both, named_use, piece_use, run, settled_rows_of, use_first, use_of}
+use Rattle.sb_words.specs.ClapCommand.{none_of}
+use Rattle.sb_words.proofs.Run.{none_of_both, named_use, piece_use, run, settled_rows_of, use_first, use_of}
 use Rattle.sb_words.proofs.Turns.{and_false, and_true, at_walk, fault_is, flag_use_fault, met_is, plain_fault, plain_met, run_by, run_positional, run_stray, set_use_fault}
 
 abbrev pub resting : Bool → Waiting

@@ -1,4 +1,5 @@
 pub mod CommandLine
-pub mod Rows
 pub mod Barred
+pub mod Rows
+pub mod ClapCommand
 pub mod Values

@@ -1,6 +1,6 @@
-ghost use Rattle.std.specs.Prelude.{◌≡◌, ◌++◌, ◌∷◌, [], IfOk, map, false};
+ghost use Rattle.std.specs.Prelude.{◌≡◌, ◌++◌, ◌∷◌, [], IfOk, map, Some, false};
 ghost use Rattle.clap.specs.Words.{app_of, rule_of, with_rule};
-ghost use Rattle.sb_words.specs.Rows.{app_for, option_rule, positional_rule, with_rules};
+ghost use Rattle.sb_words.specs.ClapCommand.{app_for, option_rule, positional_rule, with_rules};
 
 use crate::{OptionKind, OptionShape, Shape};
 use clap::builder::ValueParser;
@@ -10,21 +10,25 @@ use std::alloc::{AllocError, Global};
 /// The id of the positional words, which no option has for its name.
 pub(crate) const POSITIONALS: &str = "--";
 
+/// An argument with one value that is not empty, at most once.
+fn with_value<'a>(arg: Arg<'a>) -> Arg<'a>
+    ensures rule { rule_of result ≡ record (rule_of arg.entry) { action = Some ArgAction.Set; parser = Some ValueParser.NonEmptyString } }
+    ensures local { result.global ≡ arg.entry.global }
+{
+    arg.action(ArgAction::Set)
+        .value_parser(ValueParser::NonEmptyString)
+}
+
 /// An option, as `clap` takes it.
-#[tactic(auto, unfolding(crate::specs::Rows::option_rule))]
+#[tactic(auto, unfolding(crate::specs::ClapCommand::option_rule))]
 fn option_arg<'a>(alloc: Global, option: &OptionShape) -> Arg<'a>
     ensures rule { rule_of result ≡ option_rule option.now }
     ensures local { result.global ≡ false }
 {
     let arg = Arg::new(alloc, option.name).long(option.name);
     match option.kind {
-        OptionKind::Needed => arg
-            .required(true)
-            .action(ArgAction::Set)
-            .value_parser(ValueParser::NonEmptyString),
-        OptionKind::Optional => arg
-            .action(ArgAction::Set)
-            .value_parser(ValueParser::NonEmptyString),
+        OptionKind::Needed => with_value(arg.required(true)),
+        OptionKind::Optional => with_value(arg),
         OptionKind::Flag => arg.action(ArgAction::SetTrue),
     }
 }

@@ -2,7 +2,7 @@ use Rattle.std.proofs.Common.{◌≡◌, ◌∙◌, ap, sym, ℕ, ◌+◌, ◌<�
 use Rattle.std.proofs.lemmas.List.{map-append, take_more}
 use Rattle.clap.specs.Words.{App, with_rule}
 use Rattle.sb_words.specs.declared.shape.OptionShape.{OptionShape}
-use Rattle.sb_words.specs.Rows.{option_rule, with_rules}
+use Rattle.sb_words.specs.ClapCommand.{option_rule, with_rules}
 use Rattle.sb_words.proofs.building.with_options.Goals as goal
 
 one_more : (old new : App) (options : List OptionShape) (i : ℕ) (o : OptionShape) → i < length options → o ≡ slice_index_or options i o

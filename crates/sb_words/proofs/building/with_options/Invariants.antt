@@ -1,6 +1,6 @@
 use Rattle.std.proofs.Common.{◌≡◌, map, take}
 use Rattle.clap.specs.Words.{app_of}
-use Rattle.sb_words.specs.Rows.{option_rule, with_rules}
+use Rattle.sb_words.specs.ClapCommand.{option_rule, with_rules}
 use Rattle.sb_words.proofs.building.with_options.Given as goal
 
 abbrev pub invariant-loop-option : goal.invariant-loop-option
