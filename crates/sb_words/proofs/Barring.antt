@@ -7,8 +7,7 @@ use Rattle.std.proofs.lemmas.Bool.{false≢true}
 use lib.Dec.{leb-suc-suc, leb-zero}
 use Rattle.sb_words.specs.declared.shape.OptionKind.{OptionKind}
 use Rattle.sb_words.specs.declared.shape.OptionKind.TheVariants.{Needed, Optional, Flag}
-use Rattle.sb_words.specs.declared.shape.OptionShape.{OptionShape}
-use Rattle.sb_words.specs.CommandLine.{Meaning, Piece, Text, after_dash, awaits, dashed_meaning, ends, first_piece, found_meaning, is_equals, is_value, kind_meaning, meaning_of, name_in, option, option_named, pieces_after, pieces_from, positional, refused, says, value_in, word_meaning}
+use Rattle.sb_words.specs.CommandLine.{after_dash, awaits, CommandOption, dashed_meaning, ends, first_piece, found_meaning, is_equals, is_value, kind_meaning, Meaning, meaning_of, name_in, option, option_named, Piece, pieces_after, pieces_from, positional, refused, says, Text, value_in, word_meaning}
 use Rattle.sb_words.specs.Barred.{ends_options, has_barred, is_barred, is_barred_after}
 use Rattle.sb_words.proofs.Dashes.{by_dashes}
 
@@ -34,12 +33,12 @@ refused_kind Flag name (Some v) e = refl
 refused_kind Needed name (Some v) e = rw (dash_is_no_value v e) refl
 refused_kind Optional name (Some v) e = rw (dash_is_no_value v e) refl
 
-refused_found : (found : Option OptionShape) (name : Text) (v : Option Text) → option_map_or (λ value. is_some (after_dash value)) v false ≡ true → found_meaning found name v ≡ refused
+refused_found : (found : Option CommandOption) (name : Text) (v : Option Text) → option_map_or (λ value. is_some (after_dash value)) v false ≡ true → found_meaning found name v ≡ refused
 refused_found None name v e = refl
 refused_found (Some o) name v e = refused_kind o.kind name v e
 
 -- a barred word is no value, and is refused
-barred_means : (options : List OptionShape) (word : Text) → is_barred word ≡ true → (is_value word ≡ false) × (meaning_of options word ≡ refused)
+barred_means : (options : List CommandOption) (word : Text) → is_barred word ≡ true → (is_value word ≡ false) × (meaning_of options word ≡ refused)
 barred_means options = by_dashes (λ word. is_barred word ≡ true → (is_value word ≡ false) × (meaning_of options word ≡ refused))
     (λ word e bar. absurd (false≢true (sym (ap (λ o. option_map_or (λ rest. is_barred_after (after_dash rest)) o false) e) ∙ bar)))
     (λ rest e bar. (refl, ap (dashed_meaning options) e))
@@ -59,11 +58,11 @@ kind_does_not_end Needed name (Some v) e = value_does_not_end name v (is_value v
 kind_does_not_end Optional name None e = cc
 kind_does_not_end Optional name (Some v) e = value_does_not_end name v (is_value v) e
 
-found_does_not_end : (found : Option OptionShape) (name : Text) (v : Option Text) → found_meaning found name v ≡ ends → ⊥
+found_does_not_end : (found : Option CommandOption) (name : Text) (v : Option Text) → found_meaning found name v ≡ ends → ⊥
 found_does_not_end None name v e = cc
 found_does_not_end (Some o) name v e = kind_does_not_end o.kind name v e
 
-does_not_end : (options : List OptionShape) (word : Text) → ends_options word ≡ false → meaning_of options word ≡ ends → ⊥
+does_not_end : (options : List CommandOption) (word : Text) → ends_options word ≡ false → meaning_of options word ≡ ends → ⊥
 does_not_end options = by_dashes (λ word. ends_options word ≡ false → meaning_of options word ≡ ends → ⊥)
     (λ word e two is. let bad : says (positional word) ≡ ends = sym (ap (word_meaning options word) e) ∙ is in cc)
     (λ rest e two is. let bad : refused ≡ ends = sym (ap (dashed_meaning options) e) ∙ is in cc)
@@ -73,7 +72,7 @@ does_not_end options = by_dashes (λ word. ends_options word ≡ false → meani
 nothing_first : (piece : Piece) (o : Option (List Piece)) → o ≡ None → first_piece piece o ≡ None
 nothing_first piece o e = ap (first_piece piece) e
 
-pub barred_says_nothing : (options : List OptionShape) (words : List Text) (awaited : Option Text) → has_barred words ≡ true → pieces_after options awaited words ≡ None
+pub barred_says_nothing : (options : List CommandOption) (words : List Text) (awaited : Option Text) → has_barred words ≡ true → pieces_after options awaited words ≡ None
 unfolding pieces_after
 barred_says_nothing options [] awaited bar = absurd (false≢true bar)
 barred_says_nothing options (word ∷ words) awaited bar = step (λ a. barred_says_nothing options words a) (ends_options word) (is_barred word) refl refl

@@ -19,9 +19,7 @@ use Rattle.clap.specs.declared.parser.matches.ValueSource.{ValueSource}
 use Rattle.clap.specs.declared.parser.matches.ValueSource.TheVariants.{CommandLine, DefaultValue}
 use Rattle.sb_words.specs.declared.shape.OptionKind.{OptionKind}
 use Rattle.sb_words.specs.declared.shape.OptionKind.TheVariants.{Needed, Optional, Flag}
-use Rattle.sb_words.specs.declared.shape.OptionShape.{OptionShape}
-use Rattle.sb_words.specs.declared.shape.Shape.{Shape}
-use Rattle.sb_words.specs.CommandLine.{has_no_repeat, has_plain_names, is_needed, is_supplied, is_value, value_among}
+use Rattle.sb_words.specs.CommandLine.{CommandOption, CommandShape, has_no_repeat, has_plain_names, is_needed, is_supplied, is_value, value_among}
 use Rattle.sb_words.specs.Rows.{FindsValues, by_words, positional_id, row_named, value_in_rows}
 use Rattle.sb_words.proofs.Rules.{filled_kind, filled_option, filled_positional, filled_rules, last_rules, top_with}
 use Rattle.sb_words.proofs.Lookups.{both_true, plain_name}
@@ -165,17 +163,17 @@ last_says_same : (rows : List Row) (takes : Bool) → SaysSame rows (fold with_d
 last_says_same rows true = default_says_same rows filled_positional (positional_defaults rows)
 last_says_same rows false = says_none rows
 
-defaults_say_same : (options : List OptionShape) (takes : Bool) (rows : List Row) → list_all (λ o. is_value o.name.now) options ≡ true
+defaults_say_same : (options : List CommandOption) (takes : Bool) (rows : List Row) → list_all (λ o. is_value o.name) options ≡ true
     → SaysSame rows (fold with_default rows (map filled_option options ++ last_rules takes))
 defaults_say_same [] takes rows plain = last_says_same rows takes
 defaults_say_same (o ∷ options) takes rows plain =
-    let parts = both_true (is_value o.name.now) _ plain in
+    let parts = both_true (is_value o.name) _ plain in
     says_both rows (with_default rows (filled_option o)) _
-    (default_says_same rows (filled_option o) (option_defaults rows o.kind o.name.now (plain_name o.name.now parts.0)))
+    (default_says_same rows (filled_option o) (option_defaults rows o.kind o.name (plain_name o.name parts.0)))
     (defaults_say_same options takes (with_default rows (filled_option o)) parts.1)
 
-pub finished_says_same : (shape : Shape) (rows : List Row) → has_plain_names shape ≡ true → SaysSame rows (fold with_default rows (filled_rules shape))
-finished_says_same shape rows plain = defaults_say_same shape.options.now shape.takes_positionals rows plain
+pub finished_says_same : (shape : CommandShape) (rows : List Row) → has_plain_names shape ≡ true → SaysSame rows (fold with_default rows (filled_rules shape))
+finished_says_same shape rows plain = defaults_say_same shape.options shape.takes_positionals rows plain
 
 -- a default passes
 needless_default : (b : Bool) (fault : Kinds) → (if b || true then [] else fault) ≡ []
@@ -196,12 +194,12 @@ unfolding defaults_fault
 last_default_fault rows true = ap (λ (f : Kinds). or_else f []) (needless_default (has_row positional_id rows) _)
 last_default_fault rows false = refl
 
-pub no_default_fault : (options : List OptionShape) (takes : Bool) (rows : List Row) → defaults_fault rows (map filled_option options ++ last_rules takes) ≡ []
+pub no_default_fault : (options : List CommandOption) (takes : Bool) (rows : List Row) → defaults_fault rows (map filled_option options ++ last_rules takes) ≡ []
 unfolding defaults_fault
 no_default_fault [] takes rows = last_default_fault rows takes
 no_default_fault (o ∷ options) takes rows =
     ap (λ (f : Kinds). or_else f (defaults_fault (with_default rows (filled_option o)) (map filled_option options ++ last_rules takes)))
-    (option_default_fault rows o.kind o.name.now)
+    (option_default_fault rows o.kind o.name)
     ∙ no_default_fault options takes (with_default rows (filled_option o))
 
 -- ---- what is needed
@@ -235,27 +233,27 @@ not_both : (a b : Bool) → (not a || not b) ≡ not (a && b)
 not_both true b = refl
 not_both false b = refl
 
-missed : (options : List OptionShape) (takes : Bool) (rows : List Row) (named : List (Text × Text))
+missed : (options : List CommandOption) (takes : Bool) (rows : List Row) (named : List (Text × Text))
     → ((name : Text) → bytes_eq name positional_id ≡ false → is_given name rows ≡ is_among name named)
-    → list_all (λ o. is_value o.name.now) options ≡ true
+    → list_all (λ o. is_value o.name) options ≡ true
     → list_any (λ (a : Rule). a.required && not (is_given a.id rows)) (map filled_option options ++ last_rules takes) ≡ not (list_all (is_supplied named) options)
 missed [] takes rows named given plain = none_missed_last rows takes
 missed (o ∷ options) takes rows named given plain =
-    let parts = both_true (is_value o.name.now) _ plain in
-    ap₂ (λ a b. a || b) (option_missed rows named o.kind o.name.now (given o.name.now (plain_name o.name.now parts.0))) (missed options takes rows named given parts.1)
+    let parts = both_true (is_value o.name) _ plain in
+    ap₂ (λ a b. a || b) (option_missed rows named o.kind o.name (given o.name (plain_name o.name parts.0))) (missed options takes rows named given parts.1)
     ∙ not_both (is_supplied named o) (list_all (is_supplied named) options)
 
 -- the last checks ask for what is needed
-pub check_is : (shape : Shape) (rows : List Row) → has_plain_names shape ≡ true → all_explicit rows ≡ true
+pub check_is : (shape : CommandShape) (rows : List Row) → has_plain_names shape ≡ true → all_explicit rows ≡ true
     → none_of (check_fault (top_with (filled_rules shape)) (fold with_default rows (filled_rules shape)) false)
-    ≡ list_all (is_supplied (filter_map row_named rows)) shape.options.now
+    ≡ list_all (is_supplied (filter_map row_named rows)) shape.options
 check_is shape rows plain explicit =
     let after = fold with_default rows (filled_rules shape) in
     let same = finished_says_same shape rows plain in
     ap (λ b. none_of (if b then MissingRequiredArgument ∷ [] else []))
-    (missed shape.options.now shape.takes_positionals after (filter_map row_named rows)
+    (missed shape.options shape.takes_positionals after (filter_map row_named rows)
     (λ name p. same.given name ∙ given_is name rows explicit ∙ rows_have name rows p explicit) plain)
-    ∙ go (list_all (is_supplied (filter_map row_named rows)) shape.options.now)
+    ∙ go (list_all (is_supplied (filter_map row_named rows)) shape.options)
   where
     go : (b : Bool) → none_of (if not b then MissingRequiredArgument ∷ [] else []) ≡ b
     go true = refl
@@ -283,7 +281,7 @@ first_of_found None (Some v) e = cc
 first_of_found (Some r) None e = cc
 first_of_found (Some r) (Some v) e = cc
 
-pub finds_values : (shape : Shape) (rows : List Row) (named : List (Text × Text)) (positionals : List Text) → has_plain_names shape ≡ true → Holds rows named positionals
+pub finds_values : (shape : CommandShape) (rows : List Row) (named : List (Text × Text)) (positionals : List Text) → has_plain_names shape ≡ true → Holds rows named positionals
     → FindsValues (fold with_default rows (filled_rules shape))
 finds_values shape rows named positionals plain h name p =
     let same = finished_says_same shape rows plain in

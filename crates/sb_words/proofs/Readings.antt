@@ -16,9 +16,7 @@ use Rattle.clap.specs.Faults.{built_fault, check_fault, defaults_fault, settle_f
 use Rattle.clap.proofs.FaultLemmas.{leaf_fault}
 use Rattle.sb_words.specs.declared.shape.OptionKind.{OptionKind}
 use Rattle.sb_words.specs.declared.shape.OptionKind.TheVariants.{Needed, Optional, Flag}
-use Rattle.sb_words.specs.declared.shape.OptionShape.{OptionShape}
-use Rattle.sb_words.specs.declared.shape.Shape.{Shape}
-use Rattle.sb_words.specs.CommandLine.{Given, Meaning, Piece, Text, after_dash, awaits, dashed_meaning, ends, first_piece, found_meaning, given_by, given_of, has_no_repeat, has_none, has_plain_names, is_supplied, is_value, kind_meaning, meaning_of, name_in, named_of, option, option_meaning, option_named, pieces_after, pieces_from, positional, positionals_of, refused, says, value_in, word_meaning}
+use Rattle.sb_words.specs.CommandLine.{after_dash, awaits, CommandOption, CommandShape, dashed_meaning, ends, first_piece, found_meaning, Given, given_by, given_of, has_no_repeat, has_none, has_plain_names, is_supplied, is_value, kind_meaning, Meaning, meaning_of, name_in, named_of, option, option_meaning, option_named, Piece, pieces_after, pieces_from, positional, positionals_of, refused, says, Text, value_in, word_meaning}
 use Rattle.sb_words.specs.Barred.{has_barred}
 use Rattle.sb_words.specs.Rows.{FindsValues, given_in, positional_id, row_named}
 use Rattle.sb_words.specs.ClapCommand.{app_for}
@@ -44,25 +42,25 @@ plain_positionals : (words : List Text) → list_all is_plain_piece (map positio
 plain_positionals [] = refl
 plain_positionals (word ∷ words) = plain_positionals words
 
-module _ (options : List OptionShape) (plain : list_all (λ o. is_value o.name.now) options ≡ true) where
+module _ (options : List CommandOption) (plain : list_all (λ o. is_value o.name) options ≡ true) where
   -- a name that finds an option
   abbrev IsPlain : Text → Type 0
   IsPlain name = bytes_eq name positional_id ≡ false
 
-  plain_found : (some : List OptionShape) → list_all (λ o. is_value o.name.now) some ≡ true → (name : Text) (o : OptionShape) → option_named some name ≡ Some o → is_value o.name.now ≡ true
+  plain_found : (some : List CommandOption) → list_all (λ o. is_value o.name) some ≡ true → (name : Text) (o : CommandOption) → option_named some name ≡ Some o → is_value o.name ≡ true
   plain_found [] all name o e = cc
   plain_found (x ∷ some) all name o e =
-      let parts = both_true (is_value x.name.now) _ all in
-      go (bytes_eq x.name.now name) refl parts.0 (λ f. plain_found some parts.1 name o f)
+      let parts = both_true (is_value x.name) _ all in
+      go (bytes_eq x.name name) refl parts.0 (λ f. plain_found some parts.1 name o f)
     where
-      go : (b : Bool) → bytes_eq x.name.now name ≡ b → is_value x.name.now ≡ true → (option_named some name ≡ Some o → is_value o.name.now ≡ true) → is_value o.name.now ≡ true
+      go : (b : Bool) → bytes_eq x.name name ≡ b → is_value x.name ≡ true → (option_named some name ≡ Some o → is_value o.name ≡ true) → is_value o.name ≡ true
       go true t own later =
           let same : Some x ≡ Some o = sym (ap (λ b. cond b (Some x) (option_named some name)) t) ∙ e in
           let one : x ≡ o = cc in
-          ap (λ (y : OptionShape). is_value y.name.now) (sym one) ∙ own
+          ap (λ (y : CommandOption). is_value y.name) (sym one) ∙ own
       go false t own later = later (sym (ap (λ b. cond b (Some x) (option_named some name)) t) ∙ e)
 
-  name_is_plain : (name : Text) (o : OptionShape) → option_named options name ≡ Some o → IsPlain name
+  name_is_plain : (name : Text) (o : CommandOption) → option_named options name ≡ Some o → IsPlain name
   name_is_plain name o e = plain_name name (ap is_value (sym (named_is options name o e)) ∙ plain_found options plain name o e)
 
   -- what a meaning may name
@@ -91,7 +89,7 @@ module _ (options : List OptionShape) (plain : list_all (λ o. is_value o.name.n
   plain_option [] = tt
   plain_option (b ∷ bs) = go (option_named options (name_in (b ∷ bs))) refl
     where
-      go : (f : Option OptionShape) → option_named options (name_in (b ∷ bs)) ≡ f → PlainMeaning (found_meaning f (name_in (b ∷ bs)) (value_in (b ∷ bs)))
+      go : (f : Option CommandOption) → option_named options (name_in (b ∷ bs)) ≡ f → PlainMeaning (found_meaning f (name_in (b ∷ bs)) (value_in (b ∷ bs)))
       go None e = tt
       go (Some o) e = plain_kind o.kind (name_in (b ∷ bs)) (value_in (b ∷ bs)) (name_is_plain (name_in (b ∷ bs)) o e)
 
@@ -130,9 +128,9 @@ module _ (options : List OptionShape) (plain : list_all (λ o. is_value o.name.n
 
 -- ---- what the rows of pieces give
 
-abbrev given_if : Shape → List Row → Option Given
+abbrev given_if : CommandShape → List Row → Option Given
 given_if shape rows =
-    if list_all (is_supplied (filter_map row_named rows)) shape.options.now then Some (given_in rows) else None
+    if list_all (is_supplied (filter_map row_named rows)) shape.options then Some (given_in rows) else None
 
 nothing_yet : Holds [] [] []
 nothing_yet = record { named_is = refl; positionals_is = refl; explicit = refl; finds = λ name plain. refl }
@@ -147,18 +145,18 @@ not_both_and true true c e = e
 not_both_and true false c e = refl
 not_both_and false b c e = refl
 
-given_use : (shape : Shape) (pieces : List Piece) → Uses shape.takes_positionals pieces [] [] []
+given_use : (shape : CommandShape) (pieces : List Piece) → Uses shape.takes_positionals pieces [] [] []
     → given_by shape pieces ≡ option_and_then (given_if shape) (pieces_use shape.takes_positionals pieces [])
 given_use shape pieces (used rows is ok holds) =
     ap (λ b. if b then Some (record { named = named_of pieces; positionals = positionals_of pieces }) else None)
-    (both_and (has_no_repeat (named_of pieces)) (list_all (is_supplied (named_of pieces)) shape.options.now) _
+    (both_and (has_no_repeat (named_of pieces)) (list_all (is_supplied (named_of pieces)) shape.options) _
     (sym (ap (λ b. b && (shape.takes_positionals || has_none (positionals_of pieces))) (fresh_from_start (named_of pieces))) ∙ ok))
     ∙ sym (ap (option_and_then (given_if shape)) is
-    ∙ ap₂ (λ named positionals. if list_all (is_supplied named) shape.options.now then Some (record { named = named; positionals = positionals }) else None)
+    ∙ ap₂ (λ named positionals. if list_all (is_supplied named) shape.options then Some (record { named = named; positionals = positionals }) else None)
     holds.named_is holds.positionals_is)
 given_use shape pieces (unused is fails) =
     ap (λ b. if b then Some (record { named = named_of pieces; positionals = positionals_of pieces }) else None)
-    (not_both_and (has_no_repeat (named_of pieces)) (list_all (is_supplied (named_of pieces)) shape.options.now) _
+    (not_both_and (has_no_repeat (named_of pieces)) (list_all (is_supplied (named_of pieces)) shape.options) _
     (sym (ap (λ b. b && (shape.takes_positionals || has_none (positionals_of pieces))) (fresh_from_start (named_of pieces))) ∙ fails))
     ∙ sym (ap (option_and_then (given_if shape)) is)
 
@@ -171,7 +169,7 @@ explicit_use takes pieces rows (unused is fails) e =
     let bad : None ≡ Some rows = sym is ∙ e in
     cc
 
-given_of_use : (shape : Shape) (pieces : Option (List Piece)) → all_plain pieces ≡ true
+given_of_use : (shape : CommandShape) (pieces : Option (List Piece)) → all_plain pieces ≡ true
     → option_and_then (given_by shape) pieces ≡ option_and_then (given_if shape) (use_of shape.takes_positionals pieces [])
 given_of_use shape None plain = refl
 given_of_use shape (Some pieces) plain = given_use shape pieces (all_used shape.takes_positionals pieces [] [] [] plain nothing_yet)
@@ -183,7 +181,7 @@ explicit_of_use takes (Some pieces) rows plain e = explicit_use takes pieces row
 -- ---- the whole reading
 
 -- what `clap` answers, by the faults of its walk and of what follows
-walk_answer : (shape : Shape) (rows : List Row) (a b d : Bool) → has_plain_names shape ≡ true → d ≡ true
+walk_answer : (shape : CommandShape) (rows : List Row) (a b d : Bool) → has_plain_names shape ≡ true → d ≡ true
     → ((if a then (if b then Some rows else None) else None) ≡ Some rows → all_explicit rows ≡ true)
     → option_and_then (given_if shape) (if a then (if b then Some rows else None) else None)
     ≡ (if a && (b && (d && none_of (check_fault (top_with (filled_rules shape)) (fold with_default rows (filled_rules shape)) false)))
@@ -203,10 +201,10 @@ level_is wf sf df cf =
     ∙ ap (λ b. none_of wf && b) (none_of_both sf (or_else df cf) ∙ ap (λ b. none_of sf && b) (none_of_both df cf))
 
 -- the end of the walk
-abbrev end_of : Shape → List Text → Held
+abbrev end_of : CommandShape → List Text → Held
 end_of shape words = (walk (filled_rules shape) [] nothing_held words).held
 
-fault_is : (shape : Shape) (words : List Text)
+fault_is : (shape : CommandShape) (words : List Text)
     → none_of (fault_of (app_for shape) words)
     ≡ (none_of (walk_fault (top_with (filled_rules shape)) [] (walk_from nothing_held) words)
     && (none_of (settle_fault (filled_rules shape) false (end_of shape words))
@@ -220,26 +218,26 @@ fault_is shape words =
     (defaults_fault (settled (filled_rules shape) (end_of shape words)).rows (filled_rules shape))
     (check_fault (top_with (filled_rules shape)) (finished (filled_rules shape) (end_of shape words)) false)
 
-matches_are : (shape : Shape) (words : List Text) → matches_of (app_for shape) words ≡ finished (filled_rules shape) (end_of shape words)
+matches_are : (shape : CommandShape) (words : List Text) → matches_of (app_for shape) words ≡ finished (filled_rules shape) (end_of shape words)
 matches_are shape words = ap (λ (a : App). finished a.top.rules (walk a.top.rules (map label_of a.subs) nothing_held words).held) (built_is shape)
 
 -- Words of which none is barred give what `clap` finds, where it finds no fault.
-pub reads : (shape : Shape) (words : List Text) → has_plain_names shape ≡ true → has_barred words ≡ false
+pub reads : (shape : CommandShape) (words : List Text) → has_plain_names shape ≡ true → has_barred words ≡ false
     → given_of shape words ≡ (if none_of (fault_of (app_for shape) words) then Some (given_in (matches_of (app_for shape) words)) else None)
 unfolding given_of
 reads shape words plain clear =
     let rules = filled_rules shape in
-    let pieces = pieces_after shape.options.now None words in
+    let pieces = pieces_after shape.options None words in
     let takes = shape.takes_positionals in
     let walked_to : use_of takes pieces []
     ≡ (if none_of (walk_fault (top_with rules) [] (walk_from nothing_held) words)
     then settled_rows_of rules (end_of shape words) else None) =
-    sym ((walks shape.options.now takes rules (finds shape plain) words).0 nothing_held false clear) ∙ run_is rules (walk_from nothing_held) words in
-    let named = plain_pieces shape.options.now plain words None tt in
+    sym ((walks shape.options takes rules (finds shape plain) words).0 nothing_held false clear) ∙ run_is rules (walk_from nothing_held) words in
+    let named = plain_pieces shape.options plain words None tt in
     given_of_use shape pieces named
     ∙ ap (option_and_then (given_if shape)) walked_to
     ∙ walk_answer shape (settled rules (end_of shape words)).rows _ _ (none_of (defaults_fault (settled rules (end_of shape words)).rows rules)) plain
-    (ap none_of (no_default_fault shape.options.now takes (settled rules (end_of shape words)).rows))
+    (ap none_of (no_default_fault shape.options takes (settled rules (end_of shape words)).rows))
     (λ e. explicit_of_use takes pieces (settled rules (end_of shape words)).rows named (walked_to ∙ e))
     ∙ sym (ap₂ (λ b rows. if b then Some (given_in rows) else None) (fault_is shape words) (matches_are shape words))
 
@@ -255,7 +253,7 @@ rows_hold takes pieces rows (unused is fails) e =
     let bad : None ≡ Some rows = sym is ∙ e in
     cc
 
-finds_of_use : (shape : Shape) (pieces : Option (List Piece)) (rows : List Row) → has_plain_names shape ≡ true → all_plain pieces ≡ true
+finds_of_use : (shape : CommandShape) (pieces : Option (List Piece)) (rows : List Row) → has_plain_names shape ≡ true → all_plain pieces ≡ true
     → use_of shape.takes_positionals pieces [] ≡ Some rows → FindsValues (fold with_default rows (filled_rules shape))
 finds_of_use shape None rows plain named e = cc
 finds_of_use shape (Some pieces) rows plain named e =
@@ -267,27 +265,27 @@ first_two true true c e = (refl, refl)
 first_two true false c e = absurd (false≢true e)
 first_two false b c e = absurd (false≢true e)
 
-pub reads_find : (shape : Shape) (words : List Text) → has_plain_names shape ≡ true → has_barred words ≡ false
+pub reads_find : (shape : CommandShape) (words : List Text) → has_plain_names shape ≡ true → has_barred words ≡ false
     → none_of (fault_of (app_for shape) words) ≡ true → FindsValues (matches_of (app_for shape) words)
 reads_find shape words plain clear passed =
     let rules = filled_rules shape in
-    let pieces = pieces_after shape.options.now None words in
+    let pieces = pieces_after shape.options None words in
     let parts = first_two _ _ _ (sym (fault_is shape words) ∙ passed) in
     let walked_to : use_of shape.takes_positionals pieces [] ≡ Some (settled rules (end_of shape words)).rows =
-    sym ((walks shape.options.now shape.takes_positionals rules (finds shape plain) words).0 nothing_held false clear)
+    sym ((walks shape.options shape.takes_positionals rules (finds shape plain) words).0 nothing_held false clear)
     ∙ run_is rules (walk_from nothing_held) words
     ∙ ap₂ (λ (a b : Bool). if a then (if b then Some (settled rules (end_of shape words)).rows else None) else None) parts.0 parts.1 in
     subst FindsValues (sym (matches_are shape words))
-    (finds_of_use shape pieces (settled rules (end_of shape words)).rows plain (plain_pieces shape.options.now plain words None tt) walked_to)
+    (finds_of_use shape pieces (settled rules (end_of shape words)).rows plain (plain_pieces shape.options plain words None tt) walked_to)
 
 -- ---- by what the code finds
 
-pub barred_gives_nothing : (shape : Shape) (words : List Text) → has_barred words ≡ true → None ≡ given_of shape words
+pub barred_gives_nothing : (shape : CommandShape) (words : List Text) → has_barred words ≡ true → None ≡ given_of shape words
 unfolding given_of
-barred_gives_nothing shape words bar = sym (ap (option_and_then (given_by shape)) (barred_says_nothing shape.options.now words None bar))
+barred_gives_nothing shape words bar = sym (ap (option_and_then (given_by shape)) (barred_says_nothing shape.options words None bar))
 
 -- what a parse that passes gives
-pub matches_give : (shape : Shape) (words : List Text) (app : App) (m : ArgMatches) → has_plain_names shape ≡ true → has_barred words ≡ false → app ≡ app_for shape
+pub matches_give : (shape : CommandShape) (words : List Text) (app : App) (m : ArgMatches) → has_plain_names shape ≡ true → has_barred words ≡ false → app ≡ app_for shape
     → HasMatchesOf app words m → (is_simple_and_free app ≡ true → fault_of app words ≡ [])
     → (Some (given_in (rows_of (found_of m))) ≡ given_of shape words) × FindsValues (rows_of (found_of m))
 matches_give shape words app m plain clear is matches kinds =
@@ -306,7 +304,7 @@ some_among k [] among = absurd among
 some_among k (x ∷ kinds) among = refl
 
 -- and one that fails for another cause than memory
-pub fault_gives_nothing : (shape : Shape) (words : List Text) (app : App) (e : Error) → has_plain_names shape ≡ true → has_barred words ≡ false → app ≡ app_for shape
+pub fault_gives_nothing : (shape : CommandShape) (words : List Text) (app : App) (e : Error) → has_plain_names shape ≡ true → has_barred words ≡ false → app ≡ app_for shape
     → (is_simple_and_free app ≡ true → HasKind (fault_of app words) e) → (kind_of e ≡ OutOfMemory → ⊥) → None ≡ given_of shape words
 fault_gives_nothing shape words app e plain clear is kinds other =
     sym (reads shape words plain clear

@@ -8,10 +8,9 @@ use Rattle.clap.specs.Simple.{built, filled, filled_from, index_after, is_in_ord
 use Rattle.clap.specs.Faults.{is_free_app, is_simple_and_free}
 use Rattle.clap.specs.declared.builder.action.ArgAction.TheVariants.{Set, SetTrue}
 use Rattle.clap.specs.declared.builder.value_parser.ValueParser.TheVariants as vp
+use Rattle.sb_words.specs.CommandLine.{CommandOption, CommandShape}
 use Rattle.sb_words.specs.declared.shape.OptionKind.{OptionKind}
 use Rattle.sb_words.specs.declared.shape.OptionKind.TheVariants.{Needed, Optional, Flag}
-use Rattle.sb_words.specs.declared.shape.OptionShape.{OptionShape}
-use Rattle.sb_words.specs.declared.shape.Shape.{Shape}
 use Rattle.sb_words.specs.ClapCommand.{app_for, kind_rule, named_rule, option_rule, positional_rule, rules_for, with_rules}
 
 -- an option that takes a value, with what building fills in
@@ -37,8 +36,8 @@ filled_kind Needed name = set_rule true name
 filled_kind Optional name = set_rule false name
 filled_kind Flag name = flag_rule name
 
-abbrev pub filled_option : OptionShape → Rule
-filled_option o = filled_kind o.kind o.name.now
+abbrev pub filled_option : CommandOption → Rule
+filled_option o = filled_kind o.kind o.name
 
 abbrev pub filled_positional : Rule
 filled_positional = record positional_rule {
@@ -50,8 +49,8 @@ filled_positional = record positional_rule {
 abbrev pub last_rules : Bool → List Rule
 last_rules takes_positionals = if takes_positionals then filled_positional ∷ [] else []
 
-abbrev pub filled_rules : Shape → List Rule
-filled_rules shape = map filled_option shape.options.now ++ last_rules shape.takes_positionals
+abbrev pub filled_rules : CommandShape → List Rule
+filled_rules shape = map filled_option shape.options ++ last_rules shape.takes_positionals
 
 -- the built command
 abbrev pub top_with : List Rule → ClapShape
@@ -79,63 +78,61 @@ same_index Needed name i = refl
 same_index Optional name i = refl
 same_index Flag name i = refl
 
-filled_each : (options : List OptionShape) (rest : List Rule) → filled_from 1 (map option_rule options ++ rest) ≡ map filled_option options ++ filled_from 1 rest
-unfolding option_rule
+filled_each : (options : List CommandOption) (rest : List Rule) → filled_from 1 (map option_rule options ++ rest) ≡ map filled_option options ++ filled_from 1 rest
 filled_each [] rest = refl
 filled_each (o ∷ options) rest =
-    ap₂ (λ r i. r ∷ filled_from i (map option_rule options ++ rest)) (filled_one o.kind o.name.now 1) (same_index o.kind o.name.now 1)
+    ap₂ (λ r i. r ∷ filled_from i (map option_rule options ++ rest)) (filled_one o.kind o.name 1) (same_index o.kind o.name 1)
     ∙ ap (λ rules. filled_option o ∷ rules) (filled_each options rest)
 
 filled_last : (takes_positionals : Bool) → filled_from 1 (if takes_positionals then positional_rule ∷ [] else []) ≡ last_rules takes_positionals
 filled_last true = refl
 filled_last false = refl
 
-pub built_is : (shape : Shape) → built (app_for shape) ≡ built_with (filled_rules shape)
+pub built_is : (shape : CommandShape) → built (app_for shape) ≡ built_with (filled_rules shape)
 built_is shape =
     built_rules (rules_for shape)
-    ∙ ap built_with (filled_each shape.options.now _ ∙ ap (λ rules. map filled_option shape.options.now ++ rules) (filled_last shape.takes_positionals))
+    ∙ ap built_with (filled_each shape.options _ ∙ ap (λ rules. map filled_option shape.options ++ rules) (filled_last shape.takes_positionals))
 
 -- ---- the command is simple
 
 module _ (test : Rule → Bool) (passes : (kind : OptionKind) (name : Text) → test (kind_rule kind name) ≡ true) (last : test positional_rule ≡ true) where
-  each_option : (options : List OptionShape) → list_all test (map option_rule options) ≡ true
-  unfolding option_rule
+  each_option : (options : List CommandOption) → list_all test (map option_rule options) ≡ true
   each_option [] = refl
-  each_option (o ∷ options) = rw (passes o.kind o.name.now, each_option options) refl
+  each_option (o ∷ options) = rw (passes o.kind o.name, each_option options) refl
 
   tail_passes : (takes_positionals : Bool) → list_all test (if takes_positionals then positional_rule ∷ [] else []) ≡ true
   tail_passes true = rw last refl
   tail_passes false = refl
 
-  pub each_rule : (shape : Shape) → list_all test (rules_for shape) ≡ true
+  pub each_rule : (shape : CommandShape) → list_all test (rules_for shape) ≡ true
   each_rule shape =
-      list_all-append test (map option_rule shape.options.now) _
-      ∙ ap₂ (λ a b. a && b) (each_option shape.options.now) (tail_passes shape.takes_positionals)
+      list_all-append test (map option_rule shape.options) _
+      ∙ ap₂ (λ a b. a && b) (each_option shape.options) (tail_passes shape.takes_positionals)
 
 module _ (test : Rule → Bool) (passes : (kind : OptionKind) (name : Text) → test (filled_kind kind name) ≡ true) (last : test filled_positional ≡ true) where
-  each_filled_option : (options : List OptionShape) → list_all test (map filled_option options) ≡ true
+  each_filled_option : (options : List CommandOption) → list_all test (map filled_option options) ≡ true
   each_filled_option [] = refl
-  each_filled_option (o ∷ options) = rw (passes o.kind o.name.now, each_filled_option options) refl
+  each_filled_option (o ∷ options) = rw (passes o.kind o.name, each_filled_option options) refl
 
   filled_tail_passes : (takes_positionals : Bool) → list_all test (last_rules takes_positionals) ≡ true
   filled_tail_passes true = rw last refl
   filled_tail_passes false = refl
 
-  pub each_filled : (shape : Shape) → list_all test (filled_rules shape) ≡ true
+  pub each_filled : (shape : CommandShape) → list_all test (filled_rules shape) ≡ true
   each_filled shape =
-      list_all-append test (map filled_option shape.options.now) _
-      ∙ ap₂ (λ a b. a && b) (each_filled_option shape.options.now) (filled_tail_passes shape.takes_positionals)
+      list_all-append test (map filled_option shape.options) _
+      ∙ ap₂ (λ a b. a && b) (each_filled_option shape.options) (filled_tail_passes shape.takes_positionals)
 
 no_more_places : (kind : OptionKind) (name : Text) (n : ℕ) → n + cond (is_some (filled_kind kind name).index) 1 0 ≡ n
 no_more_places Needed name n = add-zero n
 no_more_places Optional name n = add-zero n
 no_more_places Flag name n = add-zero n
 
-places_so_far : (options : List OptionShape) (rest : List Rule) (n : ℕ)
+places_so_far : (options : List CommandOption) (rest : List Rule) (n : ℕ)
     → fold (λ (k : ℕ) (a : Rule). k + cond (is_some a.index) 1 0) n (map filled_option options ++ rest) ≡ fold (λ (k : ℕ) (a : Rule). k + cond (is_some a.index) 1 0) n rest
 places_so_far [] rest n = refl
 places_so_far (o ∷ options) rest n =
-    ap (λ m. fold (λ (k : ℕ) (a : Rule). k + cond (is_some a.index) 1 0) m (map filled_option options ++ rest)) (no_more_places o.kind o.name.now n)
+    ap (λ m. fold (λ (k : ℕ) (a : Rule). k + cond (is_some a.index) 1 0) m (map filled_option options ++ rest)) (no_more_places o.kind o.name n)
     ∙ places_so_far options rest n
 
 not_early : (n : ℕ) (kind : OptionKind) (name : Text) → is_early_multiple n (filled_kind kind name) ≡ false
@@ -143,18 +140,18 @@ not_early n Needed name = refl
 not_early n Optional name = refl
 not_early n Flag name = refl
 
-none_early : (n : ℕ) (options : List OptionShape) (rest : List Rule) → list_any (is_early_multiple n) (map filled_option options ++ rest) ≡ list_any (is_early_multiple n) rest
+none_early : (n : ℕ) (options : List CommandOption) (rest : List Rule) → list_any (is_early_multiple n) (map filled_option options ++ rest) ≡ list_any (is_early_multiple n) rest
 none_early n [] rest = refl
-none_early n (o ∷ options) rest = rw (not_early n o.kind o.name.now) (none_early n options rest)
+none_early n (o ∷ options) rest = rw (not_early n o.kind o.name) (none_early n options rest)
 
 last_in_order : (takes_positionals : Bool) → is_in_order (last_rules takes_positionals) ≡ true
 last_in_order true = refl
 last_in_order false = refl
 
-in_order : (shape : Shape) → is_in_order (filled_rules shape) ≡ true
+in_order : (shape : CommandShape) → is_in_order (filled_rules shape) ≡ true
 in_order shape =
-    ap (λ n. not (list_any (is_early_multiple n) (filled_rules shape))) (places_so_far shape.options.now (last_rules shape.takes_positionals) 0)
-    ∙ ap not (none_early _ shape.options.now (last_rules shape.takes_positionals))
+    ap (λ n. not (list_any (is_early_multiple n) (filled_rules shape))) (places_so_far shape.options (last_rules shape.takes_positionals) 0)
+    ∙ ap not (none_early _ shape.options (last_rules shape.takes_positionals))
     ∙ last_in_order shape.takes_positionals
 
 simple_kind : (kind : OptionKind) (name : Text) → (kind_rule kind name).is_simple ≡ true
@@ -172,21 +169,21 @@ free_filled Needed name = refl
 free_filled Optional name = refl
 free_filled Flag name = refl
 
-built_simple : (shape : Shape) → (is_ready (built_with (filled_rules shape)).top && list_all is_ready_leaf (built_with (filled_rules shape)).subs) ≡ true
+built_simple : (shape : CommandShape) → (is_ready (built_with (filled_rules shape)).top && list_all is_ready_leaf (built_with (filled_rules shape)).subs) ≡ true
 built_simple shape =
     ap₂ (λ a b. ((true && a) && b) && true) (each_filled (λ r. r.is_simple) simple_filled refl shape) (in_order shape)
 
-built_free : (shape : Shape) → is_free_app (built_with (filled_rules shape)) ≡ true
+built_free : (shape : CommandShape) → is_free_app (built_with (filled_rules shape)) ≡ true
 built_free shape = ap (λ b. b && true) (each_filled (λ r. r.is_free) free_filled refl shape)
 
-pub simple_and_free : (shape : Shape) → is_simple_and_free (app_for shape) ≡ true
+pub simple_and_free : (shape : CommandShape) → is_simple_and_free (app_for shape) ≡ true
 simple_and_free shape =
     ap (λ b. (((true && b) && true) && (is_ready (built (app_for shape)).top && list_all is_ready_leaf (built (app_for shape)).subs)) && is_free_app (built (app_for shape)))
     (each_rule (λ r. r.is_simple) simple_kind refl shape)
     ∙ ap (λ (a : App). (is_ready a.top && list_all is_ready_leaf a.subs) && is_free_app a) (built_is shape)
     ∙ ap₂ (λ a b. a && b) (built_simple shape) (built_free shape)
 
-pub simple : (shape : Shape) → is_simple (app_for shape) ≡ true
+pub simple : (shape : CommandShape) → is_simple (app_for shape) ≡ true
 simple shape =
     ap (λ b. ((true && b) && true) && (is_ready (built (app_for shape)).top && list_all is_ready_leaf (built (app_for shape)).subs))
     (each_rule (λ r. r.is_simple) simple_kind refl shape)

@@ -14,8 +14,7 @@ use Rattle.clap.specs.declared.builder.value_parser.Reading.TheVariants.{AsWritt
 use Rattle.clap.specs.declared.parser.matches.ValueSource.TheVariants.{CommandLine}
 use Rattle.sb_words.specs.declared.shape.OptionKind.{OptionKind}
 use Rattle.sb_words.specs.declared.shape.OptionKind.TheVariants.{Needed, Optional, Flag}
-use Rattle.sb_words.specs.declared.shape.OptionShape.{OptionShape}
-use Rattle.sb_words.specs.CommandLine.{Piece, option, flag, positional, after_dash, first_piece, found_meaning, is_value, kind_meaning, meaning_of, name_in, option_named, pieces_after, pieces_from, says, refused, value_in, word_meaning}
+use Rattle.sb_words.specs.CommandLine.{after_dash, CommandOption, first_piece, flag, found_meaning, is_value, kind_meaning, meaning_of, name_in, option, option_named, Piece, pieces_after, pieces_from, positional, refused, says, value_in, word_meaning}
 use Rattle.sb_words.specs.Barred.{ends_options, has_barred, is_barred}
 use Rattle.sb_words.specs.Rows.{positional_id}
 use Rattle.sb_words.proofs.Rules.{filled_kind, filled_option, filled_positional, flag_rule, set_rule, top_with}
@@ -33,7 +32,7 @@ resting false = idle
 abbrev pub then_use : Bool → Option (List Piece) → Option (List Row) → Option (List Row)
 then_use takes pieces rows = option_and_then (use_of takes pieces) rows
 
-module _ (options : List OptionShape) (takes : Bool) (rules : List Rule) (found : Finds options takes rules) where
+module _ (options : List CommandOption) (takes : Bool) (rules : List Rule) (found : Finds options takes rules) where
   -- a positional word is pending
   pending_positional : (h : Held) (word : Text) → takes ≡ true
       → settled_rows_of rules (pushed positional_id word (settled rules h))
@@ -298,7 +297,7 @@ module _ (options : List OptionShape) (takes : Bool) (rules : List Rule) (found 
           option_turn false name v (45 ∷ 45 ∷ b ∷ bs) words h rest later (whole v is)
           ∙ ap (λ p. then_use takes p (settled_rows_of rules h)) (sym (meaning_if v (is_value v)))
 
-      go : (f : Option OptionShape) → option_named options name ≡ f → (v : Option Text) → value_in (b ∷ bs) ≡ v
+      go : (f : Option CommandOption) → option_named options name ≡ f → (v : Option Text) → value_in (b ∷ bs) ≡ v
           → turned (option_map filled_option f) v h (resting rest) (45 ∷ 45 ∷ b ∷ bs) words
           ≡ then_use takes (pieces_from (found_meaning f name v) words (λ awaited. pieces_after options awaited words)) (settled_rows_of rules h)
       go None e v is = sym (nothing_used (settled_rows_of rules h))

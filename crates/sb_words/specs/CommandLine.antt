@@ -4,11 +4,19 @@ use Rattle.std.specs.List.{list_any, list_all, before_first, after_first}
 use Rattle.std.specs.Str.{bytes_eq}
 use Rattle.sb_words.specs.declared.shape.OptionKind.{OptionKind}
 use Rattle.sb_words.specs.declared.shape.OptionKind.TheVariants.{Needed, Flag}
-use Rattle.sb_words.specs.declared.shape.OptionShape.{OptionShape}
-use Rattle.sb_words.specs.declared.shape.Shape.{Shape}
 
 abbrev pub Text : Type 0
 Text = List ℕ
+
+-- An option of a command: its name without the two dashes, and how it stands.
+pub record CommandOption : Type 0 where
+  pub name : Text
+  pub kind : OptionKind
+
+-- What a command takes after its name: options, and positional words or none.
+pub record CommandShape : Type 0 where
+  pub options : List CommandOption
+  pub takes_positionals : Bool
 
 -- what follows a first dash
 abbrev pub after_dash : Text → Option Text
@@ -53,31 +61,31 @@ kind_meaning kind name None = awaits name
 kind_meaning kind name (Some value) = if is_value value then says (option name value) else refused
 
 -- the same of an option that the command may not have
-abbrev pub found_meaning : Option OptionShape → Text → Option Text → Meaning
+abbrev pub found_meaning : Option CommandOption → Text → Option Text → Meaning
 found_meaning None name value = refused
 found_meaning (Some o) name value = kind_meaning o.kind name value
 
 -- the option with this name
-abbrev pub option_named : List OptionShape → Text → Option OptionShape
-option_named options name = find (λ o. bytes_eq o.name.now name) options
+abbrev pub option_named : List CommandOption → Text → Option CommandOption
+option_named options name = find (λ o. bytes_eq o.name name) options
 
 -- by what follows two dashes
-abbrev pub option_meaning : List OptionShape → Text → Meaning
+abbrev pub option_meaning : List CommandOption → Text → Meaning
 option_meaning options [] = ends
 option_meaning options (byte ∷ bytes) =
     found_meaning (option_named options (name_in (byte ∷ bytes))) (name_in (byte ∷ bytes)) (value_in (byte ∷ bytes))
 
 -- by what follows a second dash: one dash alone is refused
-abbrev pub dashed_meaning : List OptionShape → Option Text → Meaning
+abbrev pub dashed_meaning : List CommandOption → Option Text → Meaning
 dashed_meaning options None = refused
 dashed_meaning options (Some text) = option_meaning options text
 
 -- by what follows a first dash: a word without one is positional
-abbrev pub word_meaning : List OptionShape → Text → Option Text → Meaning
+abbrev pub word_meaning : List CommandOption → Text → Option Text → Meaning
 word_meaning options word None = says (positional word)
 word_meaning options word (Some rest) = dashed_meaning options (after_dash rest)
 
-abbrev pub meaning_of : List OptionShape → Text → Meaning
+abbrev pub meaning_of : List CommandOption → Text → Meaning
 meaning_of options word = word_meaning options word (after_dash word)
 
 abbrev pub first_piece : Piece → Option (List Piece) → Option (List Piece)
@@ -91,7 +99,7 @@ pieces_from ends words next = Some (map positional words)
 pieces_from refused words next = None
 
 -- What the words say, one thing after the other, after the name of an option that awaits its value, or after none.
-unfoldable pub pieces_after : List OptionShape → Option Text → List Text → Option (List Piece)
+unfoldable pub pieces_after : List CommandOption → Option Text → List Text → Option (List Piece)
 pieces_after options (Some name) [] = None
 pieces_after options (Some name) (word ∷ words) =
     if is_value word then first_piece (option name word) (pieces_after options None words) else None
@@ -126,8 +134,8 @@ is_needed Needed = true
 is_needed kind = false
 
 -- the option is given, or need not be
-abbrev pub is_supplied : List (Text × Text) → OptionShape → Bool
-is_supplied named o = not (is_needed o.kind) || is_some (value_among o.name.now named)
+abbrev pub is_supplied : List (Text × Text) → CommandOption → Bool
+is_supplied named o = not (is_needed o.kind) || is_some (value_among o.name named)
 
 abbrev pub has_none : List Text → Bool
 has_none [] = true
@@ -139,20 +147,20 @@ pub record Given : Type 0 where
   pub positionals : List Text
 
 -- no name stands twice, what is needed is there, and positional words only where the command takes them
-abbrev pub fits : Shape → List Piece → Bool
+abbrev pub fits : CommandShape → List Piece → Bool
 fits shape pieces =
     has_no_repeat (named_of pieces)
-    && (list_all (is_supplied (named_of pieces)) shape.options.now
+    && (list_all (is_supplied (named_of pieces)) shape.options
     && (shape.takes_positionals || has_none (positionals_of pieces)))
 
-abbrev pub given_by : Shape → List Piece → Option Given
+abbrev pub given_by : CommandShape → List Piece → Option Given
 given_by shape pieces =
     if fits shape pieces then Some (record { named = named_of pieces; positionals = positionals_of pieces }) else None
 
 -- What the words after a command's name give it, where they are a command line of this shape.
-unfoldable pub given_of : Shape → List Text → Option Given
-given_of shape words = option_and_then (given_by shape) (pieces_after shape.options.now None words)
+unfoldable pub given_of : CommandShape → List Text → Option Given
+given_of shape words = option_and_then (given_by shape) (pieces_after shape.options None words)
 
 -- the names of a shape are such as may follow two dashes
-abbrev pub has_plain_names : Shape → Bool
-has_plain_names shape = list_all (λ o. is_value o.name.now) shape.options.now
+abbrev pub has_plain_names : CommandShape → Bool
+has_plain_names shape = list_all (λ o. is_value o.name) shape.options

@@ -1,4 +1,5 @@
 pub mod CommandLine
+pub mod Views
 pub mod Barred
 pub mod Rows
 pub mod ClapCommand

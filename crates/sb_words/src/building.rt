@@ -1,6 +1,7 @@
 ghost use Rattle.std.specs.Prelude.{◌≡◌, ◌++◌, ◌∷◌, [], IfOk, map, Some, false};
 ghost use Rattle.clap.specs.Words.{app_of, rule_of, with_rule};
-ghost use Rattle.sb_words.specs.ClapCommand.{app_for, option_rule, positional_rule, with_rules};
+ghost use Rattle.sb_words.specs.ClapCommand.{app_for, positional_rule, with_rules};
+ghost use Rattle.sb_words.specs.Views.{rule_for, shape_of};
 
 use crate::{OptionKind, OptionShape, Shape};
 use clap::builder::ValueParser;
@@ -20,9 +21,9 @@ fn with_value<'a>(arg: Arg<'a>) -> Arg<'a>
 }
 
 /// An option, as `clap` takes it.
-#[tactic(auto, unfolding(crate::specs::ClapCommand::option_rule))]
+#[tactic(auto, unfolding(crate::specs::Views::rule_for))]
 fn option_arg<'a>(alloc: Global, option: &OptionShape) -> Arg<'a>
-    ensures rule { rule_of result ≡ option_rule option.now }
+    ensures rule { rule_of result ≡ rule_for option.now }
     ensures local { result.global ≡ false }
 {
     let arg = Arg::new(alloc, option.name).long(option.name);
@@ -47,7 +48,7 @@ fn with_option<'a>(
     command: Command<'a>,
     option: &OptionShape,
 ) -> Result<Command<'a>, AllocError>
-    ensures { IfOk result (λ r. app_of r ≡ with_rule (app_of command.entry) (option_rule option.now)) }
+    ensures { IfOk result (λ r. app_of r ≡ with_rule (app_of command.entry) (rule_for option.now)) }
 {
     command.arg(option_arg(alloc, option))
 }
@@ -63,7 +64,7 @@ fn empty_command<'a>(alloc: Global) -> Command<'a>
 
 /// The command that has the options.
 fn with_options<'a>(alloc: Global, shape: &Shape) -> Result<Command<'a>, AllocError>
-    ensures { IfOk result (λ r. app_of r ≡ with_rules (map option_rule shape.now.options.now)) }
+    ensures { IfOk result (λ r. app_of r ≡ with_rules (map rule_for shape.now.options.now)) }
 {
     let mut command = empty_command(alloc);
     for option in shape.options {
@@ -74,7 +75,7 @@ fn with_options<'a>(alloc: Global, shape: &Shape) -> Result<Command<'a>, AllocEr
 
 /// The command of a shape, as `clap` takes it.
 pub(crate) fn command_of<'a>(alloc: Global, shape: &Shape) -> Result<Command<'a>, AllocError>
-    ensures { IfOk result (λ r. app_of r ≡ app_for shape.now) }
+    ensures { IfOk result (λ r. app_of r ≡ app_for (shape_of shape.now)) }
 {
     let command = with_options(alloc, shape)?;
     if !shape.takes_positionals {

@@ -1,5 +1,6 @@
 ghost use Rattle.std.specs.Prelude.{◌≡◌, IfOk, IsTrue, map, option_map, is_some, string_bytes};
 ghost use Rattle.sb_words.specs.Rows.{by_words};
+ghost use Rattle.sb_words.specs.Views.{shape_of};
 ghost use Rattle.sb_words.specs.CommandLine.{given_of, has_plain_names, value_among};
 
 use crate::Shape;
@@ -16,6 +17,7 @@ use std::marker::Model;
 #[derive(Debug, Drop)]
 pub struct Words<'a> {
     matches: ArgMatches<'a>,
+    /// Nothing, which is lent where there are no positional words.
     none: Vec<&'a str>,
 }
 
@@ -75,14 +77,20 @@ impl<'a> Words<'a> {
     }
 }
 
-/// Reads the words after a command's name.
+/// Reads the words after a command's name. `None` comes exactly where they are no command line of the shape:
+///
+/// - an option is `--name value` or `--name=value`, a flag `--name`, each at most once, among the positional words;
+/// - a value is not empty and does not begin with a dash;
+/// - after a word `--` every word is positional, and every other word that begins with a dash is refused.
+///
+/// Names of the shape do not begin with a dash and are not empty.
 pub fn read_words<'a>(
     alloc: Global,
     shape: &Shape,
     words: &'a [String],
 ) -> Result<Option<Words<'a>>, OutOfMemory>
-    requires { IsTrue (has_plain_names shape.now) }
-    ensures { IfOk result (λ given. given ≡ given_of shape.now (map string_bytes words.entry.now)) }
+    requires { IsTrue (has_plain_names (shape_of shape.now)) }
+    ensures { IfOk result (λ given. given ≡ given_of (shape_of shape.now) (map string_bytes words.entry.now)) }
 {
     if has_barred(words) {
         return Ok(None);

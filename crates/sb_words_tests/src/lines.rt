@@ -1,6 +1,7 @@
 //! Command lines of each shape.
 ghost use Rattle.std.specs.Prelude.{IsTrue};
 ghost use Rattle.sb_words.specs.CommandLine.{has_plain_names};
+ghost use Rattle.sb_words.specs.Views.{shape_of};
 
 use sb_words::{OptionKind, OptionShape, Shape, Words, read_words};
 use std::alloc::{AllocError, Global};
@@ -139,7 +140,7 @@ fn words_of(alloc: Global, line: &str) -> Result<Vec<String>, AllocError> {
 
 /// What a line is read as.
 fn read(alloc: Global, shape: &Shape, line: &str) -> Result<Option<String>, Fail>
-    requires { IsTrue (has_plain_names shape.now) }
+    requires { IsTrue (has_plain_names (shape_of shape.now)) }
 {
     let words = words_of(alloc, line)?;
     match read_words(alloc, shape, words.as_slice())? {
@@ -150,7 +151,7 @@ fn read(alloc: Global, shape: &Shape, line: &str) -> Result<Option<String>, Fail
 
 /// Sees that a line gives this.
 fn gives(rt: &impl Abort, alloc: Global, shape: &Shape, line: &str, text: &str) -> Result<(), Fail>
-    requires { IsTrue (has_plain_names shape.now) }
+    requires { IsTrue (has_plain_names (shape_of shape.now)) }
 {
     let given = read(alloc, shape, line)?;
     assert!(rt; given.is_some_and(|given| given.as_str() == text), "{line}");
@@ -159,7 +160,7 @@ fn gives(rt: &impl Abort, alloc: Global, shape: &Shape, line: &str, text: &str) 
 
 /// Sees that a line is no command line.
 fn is_refused(rt: &impl Abort, alloc: Global, shape: &Shape, line: &str) -> Result<(), Fail>
-    requires { IsTrue (has_plain_names shape.now) }
+    requires { IsTrue (has_plain_names (shape_of shape.now)) }
 {
     let given = read(alloc, shape, line)?;
     assert!(rt; given.is_none(), "{line}");
