@@ -18,6 +18,8 @@ pub enum KernelFault {
     Rice(RiceFault),
     Set(ApplyFault),
     Url(UrlFault),
+    /// A response was not read as it was written.
+    Message,
     OutOfMemory,
 }
 
@@ -30,6 +32,7 @@ impl fmt::Display for KernelFault {
             KernelFault::Rice(fault) => write!(f, "{fault}"),
             KernelFault::Set(fault) => write!(f, "{fault}"),
             KernelFault::Url(fault) => write!(f, "{fault}"),
+            KernelFault::Message => write!(f, "the response was not read"),
             KernelFault::OutOfMemory => write!(f, "out of memory"),
         }
     }

@@ -4,12 +4,14 @@
 #![tactic(auto)]
 
 mod fault;
+mod messages;
 mod rice;
 mod sets;
 mod url;
 mod url_text;
 
 use fault::KernelFault;
+use messages::{Coding, work_on_messages};
 use sets::Order;
 use std::alloc::Global;
 use std::process::ExitCode;
@@ -26,6 +28,14 @@ const USAGE: &str = "usage: kernels KERNEL COUNT SEED
   set-of-shuffled       makes those in no order, and their set
   set-change            makes a set, and changes 4,000 of its prefixes
   set-look-up           makes a set, and looks 1,000,000 prefixes up
+  raw-message           makes a response with at most COUNT prefixes as they are
+  raw-write             makes the response, and writes it
+  raw-write-alone       makes the response, and writes its prefixes by base64 and serde_json alone
+  raw-read              makes the response, writes it, and reads the text
+  raw-read-alone        makes the response, writes it, and reads the text by serde_json and base64 alone
+  rice-message          makes a response with at most COUNT prefixes as a Rice record
+  rice-write, rice-write-alone, rice-read, rice-read-alone
+                        the same of that response
   urls                  makes COUNT URLs such as pages have
   canonical             makes the URLs, and their canonical forms
   expressions           makes the URLs, their canonical forms and the expressions of those
@@ -74,8 +84,26 @@ fn run_on_sets(alloc: Global, kernel: &str, count: u32, seed: u64) -> Result<u64
         "set-of-shuffled" => sets::make_set(alloc, Order::Shuffled, count, seed),
         "set-change" => sets::change_set(alloc, count, seed),
         "set-look-up" => sets::look_up(alloc, count, seed),
-        _ => run_on_urls(alloc, kernel, count, seed),
+        _ => run_on_messages(alloc, kernel, count, seed),
     }
+}
+
+/// The checksum of a kernel that works on messages, or of another.
+fn run_on_messages(alloc: Global, kernel: &str, count: u32, seed: u64) -> Result<u64, KernelFault> {
+    let (coding, work) = match kernel {
+        "raw-message" => (Coding::Raw, messages::Work::Make),
+        "raw-write" => (Coding::Raw, messages::Work::Write),
+        "raw-write-alone" => (Coding::Raw, messages::Work::WriteAlone),
+        "raw-read" => (Coding::Raw, messages::Work::Read),
+        "raw-read-alone" => (Coding::Raw, messages::Work::ReadAlone),
+        "rice-message" => (Coding::Rice, messages::Work::Make),
+        "rice-write" => (Coding::Rice, messages::Work::Write),
+        "rice-write-alone" => (Coding::Rice, messages::Work::WriteAlone),
+        "rice-read" => (Coding::Rice, messages::Work::Read),
+        "rice-read-alone" => (Coding::Rice, messages::Work::ReadAlone),
+        _ => return run_on_urls(alloc, kernel, count, seed),
+    };
+    work_on_messages(alloc, coding, work, count, seed)
 }
 
 /// The checksum of a kernel that works on URLs.

@@ -26,7 +26,8 @@ pub fn decode_values(alloc: Global, count: u32, seed: u64) -> Result<u64, Kernel
     Ok(sum_of(values.as_slice()))
 }
 
-fn record_of(alloc: Global, count: u32, seed: u64) -> Result<RiceRecord, KernelFault> {
+/// The record of seeded numbers.
+pub fn record_of(alloc: Global, count: u32, seed: u64) -> Result<RiceRecord, KernelFault> {
     let values = rising_values(alloc, count, seed)?;
     if values.is_empty() {
         return Err(KernelFault::NoValues);

@@ -54,6 +54,14 @@ fn bytes_of(alloc: Global, numbers: &[u32]) -> Result<Vec<u8>, KernelFault>
     Ok(bytes)
 }
 
+/// Seeded prefixes that rise, one after the other.
+pub fn rising_bytes(alloc: Global, count: u32, seed: u64) -> Result<Vec<u8>, KernelFault>
+    ensures { IfOk result (λ bytes. length bytes.items % 4 ≡ 0) }
+{
+    let numbers = numbers(alloc, Order::Rising, count, seed)?;
+    bytes_of(alloc, &numbers)
+}
+
 /// The set of seeded prefixes.
 fn set_of(alloc: Global, order: Order, count: u32, seed: u64) -> Result<PrefixSet, KernelFault> {
     let numbers = numbers(alloc, order, count, seed)?;
