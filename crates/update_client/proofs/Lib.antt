@@ -5,3 +5,4 @@ pub mod NameOrder
 pub mod NoMemory
 pub mod Places
 pub mod Runs
+pub mod SameNames

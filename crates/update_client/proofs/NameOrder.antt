@@ -10,7 +10,7 @@ use Rattle.std.proofs.lemmas.Cmp.{nat_cmp_total, on_total, then_total, tied_itse
 use Rattle.std.proofs.lemmas.Map.Keys.{sorted_head, sorted_tail}
 use Rattle.sb_model.specs.declared.names.ListName.{ListName}
 use Rattle.sb_model.specs.Names.{threat_code, platform_code, entry_code, same_name, name_cmp}
-use Rattle.sb_model.proofs.NameCodes.{name_by_codes}
+use Rattle.update_client.proofs.SameNames.{equal_from_same_name}
 use Rattle.update_client.specs.Held.{with_name, in_order}
 
 pub name_total : IsTotalOrder name_cmp
@@ -37,8 +37,8 @@ before_itself a h = cc (sym h ∙ tied_itself name_total a)
 pub apart : (own other name : ListName) (b : Bool) → same_name own name ≡ true → IsBefore own other → same_name other name ≡ b → b ≡ false
 apart own other name false same before is = refl
 apart own other name true same before is =
-    let first : own ≡ name = name_by_codes own name same in
-    let second : other ≡ name = name_by_codes other name is in
+    let first : own ≡ name = equal_from_same_name own name same in
+    let second : other ≡ name = equal_from_same_name other name is in
     absurd (before_itself name (sym (ap (λ n. name_cmp n name) first) ∙ sym (ap (λ n. name_cmp own n) second) ∙ before))
 
 -- ---- one more name

@@ -6,7 +6,7 @@ use Rattle.std.proofs.lemmas.List.Elements.{All-nil, All-cons}
 use Rattle.rice_coding.specs.declared.fault.RiceFault.{RiceFault}
 use Rattle.rice_coding.specs.declared.fault.RiceFault.TheVariants as rice
 use Rattle.rice_coding.specs.Decoding.{decoding_of}
-use Rattle.rice_coding.proofs.DecodeFacts.{never_memory}
+use Rattle.rice_coding.specs.declared.record.RiceRecord.{RiceRecord}
 use Rattle.sb_model.specs.Candidate.{Update, candidate}
 use Rattle.prefix_set.specs.Apply.{first_past}
 use Rattle.update_messages.specs.Messages.{UpdatedList}
@@ -41,13 +41,17 @@ IsNever-joined members_of h (set ∷ sets) =
     IsNever-next (members_of set) (λ members. joined members_of sets >>= λ rest. Ok (members ++ rest)) (h set)
     (λ members. IsNever-next (joined members_of sets) (λ rest. Ok (members ++ rest)) more (λ rest. IsNever-Ok (members ++ rest)))
 
-IsNever-prefixes : (set : Additions) → IsNever (prefixes_of set)
-IsNever-prefixes (added.Raw size bytes) = λ is. cc
-IsNever-prefixes (added.Rice record_of) = IsNever-next (decoding_of record_of most_values) _ (never_memory record_of most_values) (λ numbers is. cc)
+-- what the law of decoding says of it
+abbrev pub IsNeverDecoded : Type 0
+IsNeverDecoded = (coding : RiceRecord) (limit : ℕ) → decoding_of coding limit ≢ Err rice.OutOfMemory
 
-IsNever-places : (set : Removals) → IsNever (places_of set)
-IsNever-places (removed.Raw indices) = λ is. cc
-IsNever-places (removed.Rice record_of) = never_memory record_of most_values
+IsNever-prefixes : IsNeverDecoded → (set : Additions) → IsNever (prefixes_of set)
+IsNever-prefixes never_memory (added.Raw size bytes) = λ is. cc
+IsNever-prefixes never_memory (added.Rice record_of) = IsNever-next (decoding_of record_of most_values) _ (never_memory record_of most_values) (λ numbers is. cc)
+
+IsNever-places : IsNeverDecoded → (set : Removals) → IsNever (places_of set)
+IsNever-places never_memory (removed.Raw indices) = λ is. cc
+IsNever-places never_memory (removed.Rice record_of) = never_memory record_of most_values
 
 -- the removals that are looked at, and what an update means
 abbrev removals_of : UpdatedList → List Removals
@@ -64,10 +68,10 @@ meant update additions removals = record {
   checksum = update.checksum;
 }
 
-IsNever-meaning : (update : UpdatedList) → IsNever (meaning_of update)
-IsNever-meaning update =
-    IsNever-next (joined prefixes_of update.additions) _ (IsNever-joined prefixes_of IsNever-prefixes update.additions)
-    (λ additions. IsNever-next (joined places_of (removals_of update)) _ (IsNever-joined places_of IsNever-places (removals_of update)) (λ removals. IsNever-Ok (meant update additions removals)))
+IsNever-meaning : IsNeverDecoded → (update : UpdatedList) → IsNever (meaning_of update)
+IsNever-meaning never update =
+    IsNever-next (joined prefixes_of update.additions) _ (IsNever-joined prefixes_of (IsNever-prefixes never) update.additions)
+    (λ additions. IsNever-next (joined places_of (removals_of update)) _ (IsNever-joined places_of (IsNever-places never) (removals_of update)) (λ removals. IsNever-Ok (meant update additions removals)))
 
 -- ---- why it is refused
 
@@ -96,8 +100,8 @@ IsOther-change held (Err fault) h = λ is. h (cc)
 IsOther-change held (Ok update) h = IsOther-or (range_fault (length held.set) update.removals) (set_fault update.checksum (candidate update held.set))
     (IsOther-place (length held.set) (first_past (length held.set) update.removals)) (IsOther-set update.checksum (candidate update held.set))
 
-IsOther-first : (held : Held) (update : UpdatedList) → IsOther (first_fault held update)
-IsOther-first held update = IsOther-or _ _ (IsOther-if _ _ (λ is. cc)) (IsOther-change held (meaning_of update) (IsNever-meaning update))
+IsOther-first : IsNeverDecoded → (held : Held) (update : UpdatedList) → IsOther (first_fault held update)
+IsOther-first never held update = IsOther-or _ _ (IsOther-if _ _ (λ is. cc)) (IsOther-change held (meaning_of update) (IsNever-meaning never update))
 
 -- ---- what is told
 
@@ -109,11 +113,11 @@ IsTold-after : (held : Held) (update : UpdatedList) (fault : Option UpdateFault)
 IsTold-after held update None h = λ is. cc
 IsTold-after held update (Some fault) h = λ is. h (cc)
 
-IsTold-at : (update : UpdatedList) (held : Option Held) → IsTold (result_at update held)
-IsTold-at update None = λ is. cc
-IsTold-at update (Some held) = IsTold-after held update (first_fault held update) (IsOther-first held update)
+IsTold-at : IsNeverDecoded → (update : UpdatedList) (held : Option Held) → IsTold (result_at update held)
+IsTold-at never update None = λ is. cc
+IsTold-at never update (Some held) = IsTold-after held update (first_fault held update) (IsOther-first never held update)
 
-pub IsTold-each : (lists : List Held) (updates : List UpdatedList) → All IsTold (results_of lists updates)
-IsTold-each lists [] = All-nil IsTold
-IsTold-each lists (update ∷ updates) =
-    All-cons IsTold _ _ (IsTold-at update (list_named update.name lists)) (IsTold-each (after_update lists update) updates)
+pub IsTold-each : IsNeverDecoded → (lists : List Held) (updates : List UpdatedList) → All IsTold (results_of lists updates)
+IsTold-each never lists [] = All-nil IsTold
+IsTold-each never lists (update ∷ updates) =
+    All-cons IsTold _ _ (IsTold-at never update (list_named update.name lists)) (IsTold-each never (after_update lists update) updates)

@@ -13,7 +13,7 @@ use crate::ordering::ordered;
 use crate::taking::{has_name, take_items};
 use crate::{FetchOptions, HeldList, ListResult, UpdateFault};
 use prefix_set::PrefixSet;
-use rice_coding::RiceFault;
+use rice_coding::{RiceFault, decoding_goes_by_the_record};
 use sb_model::{Bytes, ListName, OutOfMemory, Row, Text};
 use std::alloc::Global;
 use std::marker::Model;
@@ -165,6 +165,7 @@ impl ClientLists {
         ensures no_memory { IfOk result
             (All (λ outcome. outcome ≢ ListResult.Refused (UpdateFault.Rice rice.OutOfMemory))) }
     {
+        decoding_goes_by_the_record();
         let mut changes = no_changes(alloc, &self.lists)?;
         let results = take_items(alloc, &self.lists, &mut changes, response.items.as_slice())?;
         put_each(&mut self.lists, changes);

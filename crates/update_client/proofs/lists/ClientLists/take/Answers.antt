@@ -54,7 +54,7 @@ returns-clause-results c =
 pub returns-clause-no_memory : goal.returns-clause-no_memory
 returns-clause-no_memory c =
     let AllTold : List ListResult → Type 0 = λ results. All IsTold results in
-    subst AllTold (sym (returns-clause-results c)) (IsTold-each c.args.self.now c.args.response.now.items)
+    subst AllTold (sym (returns-clause-results c)) (IsTold-each c.decoding_goes_by_the_record.ensures.no_memory c.args.self.now c.args.response.now.items)
 
 pub invariant_of-self : goal.invariant_of-self
 invariant_of-self c =
