@@ -1,12 +1,9 @@
 -- Updates that a server could have made.
-use Rattle.std.specs.Prelude.{◌≡◌, ◌≢◌, ℕ, ◌<◌, ◌≤◌, false, [], All, IsTrue, IsOkAnd}
-use Rattle.sb_model.specs.declared.names.ListName.{ListName}
-use Rattle.sb_model.specs.History.{History, IsWellFormed, version_count, up_to_version, declares, prefixes_at}
-use Rattle.sb_model.specs.Naming.{Naming, IsNaming}
+use Rattle.std.specs.Prelude.{◌≡◌, ◌≢◌, ℕ, ◌≤◌, [], IsTrue, IsOkAnd}
+use Rattle.sb_model.specs.History.{History, version_count, declares, prefixes_at}
+use Rattle.sb_model.specs.Naming.{Naming}
 use Rattle.sb_model.specs.Candidate.{candidate}
-use Rattle.prefix_set.specs.Limits.{IsWithinLimits}
-use Rattle.update_messages.specs.Messages.{UpdatedList, Request}
-use Rattle.update_messages.specs.Answer.{fetch_answer}
+use Rattle.update_messages.specs.Messages.{UpdatedList}
 use Rattle.update_client.specs.Held.{digest_of}
 use Rattle.update_client.specs.Step.{meaning_of}
 
@@ -21,27 +18,3 @@ pub record IsGenuine (history : History) (token_at : Naming) (update : UpdatedLi
   pub checksum : update.checksum ≡ digest_of (prefixes_at history update.name version)
   pub proposes : IsOkAnd (meaning_of update) (λ meant. candidate meant (prefixes_at history update.name made_from) ≡ prefixes_at history update.name version)
   pub base : update.base ≢ [] → update.base ≡ token_at update.name made_from
-
--- each declared list is at each version within the limits of a set
-abbrev pub IsWithinLimitsAlways : History → Type 0
-IsWithinLimitsAlways history =
-    (list : ListName) (version : ℕ) → IsTrue (declares history list) → version ≤ version_count history
-    → IsWithinLimits (prefixes_at history list version)
-
--- the full hashes that are added consist of bytes
-abbrev pub HasByteHashes : History → Type 0
-HasByteHashes history = All (λ change. All (λ added. All (λ byte. byte < 256) added.hash) change.adds) history.changes
-
--- An update that is genuine, and of which a partial one names the state that it was made for.
-pub record IsAnswerItem (history : History) (token_at : Naming) (update : UpdatedList) : Type 0 where
-  pub made_from : ℕ
-  pub genuine : IsGenuine history token_at update made_from
-  pub names_base : update.full ≡ false → update.base ≡ token_at update.name made_from
-
--- What a server answers from its history up to some version is genuine for its whole history.
-abbrev pub AnswersAreGenuine : Type 0
-AnswersAreGenuine =
-    (history : History) (token_at : Naming) (count wait : ℕ) (request : Request)
-    → IsWellFormed history → IsNaming history token_at → IsWithinLimitsAlways history → HasByteHashes history → count ≤ version_count history
-    → All (λ asked. IsTrue (declares history asked.name)) request.items
-    → All (IsAnswerItem history token_at) (fetch_answer (up_to_version count history) token_at wait request).items
