@@ -196,6 +196,19 @@ def bench_rice(runs):
         tell(name, f"{took * 1e3:.1f} ms", f"{took / RICE_VALUES * 1e9:.2f} ns a value")
 
 
+def bench_messages(title, prefix, runs):
+    """Reading and writing a fetch response, beside what base64 and serde_json alone take."""
+    names = ("message", "write", "write-alone", "read", "read-alone")
+    kernels = [prefix + name for name in names]
+    times = dict(zip(names, processor_times(kernels, MANY_PREFIXES, runs)))
+    write, write_alone = times["write"] - times["message"], times["write-alone"] - times["message"]
+    read, read_alone = times["read"] - times["write"], times["read-alone"] - times["write"]
+    print(f"a fetch response of {MANY_PREFIXES:,} {title}")
+    for name, took, alone in (("written", write, write_alone), ("read", read, read_alone)):
+        remark = f"{took / MANY_PREFIXES * 1e9:.2f} ns a prefix, {took / alone:.2f} times base64 and serde_json"
+        tell(name, f"{took * 1e3:.1f} ms", remark)
+
+
 def bench_sets(runs):
     kernels = ("set-rising", "set-shuffled", "set-of-rising", "set-of-shuffled")
     kernels += ("set-change", "set-look-up")
@@ -239,6 +252,8 @@ def main():
         bench_replay(f"{MANY_LINES:,} updates of 64 to 256 prefixes", small, words.runs)
     bench_sets(words.kernel_runs)
     bench_rice(words.kernel_runs)
+    bench_messages("prefixes as they are", "raw-", words.kernel_runs)
+    bench_messages("Rice coded prefixes", "rice-", words.kernel_runs)
     bench_urls("URLs such as pages have", "", USUAL_URLS, words.kernel_runs)
     hostile = f"hostile URLs of {HOSTILE_BYTES:,} bytes"
     bench_urls(hostile, "hostile-", HOSTILE_URLS, words.kernel_runs)
