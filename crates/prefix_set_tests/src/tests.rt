@@ -1,7 +1,7 @@
 ghost use Rattle.std.specs.Prelude.{◌≡◌, ◌<◌};
 
 use hash_prefixes::{Prefix, read_hex};
-use prefix_set::{ApplyFault, Edit, PrefixSet};
+use prefix_set::{ApplyFault, Edit, Merged, PrefixSet};
 use sb_model::{Row, Steps};
 use std::alloc::Global;
 use std::cmp::Ordering;
@@ -14,12 +14,10 @@ fn prefix(rt: &impl Abort, bytes: &[u8]) -> Prefix {
     Prefix::from_bytes(bytes).expect(rt, "4 to 32 bytes")
 }
 
-// Prefixes of four bytes, each by its number as it is written.
-fn fours(alloc: Global, rt: &impl Abort, numbers: &[u32]) -> Row<Prefix> {
+fn prefixes(alloc: Global, rt: &impl Abort, each: &[&[u8]]) -> Row<Prefix> {
     let mut row = Row::new(alloc);
-    for number in numbers {
-        row.push(prefix(rt, &number.to_be_bytes()))
-            .expect(rt, "memory");
+    for bytes in each {
+        row.push(prefix(rt, bytes)).expect(rt, "memory");
     }
     row
 }
@@ -28,57 +26,31 @@ fn set_of(alloc: Global, rt: &impl Abort, prefixes: &[Prefix]) -> PrefixSet {
     PrefixSet::from_prefixes(alloc, prefixes).expect(rt, "memory")
 }
 
-fn set_of_fours(alloc: Global, rt: &impl Abort, numbers: &[u32]) -> PrefixSet {
-    set_of(alloc, rt, fours(alloc, rt, numbers).as_slice())
+fn set_of_bytes(alloc: Global, rt: &impl Abort, each: &[&[u8]]) -> PrefixSet {
+    set_of(alloc, rt, prefixes(alloc, rt, each).as_slice())
 }
 
 // Whether the members are these, in this order.
-fn has_members(set: &PrefixSet, members: &[Prefix]) -> bool {
+fn has_bytes(set: &PrefixSet, members: &[&[u8]]) -> bool {
     if set.len() as usize != members.len() {
         return false;
     }
     for i in 0..set.len() {
-        if set.at(i) != members[i as usize] {
+        if set.at(i).as_bytes() != members[i as usize] {
             return false;
         }
     }
     true
 }
 
-fn has_fours(alloc: Global, rt: &impl Abort, set: &PrefixSet, numbers: &[u32]) -> bool {
-    has_members(set, fours(alloc, rt, numbers).as_slice())
-}
-
-const ONE_FIVE_NINE: [u32; 3] = [1, 0x0500_0000, 0x0900_0000];
-
-const FIVE_SEVEN: [u32; 2] = [0x0500_0000, 0x0700_0000];
-
 #[test]
-fn members_rise_without_repeats(rt: HostRuntime) {
-    let set = set_of_fours(rt.alloc(), &rt, &[0x0900_0000, 1, 0x0500_0000, 1]);
-    assert!(rt; has_fours(rt.alloc(), &rt, &set, &ONE_FIVE_NINE));
-    assert!(rt; !set.is_empty() && set.store().len() == 3);
-}
-
-#[test]
-fn sizes_may_differ(rt: HostRuntime) {
-    let last = prefix(&rt, b"bbbb");
-    let longer = prefix(&rt, b"aaaaa");
-    let first = prefix(&rt, b"aaaa");
-    let set = set_of(rt.alloc(), &rt, &[last, longer, first]);
-    assert!(rt; has_members(&set, &[first, longer, last]));
+fn sizes_and_members_are_told(rt: HostRuntime) {
+    let set = set_of_bytes(rt.alloc(), &rt, &[b"bbbb", b"aaaab", b"aaaa", b"bbbb"]);
+    assert!(rt; set.len() == 3 && set.store().len() == 3 && !set.is_empty());
     assert!(rt; set.has_size(4) && set.has_size(5) && !set.has_size(6));
-    assert!(rt; set.contains(&longer) && !set.contains(&prefix(&rt, b"aaaaaa")));
-}
-
-#[test]
-fn one_concatenation_may_be_of_two_sets(rt: HostRuntime) {
-    let last = prefix(&rt, b"cccc");
-    let whole = set_of(rt.alloc(), &rt, &[last, prefix(&rt, b"aaaabbbb")]);
-    let parts = [prefix(&rt, b"bbbb"), last, prefix(&rt, b"aaaa")];
-    let parts = set_of(rt.alloc(), &rt, &parts);
-    assert_eq!(rt; whole.digest(), parts.digest());
-    assert!(rt; whole != parts && whole == whole);
+    for (bytes, there) in [(&b"aaaab"[..], true), (b"aaaabb", false), (b"bbbb", true)] {
+        assert!(rt; set.contains(&prefix(&rt, bytes)) == there);
+    }
 }
 
 fn hash(rt: &impl Abort, digits: &[u8]) -> [u8; 32] {
@@ -86,79 +58,226 @@ fn hash(rt: &impl Abort, digits: &[u8]) -> [u8; 32] {
 }
 
 #[test]
-fn digests_are_of_the_concatenation(rt: HostRuntime) {
+fn the_empty_set_has_the_digest_of_no_bytes(rt: HostRuntime) {
     let none = PrefixSet::empty(rt.alloc());
-    let of_none = b"e3b0c44298fc1c149afbf4c8996fb92427ae41e4649b934ca495991b7852b855";
     assert!(rt; none.is_empty() && none.len() == 0);
-    assert_eq!(rt; none.digest(), hash(&rt, of_none));
-    let one = set_of(rt.alloc(), &rt, &[prefix(&rt, b"1234")]);
-    let of_one = b"03ac674216f3e15c761ee1a5e255f067953623c8b388b4459e13f978d7c846f4";
-    assert_eq!(rt; one.digest(), hash(&rt, of_one));
+    assert_eq!(rt; none.digest(), hash(&rt, OF_NOTHING));
 }
 
+// A change of a set, and what it gives. Prefixes are written as their bytes.
 struct Change {
+    what: &'static str,
+    held: &'static [&'static [u8]],
     removals: &'static [u32],
-    additions: &'static [u32],
-    result: &'static [u32],
+    additions: &'static [&'static [u8]],
+    result: Result<Made, ApplyFault>,
 }
 
-// Changes of 00000001, 05000000 and 09000000.
-const CHANGES: [Change; 7] = [
+// The members of a set, rising, and the SHA-256 of their concatenation.
+struct Made {
+    members: &'static [&'static [u8]],
+    digest: &'static [u8],
+}
+
+const OF_NOTHING: &[u8] = b"e3b0c44298fc1c149afbf4c8996fb92427ae41e4649b934ca495991b7852b855";
+
+const OF_1234: &[u8] = b"03ac674216f3e15c761ee1a5e255f067953623c8b388b4459e13f978d7c846f4";
+
+const OF_AAAABBBBCCCC: &[u8] = b"11c85195ae99540ac07f80e2905e6e39aaefc4ac94cd380f366e79ba83560566";
+
+const OF_AAAAAAAAB: &[u8] = b"330c0b7498385bc3e742a2730e6dd653bd78e3ad076e746ed56ac72894723731";
+
+const OF_FIVE_SEVEN: &[u8] = b"58cc3f83421f967723862f61aef1535fbb8f1b4a788f2dffd1053a43f71b8b6d";
+
+const ONE_FIVE_NINE: &[&[u8]] = &[&[0, 0, 0, 1], &[5, 0, 0, 0], &[9, 0, 0, 0]];
+
+const FIVE_SEVEN: &[&[u8]] = &[&[5, 0, 0, 0], &[7, 0, 0, 0]];
+
+const CHANGES: [Change; 12] = [
     Change {
+        what: "two of three members go, and one comes",
+        held: ONE_FIVE_NINE,
         removals: &[2, 0],
-        additions: &[0x0700_0000],
-        result: &[0x0500_0000, 0x0700_0000],
+        additions: &[&[7, 0, 0, 0]],
+        result: Ok(Made {
+            members: FIVE_SEVEN,
+            digest: OF_FIVE_SEVEN,
+        }),
     },
     Change {
+        what: "a prefix of a prefix comes first",
+        held: &[],
+        removals: &[],
+        additions: &[b"aaaab", b"aaaa"],
+        result: Ok(Made {
+            members: &[b"aaaa", b"aaaab"],
+            digest: OF_AAAAAAAAB,
+        }),
+    },
+    Change {
+        what: "a set of two sizes",
+        held: &[],
+        removals: &[],
+        additions: &[b"cccc", b"aaaabbbb"],
+        result: Ok(Made {
+            members: &[b"aaaabbbb", b"cccc"],
+            digest: OF_AAAABBBBCCCC,
+        }),
+    },
+    Change {
+        what: "another set with the same concatenation",
+        held: &[],
+        removals: &[],
+        additions: &[b"cccc", b"bbbb", b"aaaa"],
+        result: Ok(Made {
+            members: &[b"aaaa", b"bbbb", b"cccc"],
+            digest: OF_AAAABBBBCCCC,
+        }),
+    },
+    Change {
+        what: "removals and an addition in no order",
+        held: &[b"cccc", b"aaaa", b"1234"],
+        removals: &[2, 0],
+        additions: &[b"aaaab"],
+        result: Ok(Made {
+            members: &[b"aaaa", b"aaaab"],
+            digest: OF_AAAAAAAAB,
+        }),
+    },
+    Change {
+        what: "nothing is changed",
+        held: &[b"aaaab", b"aaaa"],
         removals: &[],
         additions: &[],
-        result: &[1, 0x0500_0000, 0x0900_0000],
+        result: Ok(Made {
+            members: &[b"aaaa", b"aaaab"],
+            digest: OF_AAAAAAAAB,
+        }),
     },
     Change {
+        what: "a repeated place",
+        held: &[b"1234", b"aaaa"],
         removals: &[1, 1],
         additions: &[],
-        result: &[1, 0x0900_0000],
+        result: Ok(Made {
+            members: &[b"1234"],
+            digest: OF_1234,
+        }),
     },
     Change {
+        what: "additions that are there already, and a repeated one",
+        held: &[b"aaaa", b"cccc"],
         removals: &[],
-        additions: &[0x0500_0000, 0, 0x0500_0000],
-        result: &[0, 1, 0x0500_0000, 0x0900_0000],
+        additions: &[b"cccc", b"bbbb", b"aaaa", b"bbbb"],
+        result: Ok(Made {
+            members: &[b"aaaa", b"bbbb", b"cccc"],
+            digest: OF_AAAABBBBCCCC,
+        }),
     },
     Change {
-        removals: &[1],
-        additions: &[0x0500_0000],
-        result: &[1, 0x0500_0000, 0x0900_0000],
+        what: "a prefix that is removed and added stays",
+        held: &[b"aaaabbbb", b"cccc"],
+        removals: &[0],
+        additions: &[b"aaaabbbb"],
+        result: Ok(Made {
+            members: &[b"aaaabbbb", b"cccc"],
+            digest: OF_AAAABBBBCCCC,
+        }),
     },
     Change {
-        removals: &[0, 1, 2],
-        additions: &[0x0a00_0000, 2],
-        result: &[2, 0x0a00_0000],
+        what: "all members go, and others come",
+        held: &[b"aaaa", b"bbbb"],
+        removals: &[0, 1],
+        additions: &[b"1234"],
+        result: Ok(Made {
+            members: &[b"1234"],
+            digest: OF_1234,
+        }),
     },
     Change {
-        removals: &[2, 1, 0],
+        what: "all members go",
+        held: &[b"aaaa", b"aaaab"],
+        removals: &[1, 0],
         additions: &[],
-        result: &[],
+        result: Ok(Made {
+            members: &[],
+            digest: OF_NOTHING,
+        }),
+    },
+    Change {
+        what: "the first place that there is not",
+        held: &[b"aaaa", b"aaaab"],
+        removals: &[1, 2, 9],
+        additions: &[b"bbbb"],
+        result: Err(ApplyFault::IndexRange { index: 2, len: 2 }),
     },
 ];
 
-fn is_changed(alloc: Global, rt: &impl Abort, held: &PrefixSet, change: &Change) -> bool {
-    let additions = fours(alloc, rt, change.additions);
-    let newer = held.apply(alloc, change.removals, additions.as_slice());
-    has_fours(alloc, rt, &newer.expect(rt, "memory"), change.result)
+fn edit_of(alloc: Global, rt: &impl Abort, change: &Change) -> Edit {
+    let mut edit = Edit::new(alloc);
+    for place in change.removals {
+        edit.remove(*place).expect(rt, "memory");
+    }
+    for bytes in change.additions {
+        edit.add(&prefix(rt, bytes)).expect(rt, "memory");
+    }
+    edit
+}
+
+fn merged(alloc: Global, rt: &impl Abort, change: &Change) -> Result<Merged, ApplyFault> {
+    let held = set_of_bytes(alloc, rt, change.held);
+    held.merge(alloc, edit_of(alloc, rt, change))
+}
+
+fn applied(alloc: Global, rt: &impl Abort, change: &Change) -> Result<PrefixSet, ApplyFault> {
+    let held = set_of_bytes(alloc, rt, change.held);
+    held.apply(
+        alloc,
+        change.removals,
+        prefixes(alloc, rt, change.additions).as_slice(),
+    )
+}
+
+fn is_merged(alloc: Global, rt: &impl Abort, change: &Change) -> bool {
+    match (merged(alloc, rt, change), &change.result) {
+        (Ok(merged), Ok(made)) => {
+            has_bytes(&merged.set, made.members) && merged.digest == hash(rt, made.digest)
+        }
+        (Err(fault), Err(wanted)) => fault == *wanted,
+        _ => false,
+    }
+}
+
+fn is_applied(alloc: Global, rt: &impl Abort, change: &Change) -> bool {
+    match (applied(alloc, rt, change), &change.result) {
+        (Ok(set), Ok(made)) => {
+            has_bytes(&set, made.members) && set.digest() == hash(rt, made.digest)
+        }
+        (Err(fault), Err(wanted)) => fault == *wanted,
+        _ => false,
+    }
 }
 
 #[test]
 fn removals_and_additions_change_a_set(rt: HostRuntime) {
-    let held = set_of_fours(rt.alloc(), &rt, &ONE_FIVE_NINE);
     for change in &CHANGES {
-        assert!(rt; is_changed(rt.alloc(), &rt, &held, change));
+        assert!(rt;
+            is_applied(rt.alloc(), &rt, change),
+            "apply: {}",
+            change.what
+        );
+        assert!(rt;
+            is_merged(rt.alloc(), &rt, change),
+            "merge: {}",
+            change.what
+        );
     }
 }
 
 #[test]
 fn a_difference_leads_to_the_newer_set(rt: HostRuntime) -> Result<(), Fail> {
-    let held = set_of_fours(rt.alloc(), &rt, &ONE_FIVE_NINE);
-    let newer = set_of_fours(rt.alloc(), &rt, &FIVE_SEVEN);
+    let held = set_of_bytes(rt.alloc(), &rt, ONE_FIVE_NINE);
+    let newer = set_of_bytes(rt.alloc(), &rt, FIVE_SEVEN);
     let delta = held.difference(rt.alloc(), &newer)?;
     assert_eq!(rt; delta.removals.as_slice(), [0, 2].as_slice());
     assert_eq!(rt;
@@ -170,30 +289,26 @@ fn a_difference_leads_to_the_newer_set(rt: HostRuntime) -> Result<(), Fail> {
 
 #[test]
 fn a_copy_is_the_same_set(rt: HostRuntime) -> Result<(), Fail> {
-    let held = set_of_fours(rt.alloc(), &rt, &ONE_FIVE_NINE);
+    let held = set_of_bytes(rt.alloc(), &rt, &[b"aaaa", b"aaaab"]);
     assert!(rt; held.copy(rt.alloc())? == held);
     Ok(())
 }
 
-// Removes all but the prefix that begins with 5, and adds one that begins with 7.
-fn edit_of(alloc: Global, rt: &impl Abort) -> Edit {
+// Removes the first and the third member, and adds two prefixes of four bytes.
+fn edit_in_lists(alloc: Global, rt: &impl Abort) -> Edit {
     let mut edit = Edit::new(alloc);
-    edit.remove(2).expect(rt, "memory");
-    edit.remove_each(&[0, 2]).expect(rt, "memory");
-    edit.add(&prefix(rt, &[7, 0, 0, 0])).expect(rt, "memory");
-    edit.add_each(4, &[7, 0, 0, 0, 5, 0, 0, 0])
-        .expect(rt, "memory");
+    edit.remove_each(&[2, 0]).expect(rt, "memory");
+    edit.add_each(4, b"ddddaaaa").expect(rt, "memory");
     edit
 }
 
 #[test]
-fn an_edit_is_merged(rt: HostRuntime) {
-    let held = set_of_fours(rt.alloc(), &rt, &ONE_FIVE_NINE);
+fn an_edit_takes_whole_lists(rt: HostRuntime) {
+    let held = set_of_bytes(rt.alloc(), &rt, &[b"1234", b"aaaab", b"cccc"]);
     let merged = held
-        .merge(rt.alloc(), edit_of(rt.alloc(), &rt))
+        .merge(rt.alloc(), edit_in_lists(rt.alloc(), &rt))
         .expect(&rt, "memory");
-    assert!(rt; has_fours(rt.alloc(), &rt, &merged.set, &FIVE_SEVEN));
-    assert_eq!(rt; merged.digest, merged.set.digest());
+    assert!(rt; has_bytes(&merged.set, &[b"aaaa", b"aaaab", b"dddd"]));
 }
 
 fn counted<L: Ledger>(blank: Blank, set: &PrefixSet, wanted: &Prefix) -> bool
@@ -211,26 +326,29 @@ fn looked_up(set: &PrefixSet, wanted: &Prefix) -> bool {
 
 #[test]
 fn look_ups_tell_members(rt: HostRuntime) {
-    let set = set_of_fours(rt.alloc(), &rt, &[1, 2, 3, 4]);
+    let members: [&[u8]; 4] = [&[0, 0, 0, 1], &[0, 0, 0, 2], &[0, 0, 0, 3], &[0, 0, 0, 4]];
+    let set = set_of_bytes(rt.alloc(), &rt, &members);
     for (number, there) in [(3, true), (0x0001_0000, false), (5, false), (0, false)] {
         let wanted = prefix(&rt, &u32::to_be_bytes(number));
         assert!(rt; looked_up(&set, &wanted) == there && set.contains(&wanted) == there);
     }
 }
 
-// So many prefixes of four bytes, each so much more than the last one.
-fn spaced(alloc: Global, rt: &impl Abort, count: u32, step: u32) -> Row<Prefix> {
+// So many prefixes of a size, each in its first four bytes 4,000 more than the last one.
+fn spaced(alloc: Global, rt: &impl Abort, count: u32, size: u8) -> Row<Prefix> {
     let mut row = Row::with_capacity(alloc, count as usize).expect(rt, "memory");
     for number in 0..count {
-        let bytes = number.wrapping_mul(step).to_be_bytes();
-        row.push(prefix(rt, &bytes)).expect(rt, "memory");
+        let mut bytes = [0; 32];
+        bytes[..4].copy_from_slice(&number.wrapping_mul(4_000).to_be_bytes());
+        let own = &bytes[..size.min(32) as usize];
+        row.push(prefix(rt, own)).expect(rt, "memory");
     }
     row
 }
 
 #[test]
 fn large_sets_have_an_index_of_places(rt: HostRuntime) {
-    let members = spaced(rt.alloc(), &rt, 70_000, 61_000);
+    let members = spaced(rt.alloc(), &rt, 70_000, 4);
     let set = set_of(rt.alloc(), &rt, members.as_slice());
     for member in members.as_slice() {
         assert!(rt; looked_up(&set, member) && set.contains(member));
@@ -239,50 +357,55 @@ fn large_sets_have_an_index_of_places(rt: HostRuntime) {
     assert!(rt; !looked_up(&set, &absent) && !set.contains(&absent));
 }
 
-fn fault(
-    held: &PrefixSet,
-    alloc: Global,
-    removals: &[u32],
-    additions: &[Prefix],
-) -> Option<ApplyFault> {
-    held.apply(alloc, removals, additions).err()
+// A change of a set of three that gives none: so many prefixes of a size come, and these.
+struct Refused {
+    removals: &'static [u32],
+    count: u32,
+    size: u8,
+    longer: &'static [&'static [u8]],
+    fault: ApplyFault,
 }
 
-#[test]
-fn limits_look_at_distinct_prefixes(rt: HostRuntime) {
-    let held = set_of_fours(rt.alloc(), &rt, &ONE_FIVE_NINE);
-    let many = spaced(rt.alloc(), &rt, 1_048_577, 4_000);
-    let fault = fault(&held, rt.alloc(), &[0, 1, 2], many.as_slice());
-    assert_eq!(rt; fault, Some(ApplyFault::TooMany(1_048_577)));
-}
+const REFUSED: [Refused; 3] = [
+    Refused {
+        removals: &[0, 1, 2],
+        count: 1_048_577,
+        size: 4,
+        longer: &[],
+        fault: ApplyFault::TooMany(1_048_577),
+    },
+    // 262,143 times 32, 28 and 5
+    Refused {
+        removals: &[0, 1, 2],
+        count: 262_143,
+        size: 32,
+        longer: &[&[255; 28], &[255; 5]],
+        fault: ApplyFault::TooLarge(8_388_609),
+    },
+    Refused {
+        removals: &[1, 3, 9],
+        count: 262_145,
+        size: 32,
+        longer: &[],
+        fault: ApplyFault::IndexRange { index: 3, len: 3 },
+    },
+];
 
-fn of_32_bytes(alloc: Global, rt: &impl Abort, count: u32) -> Row<Prefix> {
-    let mut row = Row::with_capacity(alloc, count as usize).expect(rt, "memory");
-    for number in 0..count {
-        let mut bytes = [0; 32];
-        bytes[..4].copy_from_slice(&number.to_be_bytes());
-        row.push(prefix(rt, &bytes)).expect(rt, "memory");
+fn fault(alloc: Global, rt: &impl Abort, refused: &Refused) -> Option<ApplyFault> {
+    let held = set_of_bytes(alloc, rt, &[b"bbbb", b"cccc", b"dddd"]);
+    let mut additions = spaced(alloc, rt, refused.count, refused.size);
+    for longer in refused.longer {
+        additions.push(prefix(rt, longer)).expect(rt, "memory");
     }
-    row
+    held.apply(alloc, refused.removals, additions.as_slice())
+        .err()
 }
 
 #[test]
-fn limits_look_at_all_bytes(rt: HostRuntime) {
-    let held = PrefixSet::empty(rt.alloc());
-    let mut large = of_32_bytes(rt.alloc(), &rt, 262_143);
-    for longer in [&[255; 28][..], &[255; 5]] {
-        large.push(prefix(&rt, longer)).expect(&rt, "memory");
+fn limits_look_at_what_a_change_gives_and_after_the_places(rt: HostRuntime) {
+    for refused in &REFUSED {
+        assert_eq!(rt; fault(rt.alloc(), &rt, refused), Some(refused.fault));
     }
-    let fault = fault(&held, rt.alloc(), &[], large.as_slice());
-    assert_eq!(rt; fault, Some(ApplyFault::TooLarge(8_388_609)));
-}
-
-#[test]
-fn an_index_out_of_range_comes_first(rt: HostRuntime) {
-    let held = set_of_fours(rt.alloc(), &rt, &ONE_FIVE_NINE);
-    let large = of_32_bytes(rt.alloc(), &rt, 262_145);
-    let fault = fault(&held, rt.alloc(), &[1, 3, 9], large.as_slice());
-    assert_eq!(rt; fault, Some(ApplyFault::IndexRange { index: 3, len: 3 }));
 }
 
 fn ordered<L: Ledger>(blank: Blank, set: &PrefixSet, wanted: &Prefix) -> Option<Ordering>
@@ -299,8 +422,8 @@ fn ordered<L: Ledger>(blank: Blank, set: &PrefixSet, wanted: &Prefix) -> Option<
 
 #[test]
 fn an_entry_is_compared(rt: HostRuntime) {
-    let set = set_of_fours(rt.alloc(), &rt, &ONE_FIVE_NINE);
-    let order = ordered::<Brand>(Blank::new(1), &set, &prefix(&rt, &[0, 0, 0, 2]));
+    let set = set_of_bytes(rt.alloc(), &rt, &[b"aaaa", b"bbbb"]);
+    let order = ordered::<Brand>(Blank::new(1), &set, &prefix(&rt, b"aaaab"));
     assert!(rt; order == Some(Ordering::Less));
 }
 
