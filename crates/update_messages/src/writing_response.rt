@@ -159,20 +159,23 @@ fn response_type_word(full: bool) -> &'static str
     }
 }
 
-fn later_members(alloc: Global, update: &ListUpdate) -> Result<Map<String, Value>, OutOfMemory>
-    ensures value { IfOk result (λ members. members_view members.entries ≡ spec.later_members update.now) }
-    ensures range { IfOk result (λ _. All IsRemovalOfBytes update.now.removals) }
+fn later_members(
+    alloc: Global,
+    update: &ListUpdate,
+    removals: Option<Value>,
+) -> Result<Map<String, Value>, OutOfMemory>
+    requires { option_map view removals ≡ spec.list_written spec.removal_written update.now.removals }
+    ensures { IfOk result (λ members. members_view members.entries ≡ spec.later_members update.now) }
 {
     let mut members = Map::new(alloc);
     let threat = string_value(alloc, update.name.threat.word())?;
     let entry = string_value(alloc, update.name.entry.word())?;
     let full = string_value(alloc, response_type_word(update.full))?;
-    let removals = removal_values(alloc, update.removals.as_slice())?;
     let platform = string_value(alloc, update.name.platform.word())?;
     put_member(alloc, &mut members, Field::ThreatType, threat)?;
     put_member(alloc, &mut members, Field::ThreatEntryType, entry)?;
     put_member(alloc, &mut members, Field::ResponseType, full)?;
-    put_member(alloc, &mut members, Field::Removals, list_value(removals))?;
+    put_member(alloc, &mut members, Field::Removals, removals)?;
     put_member(alloc, &mut members, Field::PlatformType, platform)?;
     Ok(members)
 }
@@ -181,7 +184,8 @@ fn update_value(alloc: Global, update: &ListUpdate) -> Result<Value, OutOfMemory
     ensures value { IfOk result (λ value. view value ≡ spec.update_written update.now) }
     ensures range { IfOk result (λ _. IsUpdateInRange update.now) }
 {
-    let mut members = later_members(alloc, update)?;
+    let removals = removal_values(alloc, update.removals.as_slice())?;
+    let mut members = later_members(alloc, update, list_value(removals))?;
     let new_state = bytes_value(alloc, update.new_state.as_slice())?;
     let checksum = checksum_value(alloc, &update.checksum)?;
     let base = bytes_value(alloc, update.base.as_slice())?;
