@@ -1,8 +1,13 @@
+pub mod AnswerSets
 pub mod Births
 pub mod Blocks
+pub mod GenuineAnswers
+pub mod HistoryPrefixes
 pub mod Joining
+pub mod Membership
 pub mod NameOrder
 pub mod NoMemory
 pub mod Places
+pub mod RisingNumbers
 pub mod Runs
 pub mod SameNames

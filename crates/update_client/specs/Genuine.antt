@@ -1,9 +1,12 @@
 -- Updates that a server could have made.
-use Rattle.std.specs.Prelude.{◌≡◌, ◌≢◌, ℕ, ◌≤◌, [], IsTrue, IsOkAnd}
-use Rattle.sb_model.specs.History.{History, version_count, declares, prefixes_at}
-use Rattle.sb_model.specs.Naming.{Naming}
+use Rattle.std.specs.Prelude.{◌≡◌, ◌≢◌, ℕ, ◌≤◌, ◌<◌, [], false, length, All, IsTrue, IsOkAnd}
+use Rattle.sb_model.specs.declared.names.ListName.{ListName}
+use Rattle.sb_model.specs.History.{History, IsWellFormed, version_count, up_to_version, declares, prefixes_at}
+use Rattle.sb_model.specs.Naming.{Naming, IsNaming}
 use Rattle.sb_model.specs.Candidate.{candidate}
-use Rattle.update_messages.specs.Messages.{UpdatedList}
+use Rattle.prefix_set.specs.declared.set.TheConstants.{MAX_PREFIXES}
+use Rattle.update_messages.specs.Messages.{Request, UpdatedList}
+use Rattle.update_messages.specs.Answer.{fetch_answer}
 use Rattle.update_client.specs.Held.{digest_of}
 use Rattle.update_client.specs.Step.{meaning_of}
 
@@ -18,3 +21,28 @@ pub record IsGenuine (history : History) (token_at : Naming) (update : UpdatedLi
   pub checksum : update.checksum ≡ digest_of (prefixes_at history update.name version)
   pub proposes : IsOkAnd (meaning_of update) (λ meant. candidate meant (prefixes_at history update.name made_from) ≡ prefixes_at history update.name version)
   pub base : update.base ≢ [] → update.base ≡ token_at update.name made_from
+
+-- ---- what a server answers
+
+-- no declared list ever has more prefixes than a set may have
+pub record IsWithinLimitsAlways (history : History) : Type 0 where
+  pub few : (list : ListName) (version : ℕ) → IsTrue (declares history list) → version ≤ version_count history
+      → length (prefixes_at history list version) ≤ MAX_PREFIXES
+
+-- the full hashes that changes add are strings of bytes
+abbrev pub HasByteHashes : History → Type 0
+HasByteHashes history = All (λ change. All (λ added. All (λ byte. byte < 256) added.hash) change.adds) history.changes
+
+-- An item of an answer is an update that the server could have made, and a partial one names the state that it was made for.
+pub record IsAnswerItem (history : History) (token_at : Naming) (update : UpdatedList) : Type 0 where
+  pub made_from : ℕ
+  pub genuine : IsGenuine history token_at update made_from
+  pub names_base : update.full ≡ false → update.base ≡ token_at update.name made_from
+
+-- What a server answers to a request for lists that it declares is genuine, however far its history has come by then.
+abbrev pub AnswersAreGenuine : Type 0
+AnswersAreGenuine =
+    (history : History) (token_at : Naming) (count wait : ℕ) (request : Request)
+    → IsWellFormed history → IsNaming history token_at → IsWithinLimitsAlways history → HasByteHashes history → count ≤ version_count history
+    → All (λ asked. IsTrue (declares history asked.name)) request.items
+    → All (IsAnswerItem history token_at) (fetch_answer (up_to_version count history) token_at wait request).items

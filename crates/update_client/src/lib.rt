@@ -6,6 +6,7 @@
 
 pub use fault::{ListResult, UpdateFault};
 pub use held::HeldList;
+pub use laws::answers_are_genuine;
 pub use lists::ClientLists;
 pub use options::FetchOptions;
 pub use printing::{push_token, push_update_cause};
@@ -16,6 +17,7 @@ mod fault;
 mod feeding;
 mod held;
 mod judging;
+mod laws;
 mod lists;
 mod options;
 mod ordering;

@@ -1,0 +1,13 @@
+use Rattle.update_client.proofs.GenuineAnswers.{answers}
+use Rattle.update_client.proofs.laws.answers_are_genuine.Goals as goal
+
+pub returns : goal.returns
+returns c = answers (record {
+  leads = c.differences_lead.ensures.leads;
+  rising = c.sets_go_by_members.ensures.rising;
+  members = c.sets_go_by_members.ensures.members;
+  only = c.sets_go_by_members.ensures.only;
+  same = c.sets_go_by_members.ensures.same;
+  decodes = c.encoding_is_decoded.ensures;
+  last = c.targets_are_the_greatest.ensures.last;
+})

@@ -1,0 +1,16 @@
+ghost use Rattle.update_client.specs.Genuine.{AnswersAreGenuine};
+
+use prefix_set::{differences_lead, sets_go_by_members};
+use rice_coding::encoding_is_decoded;
+use sb_model::targets_are_the_greatest;
+
+/// Every item of what a server answers is an update that it could have made, whatever names it
+/// gives to its versions, and a partial one names the state that it was made for.
+pub fn answers_are_genuine()
+    ensures { AnswersAreGenuine }
+{
+    differences_lead();
+    sets_go_by_members();
+    encoding_is_decoded();
+    targets_are_the_greatest();
+}
