@@ -9,7 +9,7 @@ use Rattle.std.proofs.lemmas.List.Elements.{All-from_get_or}
 use Rattle.std.proofs.lemmas.List.{length-drop, take_all}
 use borrow.Author.Tests.{eqb-true}
 use Rattle.sb_client.proofs.FirstBytes.{none_at}
-use Rattle.sb_client.specs.Lines.{newline, is_newline, without_empty_end, lines_of}
+use Rattle.sb_client.specs.Lines.{ends_open, newline, is_newline, without_empty_end, lines_of}
 
 parts_some : (xs : List ℕ) → 0 < length (slice_split is_newline xs)
 parts_some xs = omega (arith, length-slice_split is_newline xs)
@@ -58,12 +58,6 @@ onto_kept b ((p ∷ ps) ∷ qs) h = refl
 
 pub lines-other : (b : ℕ) (bs : List ℕ) → is_newline b ≡ false → lines_of (b ∷ bs) ≡ onto_first b (lines_of bs)
 lines-other b bs h = ap without_empty_end (slice_split-cons_no is_newline b bs h) ∙ onto_kept b (slice_split is_newline bs) (parts_some bs)
-
--- whether a text ends in a line without its newline
-abbrev pub ends_open : List ℕ → Bool
-ends_open [] = false
-ends_open (b ∷ []) = not (is_newline b)
-ends_open (b ∷ c ∷ cs) = ends_open (c ∷ cs)
 
 pub length-onto : (b : ℕ) (ls : List (List ℕ)) → 0 < length ls → length (onto_first b ls) ≡ length ls
 length-onto b [] h = absurd (omega arith)

@@ -1,61 +1,142 @@
 -- One line more of a replay.
-use Rattle.std.proofs.Common.{◌≡◌, ◌≢◌, ℕ, ◌+◌, List, [], ◌∷◌, ◌++◌, Bool, true, false, map, refl, sym, ap, ◌∙◌, append_assoc, append-nil}
+use Rattle.std.proofs.Common.{◌≡◌, ◌≢◌, ℕ, suc, ◌+◌, ◌<◌, length, get_or, List, [], ◌∷◌, ◌++◌, Bool, true, false, drop, arith, refl, sym, ap, ◌∙◌, subst, append_assoc, decimal, codes, Option}
 use Rattle.std.specs.Prelude.{◌||◌}
 use Rattle.std.specs.List.{flat_map}
+use Rattle.std.specs.declared.cmp.Ordering.{Ordering}
+use Rattle.std.specs.declared.cmp.Ordering.TheVariants.{Less, Equal, Greater}
+use Rattle.std.specs.Ordering.{match_ordering}
+use Rattle.std.proofs.lemmas.List.{drop_more, length-map}
 use Rattle.sb_model.specs.declared.names.ListName.{ListName}
-use Rattle.sb_client.specs.Lines.{newline, lines_of}
-use Rattle.sb_client.specs.PlainBody.{Reading, reading_of}
-use Rattle.sb_client.specs.Step.{Held, nothing_held}
-use Rattle.sb_client.specs.Run.{Outcome, after_reading, outcome_of, outcomes_of, lists_after, is_refusal, has_refusal}
-use Rattle.sb_client.specs.Printed.{outcome_line, outcome_lines, list_lines, replay_text}
-use Rattle.sb_client.proofs.Ways.{some_front, ended_some}
+use Rattle.update_messages.specs.Messages.{UpdatedList}
+use Rattle.update_client.specs.declared.fault.ListResult.{ListResult}
+use Rattle.update_client.specs.Held.{Held, nothing_held, in_order, with_name, nothing_held_of}
+use Rattle.sb_model.specs.Names.{name_cmp}
+use Rattle.update_client.specs.Step.{after_update, after_updates, results_of}
+use Rattle.sb_round.specs.Printed.{taken_text}
+use Rattle.sb_round.specs.Run.{lists_after}
+use Rattle.sb_client.specs.Lines.{newline}
+use Rattle.sb_client.specs.Readings.{Reading, updates_of, bodies_of}
+use Rattle.sb_client.specs.Printed.{numbered, taken_lines, body_lines, outcome_lines, list_lines, replay_text}
+use Rattle.sb_client.specs.Replay.{has_refusal, has_refusals}
+use Rattle.sb_outside.specs.Writing.{HasFront}
+use Rattle.sb_client.specs.Writing.{HasPart}
+use Rattle.sb_client.proofs.Ways.{some_back, ended_some, part_front}
 
-pub outcome_lines-cons : (n : ℕ) (o : Outcome) (os : List Outcome) → outcome_lines n (o ∷ os) ≡ outcome_line n o ++ outcome_lines (n + 1) os
-outcome_lines-cons n o os = refl
+pub numbered_some : (number : ℕ) (text : List ℕ) → numbered number text ≢ []
+numbered_some number text = ended_some (decimal number ++ codes " " ++ text) newline
+
+-- ---- the updates of a body
+
+pub drop_at : {A : Type 0} (xs : List A) (i : ℕ) (x : A) → x ≡ get_or xs i x → i < length xs → drop i xs ≡ x ∷ drop (i + 1) xs
+drop_at xs i x is within = drop_more xs i x within ∙ ap (λ (y : _). y ∷ drop (i + 1) xs) (sym is)
+
+-- the step of a loop that prints the members of a list, by their places
+pub place_step : {A : Type 0} (f : A → List ℕ) (xs : List A) (i : ℕ) (x : A) (done whole : List ℕ) → x ≡ get_or xs i x → i < length xs
+    → done ++ flat_map f (drop i xs) ≡ whole → (done ++ f x) ++ flat_map f (drop (i + 1) xs) ≡ whole
+place_step f xs i x done whole is within h =
+    append_assoc done (f x) (flat_map f (drop (i + 1) xs)) ∙ ap (λ (ys : List _). done ++ flat_map f ys) (sym (drop_at xs i x is within)) ∙ h
+
+-- the line of the update at a place, and those after it
+pub taken_step : (number i : ℕ) (updates : List UpdatedList) (results : List ListResult) (update : UpdatedList) (result : ListResult) (done whole : List ℕ)
+    → update ≡ get_or updates i update → i < length updates → result ≡ get_or results i result → i < length results
+    → done ++ taken_lines number (drop i updates) (drop i results) ≡ whole
+    → (done ++ numbered number (taken_text update.name result)) ++ taken_lines number (drop (i + 1) updates) (drop (i + 1) results) ≡ whole
+taken_step number i updates results update result done whole u u_within r r_within h =
+    let us = drop_at updates i update u u_within in
+    let rs = drop_at results i result r r_within in
+    append_assoc done (numbered number (taken_text update.name result)) (taken_lines number (drop (i + 1) updates) (drop (i + 1) results))
+    ∙ ap (λ (now : List UpdatedList). done ++ taken_lines number now (result ∷ drop (i + 1) results)) (sym us)
+    ∙ ap (λ (now : List ListResult). done ++ taken_lines number (drop i updates) now) (sym rs)
+    ∙ h
+
+-- ---- the bodies
 
 -- the lines after the next one, where it leaves the lists as these
-pub text_step : (n : ℕ) (now next : List Held) (r : Reading) (rs : List Reading) (o : Outcome) (done all : List ℕ)
-    → next ≡ after_reading now r → o ≡ outcome_of now r → done ++ outcome_lines n (outcomes_of now (r ∷ rs)) ≡ all
-    → (done ++ outcome_line n o) ++ outcome_lines (n + 1) (outcomes_of next rs) ≡ all
-text_step n now next r rs o done all e k h =
-    append_assoc done (outcome_line n o) (outcome_lines (n + 1) (outcomes_of next rs))
-    ∙ ap (λ (text : List ℕ). done ++ text) (ap (λ (p : Outcome). outcome_line n p ++ outcome_lines (n + 1) (outcomes_of next rs)) k
-    ∙ ap (λ (lists : List Held). outcome_line n (outcome_of now r) ++ outcome_lines (n + 1) (outcomes_of lists rs)) e
-    ∙ sym (outcome_lines-cons n (outcome_of now r) (outcomes_of (after_reading now r) rs)))
+pub text_step : (n : ℕ) (now next : List Held) (r : Reading) (rs : List Reading) (done all : List ℕ)
+    → next ≡ after_updates now (updates_of r) → done ++ outcome_lines n now (r ∷ rs) ≡ all
+    → (done ++ body_lines n now r) ++ outcome_lines (n + 1) next rs ≡ all
+text_step n now next r rs done all e h =
+    append_assoc done (body_lines n now r) (outcome_lines (n + 1) next rs)
+    ∙ ap (λ (lists : List Held). done ++ (body_lines n now r ++ outcome_lines (n + 1) lists rs)) e
     ∙ h
 
 or_assoc : (a b c : Bool) → ((a || b) || c) ≡ (a || (b || c))
 or_assoc true b c = refl
 or_assoc false b c = refl
 
-pub refusal_step : (now next : List Held) (r : Reading) (rs : List Reading) (o : Outcome) (refused all : Bool)
-    → next ≡ after_reading now r → o ≡ outcome_of now r → (refused || has_refusal (outcomes_of now (r ∷ rs))) ≡ all
-    → ((refused || is_refusal o) || has_refusal (outcomes_of next rs)) ≡ all
-refusal_step now next r rs o refused all e k h =
-    or_assoc refused (is_refusal o) (has_refusal (outcomes_of next rs))
-    ∙ ap (λ (p : Outcome). refused || (is_refusal p || has_refusal (outcomes_of next rs))) k
-    ∙ ap (λ (lists : List Held). refused || (is_refusal (outcome_of now r) || has_refusal (outcomes_of lists rs))) e
+pub refusal_step : (now next : List Held) (r : Reading) (rs : List Reading) (refused here all : Bool)
+    → next ≡ after_updates now (updates_of r) → here ≡ has_refusal now r → (refused || has_refusals now (r ∷ rs)) ≡ all
+    → ((refused || here) || has_refusals next rs) ≡ all
+refusal_step now next r rs refused here all e k h =
+    or_assoc refused here (has_refusals next rs)
+    ∙ ap (λ (b : Bool). refused || (b || has_refusals next rs)) k
+    ∙ ap (λ (lists : List Held). refused || (has_refusal now r || has_refusals lists rs)) e
     ∙ h
 
-pub lists_step : (now next all : List Held) (r : Reading) (rs : List Reading) → next ≡ after_reading now r → lists_after now (r ∷ rs) ≡ all → lists_after next rs ≡ all
-lists_step now next all r rs e h = ap (λ (lists : List Held). lists_after lists rs) e ∙ h
+pub lists_step : (now next all : List Held) (r : Reading) (rs : List Reading)
+    → next ≡ after_updates now (updates_of r) → lists_after now (bodies_of (r ∷ rs)) ≡ all → lists_after next (bodies_of rs) ≡ all
+lists_step now next all r rs e h = ap (λ (lists : List Held). lists_after lists (bodies_of rs)) e ∙ h
 
--- the list in the end and what waits before it make the text
-pub text_whole : (lines : List ℕ) (lists : List Held) (held : Held) → held ∷ [] ≡ lists → lines ++ list_lines held ≡ lines ++ flat_map list_lines lists
-text_whole lines lists held e = ap (λ (text : List ℕ). lines ++ text) (sym (append-nil (list_lines held)) ∙ ap (flat_map list_lines) e)
+-- ---- the end
 
--- the text of a replay, from a list that is empty at first
-pub text_is : (input : List ℕ) (start held : Held) (name : ListName) → start ≡ nothing_held name
-    → held ∷ [] ≡ lists_after (start ∷ []) (map (reading_of start.name) (lines_of input))
-    → outcome_lines 1 (outcomes_of (start ∷ []) (map (reading_of start.name) (lines_of input))) ++ list_lines held ≡ replay_text name input
-text_is input start held name e l =
-    text_whole _ _ held l
-    ∙ ap (λ (h : Held). outcome_lines 1 (outcomes_of (h ∷ []) (map (reading_of h.name) (lines_of input))) ++ flat_map list_lines (lists_after (h ∷ []) (map (reading_of h.name) (lines_of input)))) e
+pub results_count : (lists : List Held) (updates : List UpdatedList) → length (results_of lists updates) ≡ length updates
+results_count lists [] = refl
+results_count lists (update ∷ updates) = ap suc (results_count (after_update lists update) updates)
 
-pub lines_are : (input : List ℕ) (start : Held) (name : ListName) → start ≡ nothing_held name
-    → outcome_lines 1 (outcomes_of (start ∷ []) (map (reading_of start.name) (lines_of input))) ++ flat_map list_lines (lists_after (start ∷ []) (map (reading_of start.name) (lines_of input))) ≡ replay_text name input
-lines_are input start name e = ap (λ (h : Held). outcome_lines 1 (outcomes_of (h ∷ []) (map (reading_of h.name) (lines_of input))) ++ flat_map list_lines (lists_after (h ∷ []) (map (reading_of h.name) (lines_of input)))) e
+-- lists have lines
+pub lists_some : (lists : List Held) → lists ≢ [] → flat_map list_lines lists ≢ []
+lists_some [] h = absurd (h refl)
+lists_some (held ∷ lists) h = λ e. cc
 
--- a body makes a line
-pub lines_some : (number : ℕ) (lists : List Held) (r : Reading) (rs : List Reading) → outcome_lines number (outcomes_of lists (r ∷ rs)) ≢ []
-lines_some number lists r rs = some_front (outcome_line number (outcome_of lists r)) _ (ended_some _ newline)
+length_some : {A : Type 0} (xs : List A) → 0 < length xs → xs ≢ []
+length_some [] h = absurd (omega arith)
+length_some (x ∷ xs) h = λ e. cc
+
+with_name_some : (name : ListName) (names : List ListName) → 0 < length (with_name name names)
+with_name_some name [] = omega arith
+with_name_some name (first ∷ names) = by_order (name_cmp name first)
+  where
+    by_order : (o : Ordering) → 0 < length (match_ordering o (name ∷ first ∷ names) (first ∷ names) (first ∷ with_name name names))
+    by_order Less = omega arith
+    by_order Equal = omega arith
+    by_order Greater = omega arith
+
+in_order_some : (names : List ListName) → names ≢ [] → 0 < length (in_order names)
+in_order_some [] h = absurd (h refl)
+in_order_some (name ∷ names) h = with_name_some name (in_order names)
+
+length_after_one : (lists : List Held) (update : UpdatedList) → length (after_update lists update) ≡ length lists
+length_after_one lists update = length-map lists _
+
+length_after_body : (lists : List Held) (updates : List UpdatedList) → length (after_updates lists updates) ≡ length lists
+length_after_body lists [] = refl
+length_after_body lists (update ∷ updates) = length_after_body (after_update lists update) updates ∙ length_after_one lists update
+
+length_after : (lists : List Held) (bodies : List (List UpdatedList)) → length (lists_after lists bodies) ≡ length lists
+length_after lists [] = refl
+length_after lists (updates ∷ bodies) = length_after (after_updates lists updates) bodies ∙ length_after_body lists updates
+
+-- the lists that are left after bodies have lines
+pub after_some : (names : List ListName) (bodies : List (List UpdatedList)) → names ≢ [] → flat_map list_lines (lists_after (nothing_held_of names) bodies) ≢ []
+after_some names bodies h =
+    let start : 0 < length (in_order names) = in_order_some names h in
+    let held : length (nothing_held_of names) ≡ length (in_order names) = length-map (in_order names) nothing_held in
+    let kept : length (lists_after (nothing_held_of names) bodies) ≡ length (nothing_held_of names) = length_after (nothing_held_of names) bodies in
+    lists_some _ (length_some _ (omega (arith, start, held, kept)))
+
+pub text_some : (names : List ListName) (readings : List Reading) → names ≢ [] → replay_text names readings ≢ []
+text_some names readings h = some_back (outcome_lines 1 (nothing_held_of names) readings) _ (after_some names (bodies_of readings) h)
+
+-- the lines, and then the lists that they led to, are the whole text
+pub whole_text : (names : List ListName) (start after : List Held) (readings : List Reading) → start ≡ nothing_held_of names → after ≡ lists_after start (bodies_of readings)
+    → outcome_lines 1 start readings ++ flat_map list_lines after ≡ replay_text names readings
+whole_text names start after readings e h =
+    ap (λ (lists : List Held). outcome_lines 1 start readings ++ flat_map list_lines lists) h
+    ∙ ap (λ (lists : List Held). outcome_lines 1 lists readings ++ flat_map list_lines (lists_after lists (bodies_of readings))) e
+
+-- a part of the lines is a front of the text
+pub lines_front : {a b : Option (List ℕ)} (names : List ListName) (start : List Held) (readings : List Reading) → names ≢ [] → start ≡ nothing_held_of names
+    → HasPart a b (outcome_lines 1 start readings) → HasFront a b (replay_text names readings)
+lines_front {a} {b} names start readings some e h =
+    part_front (outcome_lines 1 (nothing_held_of names) readings) _ (after_some names (bodies_of readings) some)
+    (subst (λ (lists : List Held). HasPart a b (outcome_lines 1 lists readings)) e h)

@@ -1,9 +1,11 @@
 -- Texts on their way to a sink, one after the other.
 use Rattle.std.proofs.Common.{◌≡◌, ◌≢◌, ℕ, List, [], ◌∷◌, ◌++◌, refl, sym, ap, ◌∙◌, Option, Some, None, append_assoc, append-nil, drop, length, ◌<◌, arith}
+use Rattle.std.specs.Prelude.{Result, Ok, Err, OnErr}
 use Rattle.std.specs.List.{flat_map}
 use Rattle.std.proofs.lemmas.List.{length-drop}
 use Rattle.sb_outside.specs.Outside.{appended}
 use Rattle.sb_outside.specs.Writing.{IsOnItsWay, HasFront}
+use Rattle.sb_client.specs.Writing.{HasPart}
 
 pub appended-twice : (known : Option (List ℕ)) (a b : List ℕ) → appended (appended known a) b ≡ appended known (a ++ b)
 appended-twice None a b = refl
@@ -94,3 +96,58 @@ way_lost {a} p done w v = record {
 
 pub way_longer : {a b : Option (List ℕ)} (p done text : List ℕ) → IsOnItsWay a b p done → IsOnItsWay a b (p ++ text) (done ++ text)
 way_longer p done text w = record { taken = w.taken; has = w.has; rest = sym (append_assoc w.taken p text) ∙ ap (λ bytes. bytes ++ text) w.rest }
+
+-- ---- parts of a text, which may be the whole
+
+pub part_of_front : {a b : Option (List ℕ)} (text : List ℕ) → HasFront a b text → HasPart a b text
+part_of_front text v = record { taken = v.taken; lost = v.lost; has = v.has; rest = v.rest }
+
+-- a part of one more text after
+pub way_part : {a b c : Option (List ℕ)} (p done text : List ℕ) → IsOnItsWay a b p done → HasPart b c (p ++ text) → HasPart a c (done ++ text)
+way_part {a} {b} {c} p done text w v = record {
+  taken = w.taken ++ v.taken;
+  lost = v.lost;
+  has = v.has ∙ ap (λ known. appended known v.taken) w.has ∙ appended-twice a w.taken v.taken;
+  rest = append_assoc w.taken v.taken v.lost ∙ ap (λ bytes. w.taken ++ bytes) v.rest ∙ sym (append_assoc w.taken p text) ∙ ap (λ bytes. bytes ++ text) w.rest;
+}
+
+-- what is on its way stops there
+pub way_halt : {a b : Option (List ℕ)} (p done later : List ℕ) → IsOnItsWay a b p done → HasPart a b (done ++ later)
+way_halt p done later w = record {
+  taken = w.taken;
+  lost = p ++ later;
+  has = w.has;
+  rest = sym (append_assoc w.taken p later) ∙ ap (λ bytes. bytes ++ later) w.rest;
+}
+
+-- a part of a text is one of a longer text
+pub part_more : {a b : Option (List ℕ)} (text later : List ℕ) → HasPart a b text → HasPart a b (text ++ later)
+part_more text later v = record {
+  taken = v.taken;
+  lost = v.lost ++ later;
+  has = v.has;
+  rest = sym (append_assoc v.taken v.lost later) ∙ ap (λ bytes. bytes ++ later) v.rest;
+}
+
+-- and a front of it, where something was to come
+pub part_front : {a b : Option (List ℕ)} (text later : List ℕ) → later ≢ [] → HasPart a b text → HasFront a b (text ++ later)
+part_front text later some v = record {
+  taken = v.taken;
+  lost = v.lost ++ later;
+  has = v.has;
+  rest = sym (append_assoc v.taken v.lost later) ∙ ap (λ bytes. bytes ++ later) v.rest;
+  missing = some_back v.lost later some;
+}
+
+pub part_none : (known : Option (List ℕ)) (text : List ℕ) → HasPart known known text
+part_none known text = record { taken = []; lost = text; has = sym (appended-nil known); rest = refl }
+
+-- ---- what holds after an error
+
+pub on_any : {T E P : Type 0} (r : Result T E) → P → OnErr r P
+on_any (Ok x) p = tt
+on_any (Err e) p = p
+
+pub on_err : {T E P Q : Type 0} (r : Result T E) → (P → Q) → OnErr r P → OnErr r Q
+on_err (Ok x) f h = tt
+on_err (Err e) f h = f h

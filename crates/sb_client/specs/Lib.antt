@@ -2,11 +2,7 @@ pub mod Command
 pub mod Example
 pub mod Input
 pub mod Lines
-pub mod PlainBody
 pub mod Printed
+pub mod Readings
 pub mod Replay
-pub mod Replica
-pub mod Run
-pub mod Step
-pub mod Views
 pub mod Writing

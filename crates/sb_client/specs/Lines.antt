@@ -1,6 +1,6 @@
 -- The lines of an input.
-use Rattle.std.specs.Prelude.{ℕ, ◌≤◌, ◌==◌, Bool, List, [], ◌∷◌, length}
-use Rattle.std.specs.List.{slice_split}
+use Rattle.std.specs.Prelude.{◌≡◌, ℕ, ◌≤◌, ◌==◌, Bool, false, not, if◌then◌else◌, List, [], ◌∷◌, ◌++◌, length}
+use Rattle.std.specs.List.{slice_split, list_any, flat_map}
 
 -- the byte that ends a line
 abbrev pub newline : ℕ
@@ -23,3 +23,21 @@ lines_of text = without_empty_end (slice_split is_newline text)
 pub record IsWithinLimits (input : List ℕ) : Type 0 where
   pub bytes : length input ≤ 201326592
   pub lines : length (lines_of input) ≤ 65536
+
+-- a text with no newline in it
+abbrev pub HasNoNewline : List ℕ → Type 0
+HasNoNewline line = list_any is_newline line ≡ false
+
+-- lines, each with its newline
+abbrev pub joined_lines : List (List ℕ) → List ℕ
+joined_lines lines = flat_map (λ line. line ++ newline ∷ []) lines
+
+-- whether a text ends in a line without its newline
+abbrev pub ends_open : List ℕ → Bool
+ends_open [] = false
+ends_open (byte ∷ []) = not (is_newline byte)
+ends_open (byte ∷ next ∷ bytes) = ends_open (next ∷ bytes)
+
+-- the newline that such a text lacks
+abbrev pub last_newline : List ℕ → List ℕ
+last_newline text = if ends_open text then newline ∷ [] else []

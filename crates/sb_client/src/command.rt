@@ -1,115 +1,42 @@
-ghost use Rattle.std.specs.Prelude.{◌≡◌, ◌≢◌, ◌≤◌, [], ◌∷◌, drop, length, position, ◌++◌, map, string_bytes, None, MatchOption, option_and_then};
-ghost use Rattle.std.specs.List.{position_or_len, list_any};
-ghost use Rattle.sb_client.specs.Command.{is_end_of_options, starts_with_dash, replay_of, positionals, one_list};
+ghost use Rattle.std.specs.Prelude.{◌≡◌, ◌<◌, ◌≤◌, length, map, string_bytes, option_and_then, IfOk, IfSome};
+ghost use Rattle.sb_words.specs.CommandLine.{given_of};
+ghost use Rattle.update_client.specs.Held.{most_lists};
+ghost use Rattle.sb_client.specs.Command.{lists_given, replay_of, replay_shape};
 
-use sb_model::{ListName, read_list_name};
+use sb_model::{ListName, OutOfMemory, Row};
+use sb_words::{Shape, lists, read_words};
+use std::alloc::Global;
 
-fn ends_options(word: &String) -> bool
-    ensures { result ≡ is_end_of_options (string_bytes word.now) }
+/// The words of `replay`.
+const REPLAY: Shape = Shape {
+    options: &[],
+    takes_positionals: true,
+};
+
+/// The lists that the words after `replay` name.
+fn replay_lists(alloc: Global, words: &[String]) -> Result<Option<Row<ListName>>, OutOfMemory>
+    ensures { IfOk result (λ names. names
+        ≡ option_and_then lists_given (given_of replay_shape (map string_bytes words.now))) }
 {
-    word.as_str() == "--"
-}
-
-fn is_option(word: &String) -> bool
-    ensures { result ≡ starts_with_dash (string_bytes word.now) }
-{
-    match word.as_bytes() {
-        [first, ..] => *first == b'-',
-        [] => false,
+    match read_words(alloc, &REPLAY, words) {
+        Ok(Some(given)) => lists(alloc, given.positionals()),
+        Ok(None) => Ok(None),
+        Err(OutOfMemory) => Err(OutOfMemory),
     }
 }
 
-fn first_end(words: &[String]) -> Option<usize>
-    ensures { result ≡ position (λ word. is_end_of_options (string_bytes word)) words.now }
-{
-    words.iter().position(|word| ends_options(word))
-}
-
-/// The place of the first word `--`, or the number of words.
-fn end_of_options(words: &[String]) -> usize
-    ensures place { result ≡ position_or_len is_end_of_options (map string_bytes words.now) }
-    ensures within { result ≤ length words.now }
-{
-    match first_end(words) {
-        Some(end) => end,
-        None => words.len(),
-    }
-}
-
-fn any_option(words: &[String]) -> bool
-    ensures { result ≡ list_any (λ word. starts_with_dash (string_bytes word)) words.now }
-{
-    words.iter().any(|word| is_option(word))
-}
-
-/// Whether a word begins with a dash.
-fn has_option(words: &[String]) -> bool
-    ensures { result ≡ list_any starts_with_dash (map string_bytes words.now) }
-{
-    any_option(words)
-}
-
-/// The word of a list that has one.
-fn single(words: &[String]) -> Option<&String>
-    ensures { MatchOption result (length words.now ≢ 1)
-        (λ word. map string_bytes words.now ≡ string_bytes word.now ∷ []) }
-{
-    match words {
-        [word] => Some(word),
-        _ => None,
-    }
-}
-
-/// The word of two lists that have one between them.
-fn only_word<'w>(before: &'w [String], after: &'w [String]) -> Option<&'w String>
-    ensures { MatchOption result
-        (one_list (map string_bytes before.now ++ map string_bytes after.now) ≡ None)
-        (λ word. map string_bytes before.now ++ map string_bytes after.now ≡ string_bytes word.now ∷ []) }
-{
-    if before.is_empty() {
-        return single(after);
-    }
-    if !after.is_empty() {
-        return None;
-    }
-    single(before)
-}
-
-/// The words after the first.
-fn without_first(words: &[String]) -> &[String]
-    ensures { result.now ≡ drop 1 words.now }
-{
-    match words {
-        [_, rest @ ..] => rest,
-        [] => words,
-    }
-}
-
-/// The list of `replay LIST`, whose positional words are these.
-fn list_among(words: &[String]) -> Option<ListName>
-    ensures { result ≡ option_and_then one_list (positionals (map string_bytes words.now)) }
-{
-    let end = end_of_options(words);
-    let (before, rest) = words.split_at(end);
-    let after = without_first(rest);
-    if has_option(before) {
-        return None;
-    }
-    let Some(word) = only_word(before, after) else {
-        return None;
-    };
-    read_list_name(word.as_bytes()).ok()
-}
-
-/// The list of `sbupdate replay LIST`; `None` where the words are no such command line.
-pub(crate) fn replay_list(words: &[String]) -> Option<ListName>
-    ensures { result ≡ replay_of (map string_bytes words.now) }
+/// The lists of `sbupdate replay LIST..`; `None` where the words are no such command line.
+pub(crate) fn replay_command(
+    alloc: Global,
+    words: &[String],
+) -> Result<Option<Row<ListName>>, OutOfMemory>
+    ensures { IfOk result (λ names. names ≡ replay_of (map string_bytes words.now)) }
 {
     let [program, command, rest @ ..] = words else {
-        return None;
+        return Ok(None);
     };
     if program.as_str() != "sbupdate" || command.as_str() != "replay" {
-        return None;
+        return Ok(None);
     }
-    list_among(rest)
+    replay_lists(alloc, rest)
 }

@@ -1,25 +1,32 @@
-ghost use Rattle.std.specs.Prelude.{◌≡◌, List, [], ◌∷◌};
-ghost use Rattle.sb_model.specs.declared.names.ListName.{ListName};
+ghost use Rattle.std.specs.Prelude.{◌≡◌, ℕ, List, [], ◌∷◌, ◌++◌, All};
 ghost use Rattle.sb_model.specs.History.{IsWellFormed};
 ghost use Rattle.sb_model.specs.Naming.{IsNaming};
-ghost use Rattle.sb_client.specs.PlainBody.{Reading};
-ghost use Rattle.sb_client.specs.Step.{nothing_held};
-ghost use Rattle.sb_client.specs.Run.{lists_after};
-ghost use Rattle.sb_client.specs.Replica.{IsHonest, candidates_of, HasNoCollision, KeepsReplicas};
+ghost use Rattle.update_client.specs.Held.{nothing_held_of};
+ghost use Rattle.sb_round.specs.Run.{lists_after};
+ghost use Rattle.sb_round.specs.Honest.{IsHonest};
+ghost use Rattle.sb_round.specs.Collision.{candidates_of, HasNoCollision};
+ghost use Rattle.sb_client.specs.Lines.{HasNoNewline, joined_lines, last_newline, lines_of};
+ghost use Rattle.sb_client.specs.Readings.{bodies_of};
 ghost use Rattle.sb_client.specs.Example.{example_name, example_history, example_tokens, example_readings, example_held};
 
-/// The law of every run, whichever list and bodies: through each number of honest bodies, from nothing
-/// held on, the list is the server's at the version that its token names.
-pub fn replicas_stay()
-    ensures { (name : ListName) (readings : List Reading) → KeepsReplicas name readings }
+use sb_model::names_go_by_their_codes;
+
+/// What the lines of an input are: none has a newline in it, and joined, each with its newline, they are the
+/// input, and a newline where the input ends in a line without one.
+pub fn lines_are_the_input()
+    ensures plain { (input : List ℕ) → All HasNoNewline (lines_of input) }
+    ensures whole { (input : List ℕ) → joined_lines (lines_of input) ≡ input ++ last_newline input }
 {}
 
-/// The premises of that law can be met: by a server with one change, and a run of two bodies of which the
-/// first is damaged and the second is installed.
+/// The premises of the headline can be met: by a server with three changes, and a run of a whole update that is
+/// Rice coded, a partial one with a base state, the same once more, which is stale then, one with a wrong
+/// checksum, a line that is cut short, and a partial one without a base state.
 pub fn premises_are_met()
     ensures formed { IsWellFormed example_history }
     ensures naming { IsNaming example_history example_tokens }
-    ensures honest { IsHonest example_history example_tokens (nothing_held example_name ∷ []) example_readings }
-    ensures apart { HasNoCollision example_history (candidates_of (nothing_held example_name ∷ []) example_readings) }
-    ensures installed { lists_after (nothing_held example_name ∷ []) example_readings ≡ example_held ∷ [] }
-{}
+    ensures honest { IsHonest example_history example_tokens (nothing_held_of (example_name ∷ [])) (bodies_of example_readings) }
+    ensures apart { HasNoCollision example_history (candidates_of (nothing_held_of (example_name ∷ [])) (bodies_of example_readings)) }
+    ensures installed { lists_after (nothing_held_of (example_name ∷ [])) (bodies_of example_readings) ≡ example_held ∷ [] }
+{
+    names_go_by_their_codes();
+}

@@ -1,105 +1,235 @@
-ghost use Rattle.std.specs.Prelude.{◌≡◌, ◌≢◌, ◌⊎◌, ℕ, ◌+◌, ◌∷◌, ◌++◌, [], ◌≤◌, length, true, false, IfOk, IfErr, OnOk, OnErr, IsErrOf, map};
-ghost use Rattle.std.specs.List.{flat_map};
+ghost use Rattle.std.specs.Prelude.{◌≡◌, ◌≢◌, ◌⊎◌, ℕ, List, [], ◌++◌, ◌≤◌, length, map, codes, IfOk, IfErr, OnOk, OnErr, IsErrOf};
+ghost use Rattle.std.specs.List.{flat_map, list_any};
 ghost use Rattle.sb_outside.specs.Outside.{Rose, appended};
+ghost use Rattle.sb_outside.specs.Writing.{IsOnItsWay, HasFront};
+ghost use Rattle.sb_json.specs.Printed.{cause_text};
+ghost use Rattle.update_client.specs.Held.{most_lists, nothing_held_of};
+ghost use Rattle.update_client.specs.Step.{after_updates, results_of};
+ghost use Rattle.sb_round.specs.Printed.{taken_text};
+ghost use Rattle.sb_round.specs.Run.{lists_after};
 ghost use Rattle.sb_client.specs.Lines.{lines_of};
 ghost use Rattle.sb_client.specs.declared.input.TheConstants.{MAX_INPUT};
-ghost use Rattle.sb_client.specs.PlainBody.{reading_of};
-ghost use Rattle.sb_client.specs.Run.{is_refusal as is_refusal_of, has_refusal, after_reading, outcome_of, lists_after, outcomes_of};
-ghost use Rattle.sb_client.specs.Printed.{outcome_line, outcome_lines, list_lines, prefix_line, replay_text};
+ghost use Rattle.sb_client.specs.Readings.{Reading as ReadingOf, updates_of, bodies_of, IsReader};
+ghost use Rattle.sb_client.specs.Printed.{numbered, taken_lines, body_lines, outcome_lines, list_lines, prefix_line, replay_text};
 ghost use Rattle.sb_client.specs.Input.{GivesWithin, GivesPast};
-ghost use Rattle.sb_outside.specs.Writing.{IsOnItsWay, HasFront};
-ghost use Rattle.sb_client.specs.Writing.{IsStopped};
-ghost use Rattle.sb_client.specs.Views.{held_of, outcome_of_line};
-ghost use Rattle.sb_client.specs.Replay.{is_refused_in, IsPrinted, IsPartlyPrinted};
+ghost use Rattle.sb_client.specs.Writing.{IsStopped, HasPart};
+ghost use Rattle.sb_client.specs.Replay.{is_refused as is_refused_result, has_refusal, has_refusals, IsPrinted, IsPartlyPrinted};
 
-use crate::body::{Body, read_body};
-use crate::held::{HeldList, UpdateResult};
 use crate::input::{first_line, read_input};
-use crate::printing::{LineOutcome, push_list_line, push_outcome_line, push_prefix_line};
+use crate::lines::{Reading, read_line};
+use crate::printing::{push_list_line, push_prefix_line, push_taken_line, push_unreadable_line};
 use crate::stop::Stop;
-use sb_model::{Bytes, ListName, OutOfMemory};
+use sb_json::MessageFault;
+use sb_model::{Bytes, ListName};
 use sb_outside::{Sink, Source, flush, flush_if_full};
 use std::alloc::Global;
+use update_client::{ClientLists, HeldList, ListResult};
+use update_messages::{FetchResponse, ListUpdate, values_read_or_have_a_fault};
 
-/// Takes one line as a response body.
-fn take_line(alloc: Global, held: &mut HeldList, line: &[u8]) -> Result<LineOutcome, OutOfMemory>
-    ensures list { OnOk result (held_of held.new ∷ [] ≡ after_reading (held_of held.old ∷ []) (reading_of held.old.name line.now)) }
-    ensures outcome { IfOk result (λ outcome. outcome_of_line held.old.name outcome
-        ≡ outcome_of (held_of held.old ∷ []) (reading_of held.old.name line.now)) }
-    ensures name { held.new.name ≡ held.old.name }
-{
-    match read_body(alloc, held.name, line)? {
-        Body::NotJson => Ok(LineOutcome::NotJson),
-        Body::NotBuilt => Ok(LineOutcome::NotBuilt),
-        Body::Plain(update) => Ok(LineOutcome::Taken(held.take(alloc, update)?)),
-    }
-}
-
-/// Whether a line is told with status 5.
-fn is_refusal(name: ListName, outcome: &LineOutcome) -> bool
-    ensures { result ≡ is_refusal_of (outcome_of_line name outcome.now) }
+/// Whether an update is told with status 5.
+fn is_refused(outcome: &ListResult) -> bool
+    ensures { result ≡ is_refused_result outcome.now }
 {
     match outcome {
-        LineOutcome::NotJson | LineOutcome::NotBuilt => true,
-        LineOutcome::Taken(UpdateResult::Installed(_)) => false,
-        LineOutcome::Taken(UpdateResult::Refused(_)) => true,
+        ListResult::Installed(_) | ListResult::NotKept => false,
+        ListResult::Refused(_) => true,
     }
 }
 
-/// Prints the line of a body.
-fn print_outcome<O: Sink>(
-    name: ListName,
+/// Whether one of several updates is.
+fn any_refused(outcomes: &[ListResult]) -> bool
+    ensures { result ≡ list_any is_refused_result outcomes.now }
+{
+    outcomes.iter().any(|outcome| is_refused(outcome))
+}
+
+/// Prints the line of an update.
+fn print_taken<O: Sink>(
     number: u64,
-    outcome: &LineOutcome,
+    name: ListName,
+    outcome: &ListResult,
     out: &mut O,
     page: &mut Bytes,
 ) -> Result<(), Stop>
     ensures text { OnOk result (IsOnItsWay (O.contents out.old) (O.contents out.new) page.new
-        (page.old ++ outcome_line number (outcome_of_line name outcome.now))) }
+        (page.old ++ numbered number (taken_text name outcome.now))) }
     ensures kept { OnOk result (O.faults out.new ≡ O.faults out.old) }
     ensures stopped { IfErr result (λ stop. IsStopped stop (O.faults out.old) (O.faults out.new)) }
     ensures err { OnErr result (HasFront (O.contents out.old) (O.contents out.new)
-        (page.old ++ outcome_line number (outcome_of_line name outcome.now))) }
+        (page.old ++ numbered number (taken_text name outcome.now))) }
 {
-    match push_outcome_line(page, name, number, outcome) {
+    match push_taken_line(page, number, name, outcome) {
         Ok(()) => Ok(flush_if_full(out, page)?),
         Err(_) => Err(Stop::OutOfMemory),
     }
 }
 
-/// Takes the lines of an input in order, and prints what became of each. Answers whether one was
-/// refused or had no reading.
+/// Prints the line of a body that has no reading.
+fn print_unreadable<O: Sink>(
+    number: u64,
+    fault: &MessageFault,
+    out: &mut O,
+    page: &mut Bytes,
+) -> Result<(), Stop>
+    ensures text { OnOk result (IsOnItsWay (O.contents out.old) (O.contents out.new) page.new
+        (page.old ++ numbered number (codes "unreadable " ++ cause_text fault.now))) }
+    ensures kept { OnOk result (O.faults out.new ≡ O.faults out.old) }
+    ensures stopped { IfErr result (λ stop. IsStopped stop (O.faults out.old) (O.faults out.new)) }
+    ensures err { OnErr result (HasFront (O.contents out.old) (O.contents out.new)
+        (page.old ++ numbered number (codes "unreadable " ++ cause_text fault.now))) }
+{
+    match push_unreadable_line(page, number, fault) {
+        Ok(()) => Ok(flush_if_full(out, page)?),
+        Err(_) => Err(Stop::OutOfMemory),
+    }
+}
+
+/// Prints a line for each update of a body.
+fn print_body<O: Sink>(
+    number: u64,
+    updates: &[ListUpdate],
+    outcomes: &[ListResult],
+    out: &mut O,
+    page: &mut Bytes,
+) -> Result<(), Stop>
+    requires { length outcomes.now ≡ length updates.now }
+    ensures text { OnOk result (IsOnItsWay (O.contents out.old) (O.contents out.new) page.new
+        (page.old ++ taken_lines number updates.now outcomes.now)) }
+    ensures kept { OnOk result (O.faults out.new ≡ O.faults out.old) }
+    ensures stopped { IfErr result (λ stop. IsStopped stop (O.faults out.old) (O.faults out.new)) }
+    ensures err { OnErr result (HasPart (O.contents out.old) (O.contents out.new)
+        (page.old ++ taken_lines number updates.now outcomes.now)) }
+{
+    for (i, outcome) in outcomes.iter().enumerate() {
+        let update = &updates[i];
+        if let Err(stop) = print_taken(number, update.name, outcome, out, page) {
+            return Err(stop);
+        }
+    }
+    Ok(())
+}
+
+/// Takes the updates of a body, and prints what became of each. Answers whether one was refused.
+fn take_body<O: Sink>(
+    alloc: Global,
+    lists: &mut ClientLists,
+    number: u64,
+    body: &FetchResponse,
+    out: &mut O,
+    page: &mut Bytes,
+) -> Result<bool, Stop>
+    ensures lists { OnOk result (lists.new ≡ after_updates lists.old body.now.items) }
+    ensures refused { IfOk result (λ refused. refused ≡ list_any is_refused_result (results_of lists.old body.now.items)) }
+    ensures text { OnOk result (IsOnItsWay (O.contents out.old) (O.contents out.new) page.new
+        (page.old ++ taken_lines number body.now.items (results_of lists.old body.now.items))) }
+    ensures kept { OnOk result (O.faults out.new ≡ O.faults out.old) }
+    ensures stopped { IfErr result (λ stop. IsStopped stop (O.faults out.old) (O.faults out.new)) }
+    ensures err { OnErr result (HasPart (O.contents out.old) (O.contents out.new)
+        (page.old ++ taken_lines number body.now.items (results_of lists.old body.now.items))) }
+{
+    let Ok(outcomes) = lists.take(alloc, body) else {
+        return Err(Stop::OutOfMemory);
+    };
+    match print_body(
+        number,
+        body.items.as_slice(),
+        outcomes.as_slice(),
+        out,
+        page,
+    ) {
+        Ok(()) => Ok(any_refused(outcomes.as_slice())),
+        Err(stop) => Err(stop),
+    }
+}
+
+/// Takes what a line is, and prints what became of it. Answers whether it has no reading or an update that
+/// was refused.
+fn take_reading<O: Sink>(
+    alloc: Global,
+    lists: &mut ClientLists,
+    number: u64,
+    reading: &Reading,
+    out: &mut O,
+    page: &mut Bytes,
+) -> Result<bool, Stop>
+    ensures lists { OnOk result (lists.new ≡ after_updates lists.old (updates_of reading.now)) }
+    ensures refused { IfOk result (λ refused. refused ≡ has_refusal lists.old reading.now) }
+    ensures text { OnOk result (IsOnItsWay (O.contents out.old) (O.contents out.new) page.new
+        (page.old ++ body_lines number lists.old reading.now)) }
+    ensures kept { OnOk result (O.faults out.new ≡ O.faults out.old) }
+    ensures stopped { IfErr result (λ stop. IsStopped stop (O.faults out.old) (O.faults out.new)) }
+    ensures err { OnErr result (HasPart (O.contents out.old) (O.contents out.new)
+        (page.old ++ body_lines number lists.old reading.now)) }
+{
+    match reading {
+        Ok(body) => take_body(alloc, lists, number, body, out, page),
+        Err(fault) => match print_unreadable(number, fault, out, page) {
+            Ok(()) => Ok(true),
+            Err(stop) => Err(stop),
+        },
+    }
+}
+
+/// Takes a line as a response body, and prints what became of it.
+fn take_line<O: Sink>(
+    alloc: Global,
+    lists: &mut ClientLists,
+    number: u64,
+    line: &[u8],
+    out: &mut O,
+    page: &mut Bytes,
+) -> Result<bool, Stop>
+    ensures lists { (read : List ℕ → ReadingOf) → IsReader read →
+        OnOk result (lists.new ≡ after_updates lists.old (updates_of (read line.now))) }
+    ensures refused { (read : List ℕ → ReadingOf) → IsReader read →
+        IfOk result (λ refused. refused ≡ has_refusal lists.old (read line.now)) }
+    ensures text { (read : List ℕ → ReadingOf) → IsReader read →
+        OnOk result (IsOnItsWay (O.contents out.old) (O.contents out.new) page.new
+        (page.old ++ body_lines number lists.old (read line.now))) }
+    ensures kept { OnOk result (O.faults out.new ≡ O.faults out.old) }
+    ensures stopped { IfErr result (λ stop. IsStopped stop (O.faults out.old) (O.faults out.new)) }
+    ensures err { (read : List ℕ → ReadingOf) → IsReader read →
+        OnErr result (HasPart (O.contents out.old) (O.contents out.new)
+        (page.old ++ body_lines number lists.old (read line.now))) }
+{
+    let Ok(reading) = read_line(alloc, line) else {
+        return Err(Stop::OutOfMemory);
+    };
+    take_reading(alloc, lists, number, &reading, out, page)
+}
+
+/// Takes the lines of an input in order, and prints what became of each. Answers whether one has no
+/// reading or an update that was refused.
 fn take_lines<O: Sink>(
     alloc: Global,
-    held: &mut HeldList,
+    lists: &mut ClientLists,
     input: &[u8],
     out: &mut O,
     page: &mut Bytes,
 ) -> Result<bool, Stop>
     requires page { page.old ≡ [] }
     requires within { length input.now ≤ MAX_INPUT }
-    ensures list { OnOk result (held_of held.new ∷ []
-        ≡ lists_after (held_of held.old ∷ []) (map (reading_of held.old.name) (lines_of input.now))) }
-    ensures refused { IfOk result (λ refused. refused
-        ≡ has_refusal (outcomes_of (held_of held.old ∷ []) (map (reading_of held.old.name) (lines_of input.now)))) }
-    ensures text { OnOk result (IsOnItsWay (O.contents out.old) (O.contents out.new) page.new
-        (outcome_lines 1 (outcomes_of (held_of held.old ∷ []) (map (reading_of held.old.name) (lines_of input.now))))) }
+    ensures lists { (read : List ℕ → ReadingOf) → IsReader read →
+        OnOk result (lists.new ≡ lists_after lists.old (bodies_of (map read (lines_of input.now)))) }
+    ensures refused { (read : List ℕ → ReadingOf) → IsReader read →
+        IfOk result (λ refused. refused ≡ has_refusals lists.old (map read (lines_of input.now))) }
+    ensures text { (read : List ℕ → ReadingOf) → IsReader read →
+        OnOk result (IsOnItsWay (O.contents out.old) (O.contents out.new) page.new
+        (outcome_lines 1 lists.old (map read (lines_of input.now)))) }
     ensures kept { OnOk result (O.faults out.new ≡ O.faults out.old) }
     ensures stopped { IfErr result (λ stop. IsStopped stop (O.faults out.old) (O.faults out.new)) }
-    ensures err { OnErr result (HasFront (O.contents out.old) (O.contents out.new)
-        (outcome_lines 1 (outcomes_of (held_of held.old ∷ []) (map (reading_of held.old.name) (lines_of input.now))))) }
+    ensures err { (read : List ℕ → ReadingOf) → IsReader read →
+        OnErr result (HasPart (O.contents out.old) (O.contents out.new)
+        (outcome_lines 1 lists.old (map read (lines_of input.now)))) }
 {
     let mut refused = false;
     let mut number = 1;
     let mut rest = input;
     while !rest.is_empty() {
         let (line, tail) = first_line(rest);
-        let Ok(outcome) = take_line(alloc, held, line) else {
-            return Err(Stop::OutOfMemory);
-        };
-        refused |= is_refusal(held.name, &outcome);
-        if let Err(stop) = print_outcome(held.name, number, &outcome, out, page) {
-            return Err(stop);
+        match take_line(alloc, lists, number, line, out, page) {
+            Ok(is_refused) => refused |= is_refused,
+            Err(stop) => return Err(stop),
         }
         number += 1;
         rest = tail;
@@ -139,46 +269,84 @@ fn print_prefixes<O: Sink>(held: &HeldList, out: &mut O, page: &mut Bytes) -> Re
     Ok(())
 }
 
-/// Prints the list with its prefixes, after what waits in the page, and nothing waits any more.
+/// Prints a list with its prefixes.
 fn print_list<O: Sink>(held: &HeldList, out: &mut O, page: &mut Bytes) -> Result<(), Stop>
-    ensures text { OnOk result (O.contents out.new
-        ≡ appended (O.contents out.old) (page.old ++ list_lines (held_of held.now))) }
+    ensures text { OnOk result (IsOnItsWay (O.contents out.old) (O.contents out.new) page.new
+        (page.old ++ list_lines held.now)) }
     ensures kept { OnOk result (O.faults out.new ≡ O.faults out.old) }
     ensures stopped { IfErr result (λ stop. IsStopped stop (O.faults out.old) (O.faults out.new)) }
     ensures err { OnErr result (HasFront (O.contents out.old) (O.contents out.new)
-        (page.old ++ list_lines (held_of held.now))) }
+        (page.old ++ list_lines held.now)) }
 {
     let Ok(()) = push_list_line(page, held) else {
         return Err(Stop::OutOfMemory);
     };
-    match print_prefixes(held, out, page) {
+    print_prefixes(held, out, page)
+}
+
+/// Prints lists with their prefixes.
+fn print_lists<O: Sink>(lists: &[HeldList], out: &mut O, page: &mut Bytes) -> Result<(), Stop>
+    ensures text { OnOk result (IsOnItsWay (O.contents out.old) (O.contents out.new) page.new
+        (page.old ++ flat_map list_lines lists.now)) }
+    ensures kept { OnOk result (O.faults out.new ≡ O.faults out.old) }
+    ensures stopped { IfErr result (λ stop. IsStopped stop (O.faults out.old) (O.faults out.new)) }
+    ensures err { OnErr result (HasFront (O.contents out.old) (O.contents out.new)
+        (page.old ++ flat_map list_lines lists.now)) }
+{
+    for held in lists {
+        if let Err(stop) = print_list(held, out, page) {
+            return Err(stop);
+        }
+    }
+    Ok(())
+}
+
+/// Prints lists with their prefixes after what waits in the page, and nothing waits any more.
+fn finish<O: Sink>(lists: &[HeldList], out: &mut O, page: &mut Bytes) -> Result<(), Stop>
+    ensures text { OnOk result (O.contents out.new
+        ≡ appended (O.contents out.old) (page.old ++ flat_map list_lines lists.now)) }
+    ensures kept { OnOk result (O.faults out.new ≡ O.faults out.old) }
+    ensures stopped { IfErr result (λ stop. IsStopped stop (O.faults out.old) (O.faults out.new)) }
+    ensures err { OnErr result (HasFront (O.contents out.old) (O.contents out.new)
+        (page.old ++ flat_map list_lines lists.now)) }
+{
+    match print_lists(lists, out, page) {
         Ok(()) => Ok(flush(out, page)?),
         Err(stop) => Err(stop),
     }
 }
 
-/// Replays the bodies of an input to one list, which is empty before. Answers whether one was
-/// refused or had no reading.
+/// Replays the bodies of an input to lists of which nothing is held before. Answers whether a body has no
+/// reading or an update that was refused.
 fn replay_input<O: Sink>(
     alloc: Global,
-    name: ListName,
+    names: &[ListName],
     input: &[u8],
     out: &mut O,
 ) -> Result<bool, Stop>
-    requires { length input.now ≤ MAX_INPUT }
-    ensures refused { IfOk result (λ refused. refused ≡ is_refused_in name input.now) }
-    ensures text { OnOk result (O.contents out.new ≡ appended (O.contents out.old) (replay_text name input.now)) }
+    requires some { names.now ≢ [] }
+    requires few { length names.now ≤ most_lists }
+    requires within { length input.now ≤ MAX_INPUT }
+    ensures refused { (read : List ℕ → ReadingOf) → IsReader read →
+        IfOk result (λ refused. refused ≡ has_refusals (nothing_held_of names.now) (map read (lines_of input.now))) }
+    ensures text { (read : List ℕ → ReadingOf) → IsReader read →
+        OnOk result (O.contents out.new
+        ≡ appended (O.contents out.old) (replay_text names.now (map read (lines_of input.now)))) }
     ensures kept { OnOk result (O.faults out.new ≡ O.faults out.old) }
     ensures stopped { IfErr result (λ stop. IsStopped stop (O.faults out.old) (O.faults out.new)) }
-    ensures err { OnErr result (HasFront (O.contents out.old) (O.contents out.new) (replay_text name input.now)) }
+    ensures err { (read : List ℕ → ReadingOf) → IsReader read →
+        OnErr result (HasFront (O.contents out.old) (O.contents out.new)
+        (replay_text names.now (map read (lines_of input.now)))) }
 {
-    let mut held = HeldList::new(alloc, name);
+    let Ok(mut lists) = ClientLists::new(alloc, names) else {
+        return Err(Stop::OutOfMemory);
+    };
     let mut page = Bytes::new(alloc);
-    let refused = match take_lines(alloc, &mut held, input, out, &mut page) {
+    let refused = match take_lines(alloc, &mut lists, input, out, &mut page) {
         Ok(refused) => refused,
         Err(stop) => return Err(stop),
     };
-    match print_list(&held, out, &mut page) {
+    match finish(lists.lists(), out, &mut page) {
         Ok(()) => Ok(refused),
         Err(stop) => Err(stop),
     }
@@ -187,24 +355,27 @@ fn replay_input<O: Sink>(
 /// Replays the bodies of an input, which is read to its end first.
 pub(crate) fn replay<S: Source, O: Sink>(
     alloc: Global,
-    name: ListName,
+    names: &[ListName],
     input: &mut S,
     out: &mut O,
 ) -> Result<bool, Stop>
-    ensures printed { IfOk result (λ refused. IsPrinted name refused (S.left input.old) (S.left input.new) (O.contents out.old) (O.contents out.new)) }
+    requires some { names.now ≢ [] }
+    requires few { length names.now ≤ most_lists }
+    ensures printed { IfOk result (λ refused. IsPrinted names.now refused (S.left input.old) (S.left input.new) (O.contents out.old) (O.contents out.new)) }
     ensures read_fault { IsErrOf result Stop.ReadFault → Rose (S.faults input.old) (S.faults input.new)
         × GivesWithin (S.left input.old) (S.left input.new) × (out.new ≡ out.old) }
     ensures past { IsErrOf result Stop.PastLimits → GivesPast (S.left input.old) (S.left input.new) × (out.new ≡ out.old) }
     ensures write_fault { IsErrOf result Stop.WriteFault → Rose (O.faults out.old) (O.faults out.new)
-        × IsPartlyPrinted name (S.left input.old) (S.left input.new) (O.contents out.old) (O.contents out.new) }
+        × IsPartlyPrinted names.now (S.left input.old) (S.left input.new) (O.contents out.old) (O.contents out.new) }
     ensures memory { IsErrOf result Stop.OutOfMemory → (O.contents out.new ≡ O.contents out.old)
-        ⊎ IsPartlyPrinted name (S.left input.old) (S.left input.new) (O.contents out.old) (O.contents out.new) }
+        ⊎ IsPartlyPrinted names.now (S.left input.old) (S.left input.new) (O.contents out.old) (O.contents out.new) }
     ensures input_kept { result ≢ Err Stop.ReadFault → S.faults input.new ≡ S.faults input.old }
     ensures output_kept { result ≢ Err Stop.WriteFault → O.faults out.new ≡ O.faults out.old }
 {
+    values_read_or_have_a_fault();
     let text = match read_input(alloc, input) {
         Ok(text) => text,
         Err(stop) => return Err(stop),
     };
-    replay_input(alloc, name, text.as_slice(), out)
+    replay_input(alloc, names, text.as_slice(), out)
 }

@@ -2,4 +2,12 @@
 #![tactic(auto)]
 
 #[cfg(test)]
-mod tests;
+mod bodies;
+#[cfg(test)]
+mod causes;
+#[cfg(test)]
+mod objects;
+#[cfg(test)]
+mod recordings;
+#[cfg(test)]
+mod words;

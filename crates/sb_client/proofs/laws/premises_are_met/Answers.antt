@@ -11,7 +11,7 @@ pub returns-clause-honest : goal.returns-clause-honest
 returns-clause-honest c = example_honest
 
 pub returns-clause-apart : goal.returns-clause-apart
-returns-clause-apart c = example_apart
+returns-clause-apart c = example_apart c.names_go_by_their_codes.ensures.same
 
 pub returns-clause-installed : goal.returns-clause-installed
 returns-clause-installed c = example_installed

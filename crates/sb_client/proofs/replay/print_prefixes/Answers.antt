@@ -1,4 +1,4 @@
-use Rattle.std.proofs.Common.{ℕ, List, ◌++◌, refl, ap, ◌∙◌, subst}
+use Rattle.std.proofs.Common.{◌≡◌, ℕ, List, ◌++◌, refl, ap, ◌∙◌, subst}
 use Rattle.std.specs.List.{flat_map}
 use Rattle.sb_client.specs.Printed.{prefix_line}
 use Rattle.sb_outside.specs.Writing.{HasFront}
@@ -7,7 +7,8 @@ use Rattle.sb_client.proofs.replay.print_prefixes.Goals as goal
 
 pub loop-prefix-init : goal.loop-prefix-init
 loop-prefix-init g c =
-    let all = c.into_iter-prefix-iterator.ensures.into_iter_gives ∙ c.iter-prefix-items.ensures.members in
+    let held : c.held.inside.set ≡ c.args.held.now.set = cc in
+    let all = c.into_iter-prefix-iterator.ensures.into_iter_gives ∙ c.iter-prefix-items.ensures.members ∙ held in
     (c.args.page.now, way_start _ _, ap (λ (ps : List (List ℕ)). c.args.page.now ++ flat_map prefix_line ps) all, refl)
 
 pub loop-prefix-preserved : goal.loop-prefix-preserved

@@ -1,29 +1,34 @@
-use Rattle.std.proofs.Common.{ap, ◌∙◌, subst, ◌∷◌, [], map}
+use Rattle.std.proofs.Common.{ap, ◌∙◌, subst, map}
+use Rattle.std.specs.List.{flat_map}
 use Rattle.sb_outside.specs.Outside.{appended}
-use Rattle.sb_client.specs.Lines.{lines_of}
-use Rattle.sb_client.specs.PlainBody.{reading_of}
-use Rattle.sb_client.specs.Step.{Held}
-use Rattle.sb_client.specs.Printed.{list_lines, printed_text}
-use Rattle.sb_client.specs.Views.{held_of}
 use Rattle.sb_outside.specs.Writing.{HasFront}
-use Rattle.sb_client.proofs.Ways.{way_longer, way_end, way_front, front_more}
-use Rattle.sb_client.proofs.Replays.{text_is}
+use Rattle.sb_client.specs.Lines.{lines_of}
+use Rattle.sb_client.specs.Printed.{outcome_lines, list_lines, replay_text}
+use Rattle.sb_client.proofs.Ways.{front_none, way_longer, way_end, way_front}
+use Rattle.sb_client.proofs.Replays.{text_some, whole_text, lines_front}
 use Rattle.sb_client.proofs.replay.replay_input.Goals as goal
 
-pub returns-in-Ok-print_list-clause-text : goal.returns-in-Ok-print_list-clause-text
-returns-in-Ok-print_list-clause-text g c =
-    let held = held_of c.take_lines.new.held in
-    way_end _ _ (way_longer _ _ (list_lines held) c.in-Ok.ensures.text) c.in-Ok-print_list.ensures.text
-    ∙ ap (appended (g.O.Sink.contents c.args.out.now)) (text_is c.args.input.now (held_of c.new-held.result) held c.args.name c.new-held.ensures c.in-Ok.ensures.list)
-
-pub returns-clause-err : goal.returns-clause-err
-returns-clause-err g c =
-    let held = held_of c.take_lines.new.held in
-    subst (HasFront (g.O.Sink.contents c.args.out.now) (g.O.Sink.contents c.print_list.new.out))
-    (text_is c.args.input.now (held_of c.new-held.result) held c.args.name c.new-held.ensures c.in-Ok.ensures.list)
-    (way_front _ _ (list_lines held) c.in-Ok.ensures.text c.in-Err-print_list.ensures.err)
+pub returns-in_default-clause-err : goal.returns-in_default-clause-err
+returns-in_default-clause-err g c = λ read reads.
+    let readings = map read (lines_of c.args.input.now) in
+    front_none (g.O.Sink.contents c.args.out.now) (replay_text c.args.names.now readings) (text_some c.args.names.now readings c.requires.some)
 
 pub returns-in-Err-clause-err : goal.returns-in-Err-clause-err
-returns-in-Err-clause-err g c =
-    subst (λ (held : Held). HasFront (g.O.Sink.contents c.args.out.now) (g.O.Sink.contents c.take_lines.new.out) (printed_text (held ∷ []) (map (reading_of held.name) (lines_of c.args.input.now)))) c.new-held.ensures
-    (front_more _ _ c.in-Err.ensures.err)
+returns-in-Err-clause-err g c = λ read reads.
+    lines_front c.args.names.now c.in-Ok.lists (map read (lines_of c.args.input.now)) c.requires.some c.in-Ok.ensures (c.in-Err.ensures.err read reads)
+
+pub returns-in-Ok-finish-clause-text : goal.returns-in-Ok-finish-clause-text
+returns-in-Ok-finish-clause-text g c = λ read reads.
+    let readings = map read (lines_of c.args.input.now) in
+    let after = c.lists-2.result.now in
+    let all = whole_text c.args.names.now c.in-Ok.lists after readings c.in-Ok.ensures (c.lists-2.ensures.value ∙ c.in-Ok-take_lines.ensures.lists read reads) in
+    way_end _ _ (way_longer _ _ (flat_map list_lines after) (c.in-Ok-take_lines.ensures.text read reads)) c.in-Ok-finish.ensures.text
+    ∙ ap (appended (g.O.Sink.contents c.args.out.now)) all
+
+pub returns-clause-err : goal.returns-clause-err
+returns-clause-err g c = λ read reads.
+    let readings = map read (lines_of c.args.input.now) in
+    let after = c.lists-2.result.now in
+    let all = whole_text c.args.names.now c.in-Ok.lists after readings c.in-Ok.ensures (c.lists-2.ensures.value ∙ c.in-Ok-take_lines.ensures.lists read reads) in
+    subst (HasFront (g.O.Sink.contents c.args.out.now) (g.O.Sink.contents c.finish.new.out)) all
+    (way_front _ (outcome_lines 1 c.in-Ok.lists readings) (flat_map list_lines after) (c.in-Ok-take_lines.ensures.text read reads) c.in-Err-finish.ensures.err)

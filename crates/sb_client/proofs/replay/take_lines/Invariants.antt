@@ -1,26 +1,24 @@
-use Rattle.std.proofs.Common.{◌≡◌, ◌+◌, ◌≤◌, ℕ, List, [], ◌∷◌, ◌++◌, length, map}
+use Rattle.std.proofs.Common.{◌≡◌, ◌+◌, ◌≤◌, ℕ, List, ◌++◌, length, map}
 use Rattle.std.specs.Prelude.{◌||◌}
-use Rattle.sb_client.specs.Lines.{lines_of}
-use Rattle.sb_client.specs.PlainBody.{reading_of}
-use Rattle.sb_client.specs.Run.{lists_after, outcomes_of, has_refusal}
-use Rattle.sb_client.specs.Printed.{outcome_lines}
-use Rattle.sb_client.specs.Views.{held_of}
 use Rattle.sb_outside.specs.Writing.{IsOnItsWay}
+use Rattle.sb_round.specs.Run.{lists_after}
+use Rattle.sb_client.specs.Lines.{lines_of}
+use Rattle.sb_client.specs.Readings.{Reading, bodies_of, IsReader}
+use Rattle.sb_client.specs.Printed.{outcome_lines}
+use Rattle.sb_client.specs.Replay.{has_refusals}
 use Rattle.sb_client.proofs.replay.take_lines.Given as goal
 
 -- what the lines so far did, and what those that are left will do, is what all lines do
 abbrev pub invariant-loop-rest : goal.invariant-loop-rest
 invariant-loop-rest g l =
-    let left = map (reading_of l.initial.held.name) (lines_of l.rest) in
-    let all = map (reading_of l.initial.held.name) (lines_of l.input) in
-    let start = held_of l.initial.held ∷ [] in
-    let now = held_of l.held ∷ [] in
+    ((read : List ℕ → Reading) → IsReader read →
+    let left = map read (lines_of l.rest) in
+    let all = map read (lines_of l.input) in
     (done : List ℕ)
     × IsOnItsWay (g.O.Sink.contents l.initial.out) (g.O.Sink.contents l.out) l.page done
-    × (done ++ outcome_lines l.number (outcomes_of now left) ≡ outcome_lines 1 (outcomes_of start all))
-    × (lists_after now left ≡ lists_after start all)
-    × ((l.refused || has_refusal (outcomes_of now left)) ≡ has_refusal (outcomes_of start all))
-    × (l.held.name ≡ l.initial.held.name)
+    × (done ++ outcome_lines l.number l.lists left ≡ outcome_lines 1 l.initial.lists all)
+    × (lists_after l.lists (bodies_of left) ≡ lists_after l.initial.lists (bodies_of all))
+    × ((l.refused || has_refusals l.lists left) ≡ has_refusals l.initial.lists all))
     × (g.O.Sink.faults l.out ≡ g.O.Sink.faults l.initial.out)
     × (l.number + length l.rest ≤ length l.input + 1)
 

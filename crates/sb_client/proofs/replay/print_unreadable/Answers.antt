@@ -1,0 +1,11 @@
+use Rattle.std.proofs.Common.{◌++◌, codes}
+use Rattle.sb_json.specs.Printed.{cause_text}
+use Rattle.sb_client.specs.Printed.{numbered}
+use Rattle.sb_client.proofs.Ways.{front_none, some_back}
+use Rattle.sb_client.proofs.Replays.{numbered_some}
+use Rattle.sb_client.proofs.replay.print_unreadable.Goals as goal
+
+pub returns-in-Err-clause-err : goal.returns-in-Err-clause-err
+returns-in-Err-clause-err g c =
+    let text = codes "unreadable " ++ cause_text c.args.fault.now in
+    front_none (g.O.Sink.contents c.args.out.now) (c.args.page.now ++ numbered c.args.number text) (some_back c.args.page.now _ (numbered_some c.args.number text))

@@ -1,0 +1,110 @@
+//! The words of `replay`.
+use crate::bodies::{LIST, source, words};
+use sb_client::{USAGE, run_client};
+use sb_model::Row;
+use sb_outside::MemorySink;
+use std::alloc::Global;
+use std::process::Abort;
+use std::test::Fail;
+
+const OTHER: &str = "MALWARE/LINUX/URL";
+
+// The words of a table and what an empty input comes to: the lists that are printed, or the usage with status 1.
+static LINES: [(&[&str], &str); 30] = [
+    (
+        &["sbupdate", "replay", LIST],
+        "list MALWARE/ANY_PLATFORM/URL 0 -\n",
+    ),
+    (
+        &["sbupdate", "replay", "--", LIST],
+        "list MALWARE/ANY_PLATFORM/URL 0 -\n",
+    ),
+    (
+        &["sbupdate", "replay", LIST, "--"],
+        "list MALWARE/ANY_PLATFORM/URL 0 -\n",
+    ),
+    (
+        &["sbupdate", "replay", LIST, "--", OTHER],
+        "list MALWARE/LINUX/URL 0 -\nlist MALWARE/ANY_PLATFORM/URL 0 -\n",
+    ),
+    (
+        &["sbupdate", "replay", OTHER, LIST],
+        "list MALWARE/LINUX/URL 0 -\nlist MALWARE/ANY_PLATFORM/URL 0 -\n",
+    ),
+    (
+        &[
+            "sbupdate",
+            "replay",
+            "SOCIAL_ENGINEERING/WINDOWS/URL",
+            "MALWARE/CHROME/EXECUTABLE",
+            "MALWARE/CHROME/URL",
+            "MALWARE/OSX/URL",
+            "MALWARE/ANDROID/URL",
+            "MALWARE/IOS/URL",
+            "MALWARE/ALL_PLATFORMS/URL",
+            "MALWARE/WINDOWS/URL",
+        ],
+        "list MALWARE/WINDOWS/URL 0 -\nlist MALWARE/ANDROID/URL 0 -\nlist MALWARE/OSX/URL 0 -\nlist MALWARE/IOS/URL 0 -\nlist MALWARE/ALL_PLATFORMS/URL 0 -\nlist MALWARE/CHROME/URL 0 -\nlist MALWARE/CHROME/EXECUTABLE 0 -\nlist SOCIAL_ENGINEERING/WINDOWS/URL 0 -\n",
+    ),
+    (
+        &[
+            "sbupdate",
+            "replay",
+            LIST,
+            "MALWARE/CHROME/EXECUTABLE",
+            "MALWARE/CHROME/URL",
+            "MALWARE/OSX/URL",
+            "MALWARE/ANDROID/URL",
+            "MALWARE/IOS/URL",
+            "MALWARE/ALL_PLATFORMS/URL",
+            "MALWARE/WINDOWS/URL",
+            OTHER,
+        ],
+        USAGE,
+    ),
+    (&[], USAGE),
+    (&["sbupdate"], USAGE),
+    (&["sbupdate", "replay"], USAGE),
+    (&["sbupdate", "replay", "--"], USAGE),
+    (&["sbupdate", "replay", LIST, LIST], USAGE),
+    (&["sbupdate", "replay", LIST, OTHER, LIST], USAGE),
+    (
+        &["sbupdate", "replay", "MALWARE/ANY_PLATFORM/IP_RANGE"],
+        USAGE,
+    ),
+    (&["sbupdate", "replay", "malware/any_platform/url"], USAGE),
+    (&["sbupdate", "replay", "MALWARE/ANY_PLATFORM"], USAGE),
+    (&["sbupdate", "replay", ""], USAGE),
+    (&["sbupdate", "replay", LIST, ""], USAGE),
+    (&["sbupdate", "replay", "-h"], USAGE),
+    (&["sbupdate", "replay", "--help"], USAGE),
+    (&["sbupdate", "replay", "--help", LIST], USAGE),
+    (&["sbupdate", "replay", "--version", LIST], USAGE),
+    (&["sbupdate", "replay", "help", LIST], USAGE),
+    (&["sbupdate", "replay", "-", LIST], USAGE),
+    (&["sbupdate", "replay", "--store=s", LIST], USAGE),
+    (&["sbupdate", "replay", "--", "--", LIST], USAGE),
+    (&["sbupdate", "--", "replay", LIST], USAGE),
+    (&["sbupdate", "--help"], USAGE),
+    (&["sbcheck", "replay", LIST], USAGE),
+    (&["sbupdate", "run", LIST], USAGE),
+];
+
+// Sees what the words answer and write.
+fn answers(rt: &impl Abort, alloc: Global, texts: &[&str], text: &str) -> Result<(), Fail> {
+    let words = words(alloc, texts)?;
+    let mut input = source(alloc, b"", &[], 1)?;
+    let mut out = MemorySink::new(alloc, 1000, Row::new(alloc))?;
+    let status = run_client(alloc, words.as_slice(), &mut input, &mut out);
+    assert_eq!(rt; out.bytes(), text.as_bytes());
+    assert_eq!(rt; status, if text == USAGE { 1 } else { 0 });
+    Ok(())
+}
+
+#[test]
+fn words_are_a_command_line_or_get_the_usage(rt: HostRuntime) -> Result<(), Fail> {
+    for (texts, text) in LINES.iter() {
+        answers(&rt, rt.alloc(), texts, text)?;
+    }
+    Ok(())
+}
