@@ -22,14 +22,14 @@ bin/%: $(SOURCES)
 test:
 	rt ci
 
-# The recording has an update with a wrong checksum, the same update with the right one, and a later
-# one whose prefixes come in no order. The first is refused, so the replay ends with status 5.
-demo: all
+# The recording has an update with a wrong checksum, the same update with the right one, a later one whose
+# prefixes come in no order, and a partial one. The first is refused, so the replay ends with status 5.
+demo: bin/sbupdate
 	@bin/sbupdate replay $(LIST) < demo/recording.jsonl; status=$$?; \
 	  echo "status $$status"; test $$status -eq 5
 
 # A second program of the same rules, in Python, has to print what sbupdate prints.
-compare: all
+compare: bin/sbupdate
 	python3 compare/compare.py
 
 bench: all

@@ -2,8 +2,9 @@
 """Runs `sbupdate replay` beside a second program of the same rules, and compares what they print.
 
 The second program is the first part of this file. It follows docs/FORMATS.md with Python's own JSON,
-base64 and SHA-256, and shares nothing with the crates. The inputs are seeded: bodies that are right,
-bodies with changed fields, and bodies with changed bytes. The exit status is 1 where a run differs.
+base64 and SHA-256, and shares nothing with the crates. First come the recordings of compare/recordings.py, whose
+texts are known; then seeded inputs: bodies that are right, bodies with changed fields, and bodies with changed
+bytes. The exit status is 1 where a run differs.
 """
 
 import argparse
@@ -15,8 +16,11 @@ import hashlib
 import json
 import os
 import random
+import re
 import subprocess
 import sys
+
+from recordings import RECORDINGS
 
 REPOSITORY = os.path.dirname(os.path.dirname(os.path.abspath(__file__)))
 SBUPDATE = os.path.join(REPOSITORY, "bin", "sbupdate")
@@ -26,29 +30,32 @@ PLATFORMS = ["WINDOWS", "LINUX", "ANDROID", "OSX", "IOS", "ANY_PLATFORM", "ALL_P
 ENTRIES = ["URL", "EXECUTABLE"]
 
 DEEPEST = 127
-MOST_ADDED = 4_194_304
-MOST_TOKEN = 4_096
+MOST_VALUES = 1_048_576
+MOST_BYTES = 8_388_608
+MOST_STATE = 4_096
+MOST_SECONDS = 315_576_000_000
+I32, I64 = 2**31 - 1, 2**63 - 1
 
 
-# ---- the second program
+# ---- the second program: JSON
 
 
-class NotJson(Exception):
-    """A line is not JSON, or is JSON that the client does not read."""
+class Unreadable(Exception):
+    """A line has no reading, for the cause that is the exception's text."""
 
 
-class NotBuilt(Exception):
-    """A line is JSON, but no full, uncompressed update of the list."""
+class Refused(Exception):
+    """An update is refused, for the cause that is the exception's text."""
 
 
 def no_constant(name):
-    raise NotJson(name)
+    raise Unreadable("not-json")
 
 
 def read_float(text):
     number = float(text)
     if number in (float("inf"), float("-inf")):
-        raise NotJson("too large for a float")
+        raise Unreadable("not-json")
     return number
 
 
@@ -67,10 +74,10 @@ def is_text(value):
 
 def look_through(value, depth=0):
     if isinstance(value, str) and not is_text(value):
-        raise NotJson("half of a pair")
+        raise Unreadable("not-json")
     if isinstance(value, (list, dict)):
         if depth == DEEPEST:
-            raise NotJson("too deep")
+            raise Unreadable("not-json")
         for item in value:
             look_through(item, depth + 1)
     if isinstance(value, dict):
@@ -95,112 +102,288 @@ def read_json(line):
             object_pairs_hook=read_object,
         )
     except (ValueError, RecursionError) as fault:
-        raise NotJson("no JSON") from fault
+        raise Unreadable("not-json") from fault
     look_through(value)
     return value
 
 
-def field(value, name):
-    return value.get(name) if isinstance(value, dict) else None
+# ---- the second program: fields
 
 
-def single(value):
-    if not isinstance(value, list) or len(value) != 1:
-        raise NotBuilt("no list of one")
-    return value[0]
+class Reader:
+    """Reads the fields of the item with a number, and tells the first that is not as its table says."""
+
+    def __init__(self, item):
+        self.item = item
+
+    def refuse(self, what, label):
+        raise Unreadable(f"field {what} {label} {self.item}")
+
+    def object(self, value, label):
+        if not isinstance(value, dict):
+            self.refuse("wrong-kind", label)
+        return value
+
+    def needed(self, holder, name, label=None):
+        value = holder.get(name)
+        if value is None:
+            self.refuse("missing", label or name)
+        return value
+
+    def inner(self, holder, name):
+        return self.object(self.needed(holder, name), name)
+
+    def string(self, value, label):
+        if not isinstance(value, str):
+            self.refuse("wrong-kind", label)
+        return value
+
+    def word(self, holder, name, words):
+        value = self.string(self.needed(holder, name), name)
+        if value not in words:
+            self.refuse("name", name)
+        return value
+
+    def list(self, holder, name):
+        value = holder.get(name)
+        if value is None:
+            return []
+        if not isinstance(value, list):
+            self.refuse("wrong-kind", name)
+        return value
+
+    def number(self, value, label, low, high):
+        if isinstance(value, bool) or not isinstance(value, (int, float, str)):
+            self.refuse("wrong-kind", label)
+        if isinstance(value, str):
+            value = int(value) if re.fullmatch(r"0|[1-9][0-9]*", value, re.ASCII) else -1
+        if isinstance(value, float) or not low <= value <= high:
+            self.refuse("number", label)
+        return value
+
+    def number_or_zero(self, holder, name, high):
+        value = holder.get(name)
+        return 0 if value is None else self.number(value, name, 0, high)
+
+    def bytes(self, value, label):
+        text = self.string(value, label).replace("-", "+").replace("_", "/")
+        if "=" not in text and len(text) % 4 in (2, 3):
+            text += "=" * (4 - len(text) % 4)
+        try:
+            data = base64.b64decode(text.encode("ascii"), validate=True)
+        except (UnicodeEncodeError, binascii.Error):
+            self.refuse("base64", label)
+        if base64.b64encode(data).decode("ascii") != text:
+            self.refuse("base64", label)
+        return data
+
+    def bytes_or_none(self, holder, name, label=None):
+        value = holder.get(name)
+        return b"" if value is None else self.bytes(value, label or name)
+
+    def state(self, holder, name):
+        data = self.bytes_or_none(holder, name)
+        if len(data) > MOST_STATE:
+            self.refuse(f"size {len(data)}", name)
+        return data
+
+    def rice(self, holder, name):
+        record = self.inner(holder, name)
+        first = self.number_or_zero(record, "firstValue", I64)
+        parameter = self.number_or_zero(record, "riceParameter", I32)
+        count = self.number_or_zero(record, "numEntries", I32)
+        return ("rice", first, parameter, count, self.bytes_or_none(record, "encodedData"))
+
+    def addition(self, value):
+        entry = self.object(value, "additions")
+        if self.word(entry, "compressionType", ("RAW", "RICE")) == "RICE":
+            return self.rice(entry, "riceHashes")
+        raw = self.inner(entry, "rawHashes")
+        size = self.number(self.needed(raw, "prefixSize"), "prefixSize", 4, 32)
+        data = self.bytes_or_none(raw, "rawHashes", "rawHashes.rawHashes")
+        if len(data) % size != 0:
+            self.refuse(f"size {len(data)}", "rawHashes.rawHashes")
+        return ("raw", [data[at : at + size] for at in range(0, len(data), size)])
+
+    def removal(self, value):
+        entry = self.object(value, "removals")
+        if self.word(entry, "compressionType", ("RAW", "RICE")) == "RICE":
+            return self.rice(entry, "riceIndices")
+        indices = self.list(self.inner(entry, "rawIndices"), "indices")
+        return ("raw", [self.number(index, "indices", 0, I32) for index in indices])
+
+    def update(self, value):
+        entry = self.object(value, "listUpdateResponses")
+        read = {
+            "name": "/".join(
+                self.word(entry, field, words)
+                for field, words in (
+                    ("threatType", THREATS),
+                    ("platformType", PLATFORMS),
+                    ("threatEntryType", ENTRIES),
+                )
+            )
+        }
+        kinds = ("FULL_UPDATE", "PARTIAL_UPDATE")
+        read["full"] = self.word(entry, "responseType", kinds) == "FULL_UPDATE"
+        read["additions"] = [self.addition(one) for one in self.list(entry, "additions")]
+        read["removals"] = [self.removal(one) for one in self.list(entry, "removals")]
+        read["state"] = self.state(entry, "newClientState")
+        read["base"] = self.state(entry, "baseState")
+        digest = self.bytes(self.needed(self.inner(entry, "checksum"), "sha256"), "sha256")
+        if len(digest) != 32:
+            self.refuse(f"size {len(digest)}", "sha256")
+        read["checksum"] = digest
+        return read
+
+    def duration(self, holder, name):
+        value = holder.get(name)
+        if value is None:
+            return
+        form = re.fullmatch(r"([0-9]+)(?:\.([0-9]{1,9}))?s", self.string(value, name), re.ASCII)
+        if form is None:
+            self.refuse("duration", name)
+        nanos = int((form[2] or "").ljust(9, "0"))
+        if int(form[1]) * 10**9 + nanos > MOST_SECONDS * 10**9:
+            self.refuse("duration", name)
 
 
-def read_bytes(value):
-    """Standard base64 with its padding, and zeros in the bits that are left."""
-    if not isinstance(value, str):
-        raise NotBuilt("no text")
-    try:
-        data = base64.b64decode(value.encode("ascii"), validate=True)
-    except (UnicodeEncodeError, binascii.Error) as fault:
-        raise NotBuilt("no base64") from fault
-    if base64.b64encode(data).decode("ascii") != value:
-        raise NotBuilt("another spelling")
-    return data
+def read_body(line):
+    """The updates of a response."""
+    outside = Reader(0)
+    body = outside.object(read_json(line), "message")
+    items = outside.list(body, "listUpdateResponses")
+    updates = [Reader(number).update(item) for number, item in enumerate(items, 1)]
+    outside.duration(body, "minimumWaitDuration")
+    return updates
 
 
-def read_additions(value):
-    if value is None:
-        return b""
-    additions = single(value)
-    if field(additions, "compressionType") != "RAW":
-        raise NotBuilt("not RAW")
-    hashes = field(additions, "rawHashes")
-    size = field(hashes, "prefixSize")
-    if type(size) is not int or size != 4:
-        raise NotBuilt("not four bytes")
-    data = read_bytes(field(hashes, "rawHashes"))
-    if len(data) > MOST_ADDED or len(data) % 4 != 0:
-        raise NotBuilt("no prefixes")
-    return data
+# ---- the second program: updates
 
 
-def read_body(line, name):
-    """The prefixes one after the other, the new state and the checksum."""
-    update = single(field(read_json(line), "listUpdateResponses"))
+def decode(record):
+    """The numbers of a Rice record."""
+    _, first, parameter, count, coded = record
+    if count > 0 and not 2 <= parameter <= 28:
+        raise Refused(f"rice parameter {parameter}")
+    if count + 1 > MOST_VALUES:
+        raise Refused(f"rice count-limit {count + 1}")
+    if first >= 2**32:
+        raise Refused("rice range 0")
+    bits = [byte >> place & 1 for byte in coded for place in range(8)]
+    numbers, at = [first], 0
+    for entry in range(1, count + 1):
+        quotient = 0
+        while at < len(bits) and bits[at]:
+            quotient += 1
+            at += 1
+        if at + 1 + parameter > len(bits):
+            raise Refused(f"rice ended {entry}")
+        low = bits[at + 1 : at + 1 + parameter]
+        at += 1 + parameter
+        delta = (quotient << parameter) + sum(bit << place for place, bit in enumerate(low))
+        if numbers[-1] + delta >= 2**32:
+            raise Refused(f"rice range {entry}")
+        numbers.append(numbers[-1] + delta)
+    if len(bits) - at >= 8:
+        raise Refused(f"rice left-over {len(bits) - at}")
+    return numbers
+
+
+def members_of(entry):
+    if entry[0] == "raw":
+        return entry[1]
+    return [number.to_bytes(4, "little") for number in decode(entry)]
+
+
+def places_of(entry):
+    return entry[1] if entry[0] == "raw" else decode(entry)
+
+
+def shown(token):
+    return token.hex() or "-"
+
+
+def propose(token, held, update):
+    """The set that an update proposes to one who holds a rising list of prefixes."""
+    partial = not update["full"]
+    if partial and update["base"] and update["base"] != token:
+        raise Refused(f"stale-base {shown(token)} {shown(update['base'])}")
+    additions = [member for entry in update["additions"] for member in members_of(entry)]
+    places = [place for entry in update["removals"] for place in places_of(entry)] if partial else []
+    for place in places:
+        if place >= len(held):
+            raise Refused(f"index-range {place} {len(held)}")
+    gone = set(places)
+    kept = [member for place, member in enumerate(held) if place not in gone] if partial else []
+    members = sorted(set(kept + additions))
+    if len(members) > MOST_VALUES:
+        raise Refused(f"too-many {len(members)}")
+    text = b"".join(members)
+    if len(text) > MOST_BYTES:
+        raise Refused(f"too-large {len(text)}")
+    digest = hashlib.sha256(text).digest()
+    if digest != update["checksum"]:
+        raise Refused(f"checksum {digest.hex()} {update['checksum'].hex()}")
+    return members
+
+
+def order(name):
     threat, platform, entry = name.split("/")
-    wanted = {
-        "threatType": threat,
-        "platformType": platform,
-        "threatEntryType": entry,
-        "responseType": "FULL_UPDATE",
-        "removals": None,
-    }
-    if any(field(update, key) != value for key, value in wanted.items()):
-        raise NotBuilt("another kind of update")
-    data = read_additions(field(update, "additions"))
-    token = read_bytes(field(update, "newClientState"))
-    checksum = read_bytes(field(field(update, "checksum"), "sha256"))
-    if len(token) > MOST_TOKEN or len(checksum) != 32:
-        raise NotBuilt("lengths")
-    return data, token, checksum
+    return THREATS.index(threat), PLATFORMS.index(platform), ENTRIES.index(entry)
 
 
-def replay(text, name):
-    """What is printed, the status, and how often each thing became of a line."""
+def take(held, update):
+    """What is told of an update, and what became of it."""
+    name = update["name"]
+    if name not in held:
+        return f"{name} not-kept", "not kept"
+    token, members = held[name]
+    try:
+        members = propose(token, members, update)
+    except Refused as fault:
+        return f"{name} refused {fault}", "refused"
+    held[name] = update["state"], members
+    return f"{name} installed {len(members)}", "installed"
+
+
+def replay(text, names):
+    """What is printed, the status, and how often each thing came of a line or an update."""
     lines = text.split(b"\n")
     if lines[-1] == b"":
         lines.pop()
-    prefixes, held_token = [], b""
+    held = {name: (b"", []) for name in names}
     printed, outcomes = [], collections.Counter()
     for number, line in enumerate(lines, 1):
         try:
-            data, token, checksum = read_body(line, name)
-        except NotJson:
-            outcome, told = "not JSON", "unreadable not-json"
-        except NotBuilt:
-            outcome, told = "not built", "unreadable not-built"
-        else:
-            members = sorted({data[at : at + 4] for at in range(0, len(data), 4)})
-            digest = hashlib.sha256(b"".join(members)).digest()
-            if digest == checksum:
-                prefixes, held_token = members, token
-                outcome, told = "installed", f"{name} installed {len(members)}"
-            else:
-                outcome = "refused"
-                told = f"{name} refused checksum {digest.hex()} {checksum.hex()}"
-        outcomes[outcome] += 1
-        printed.append(f"{number} {told}")
-    printed.append(f"list {name} {len(prefixes)} {held_token.hex() or '-'}")
-    printed += [prefix.hex() for prefix in prefixes]
-    status = 0 if set(outcomes) <= {"installed"} else 5
+            updates = read_body(line)
+        except Unreadable as fault:
+            outcomes["not JSON" if str(fault) == "not-json" else "with a field fault"] += 1
+            printed.append(f"{number} unreadable {fault}")
+            continue
+        for update in updates:
+            told, outcome = take(held, update)
+            outcomes[outcome] += 1
+            printed.append(f"{number} {told}")
+    for name in sorted(names, key=order):
+        token, members = held[name]
+        printed.append(f"list {name} {len(members)} {shown(token)}")
+        printed += [member.hex() for member in members]
+    status = 0 if set(outcomes) <= {"installed", "not kept"} else 5
     return "".join(line + "\n" for line in printed).encode("ascii"), status, outcomes
 
 
 # ---- the inputs
 
 ODD_VALUES = [
-    None, True, False, 0, 4, 5, -1, 4.0, 2**63, 2**64, "", "RAW", "RICE", "AA==", "AB==", "AA", "A===",
-    "\u00e9", "\u0000", "\ud800", [], {}, [[]], [{}], {"a": 1}, "FULL_UPDATE", "PARTIAL_UPDATE", "MALWARE",
+    None, True, False, 0, 4, 5, -1, 4.0, 2**31, 2**32, 2**63, 2**64, "", "0", "7", "07", "RAW", "RICE", "AA==", "AB==",
+    "AA", "A===", "-_-_", "\u00e9", "\u0000", "\ud800", [], {}, [[]], [{}], [None], {"a": 1}, "FULL_UPDATE",
+    "PARTIAL_UPDATE", "MALWARE", "1s", "1.5s", "s", "315576000001s",
 ]  # fmt: skip
 
 ODD_NAMES = [
-    "extra", "removals", "baseState", "riceHashes", "minimumWaitDuration", "threatType", "additions",
-    "rawHashes", "raw_hashes", "checksum",
+    "extra", "removals", "baseState", "riceHashes", "riceIndices", "minimumWaitDuration", "threatType", "additions",
+    "rawHashes", "rawIndices", "raw_hashes", "checksum", "numEntries",
 ]  # fmt: skip
 
 ODD_BYTES = [
@@ -216,26 +399,81 @@ def text_of(data):
     return base64.b64encode(data).decode("ascii")
 
 
-def right_body(rand, name):
-    threat, platform, entry = name.split("/")
-    choices = [b"aaaa", b"\xff\xff\x00\x00"] + [rand.randbytes(4) for _ in range(8)]
-    data = b"".join(rand.choices(choices, k=rand.choice([0, 0, 1, 2, 3, 8])))
-    members = sorted({data[at : at + 4] for at in range(0, len(data), 4)})
-    digest = hashlib.sha256(b"".join(members)).digest()
+def rice_of(rand, numbers):
+    """A record of rising numbers, of which some field may be wrong."""
+    parameter = rand.randrange(20, 29)
+    bits = []
+    for before, number in zip(numbers, numbers[1:]):
+        delta = number - before
+        bits += [1] * (delta >> parameter) + [0] + [delta >> place & 1 for place in range(parameter)]
+    bits += [rand.randrange(2) for _ in range(-len(bits) % 8)]
+    coded = bytes(sum(bit << place for place, bit in enumerate(bits[at : at + 8])) for at in range(0, len(bits), 8))
+    record = {"firstValue": rand.choice([str, int])(numbers[0])}
+    if len(numbers) > 1:
+        record |= {"riceParameter": parameter, "numEntries": len(numbers) - 1, "encodedData": text_of(coded)}
     if rand.random() < 0.1:
+        kind = rand.randrange(4)
+        record["numEntries"] = record.get("numEntries", 0) + (1 if kind == 0 else 0)
+        if kind == 1:
+            record["riceParameter"] = rand.choice([0, 1, 2, 29])
+        elif kind == 2:
+            record["encodedData"] = text_of(coded[:-1])
+        elif kind == 3:
+            record["encodedData"] = text_of(coded + b"\0\0")
+    return record
+
+
+def additions_of(rand, members):
+    sets = []
+    for size in {len(member) for member in members}:
+        some = [member for member in members if len(member) == size]
+        if size == 4 and rand.random() < 0.5:
+            numbers = sorted(int.from_bytes(member, "little") for member in some)
+            sets.append({"compressionType": "RICE", "riceHashes": rice_of(rand, numbers)})
+        else:
+            rand.shuffle(some)
+            raw = {"prefixSize": size, "rawHashes": text_of(b"".join(some))}
+            sets.append({"compressionType": "RAW", "rawHashes": raw})
+    return sets
+
+
+def removals_of(rand, places):
+    if rand.random() < 0.5:
+        return [{"compressionType": "RICE", "riceIndices": rice_of(rand, places)}]
+    rand.shuffle(places)
+    return [{"compressionType": "RAW", "rawIndices": {"indices": places}}]
+
+
+def right_update(rand, name, versions):
+    """An update of a list, from one of its versions to another or whole."""
+    threat, platform, entry = name.split("/")
+    target = rand.randrange(len(versions))
+    wanted = versions[target]
+    digest = hashlib.sha256(b"".join(wanted)).digest()
+    if rand.random() < 0.08:
         digest = bytes([digest[0] ^ 1]) + digest[1:]
     update = {
         "threatType": threat,
         "platformType": platform,
         "threatEntryType": entry,
-        "responseType": "FULL_UPDATE",
-        "newClientState": text_of(rand.randbytes(rand.choice([0, 1, 2, 5, 33]))),
+        "newClientState": text_of(bytes([target])),
         "checksum": {"sha256": text_of(digest)},
     }
-    if data or rand.random() < 0.5:
-        raw = {"prefixSize": 4, "rawHashes": text_of(data)}
-        update["additions"] = [{"compressionType": "RAW", "rawHashes": raw}]
-    return {"listUpdateResponses": [update]}
+    if target == 0 or rand.random() < 0.5:
+        update["responseType"] = "FULL_UPDATE"
+        added = list(wanted)
+    else:
+        start = rand.choice([target - 1, target - 1, rand.randrange(len(versions))])
+        update["responseType"] = "PARTIAL_UPDATE"
+        if rand.random() < 0.6:
+            update["baseState"] = text_of(bytes([start]))
+        places = [place for place, member in enumerate(versions[start]) if member not in wanted]
+        added = [member for member in wanted if member not in versions[start]]
+        if places:
+            update["removals"] = removals_of(rand, places)
+    if added or rand.random() < 0.2:
+        update["additions"] = additions_of(rand, added)
+    return update
 
 
 def places(value):
@@ -275,30 +513,59 @@ def change_bytes(rand, line):
     return bytes(changed)
 
 
-def any_line(rand, name):
+def any_line(rand, histories):
     kind = rand.random()
-    if kind < 0.04:
+    if kind < 0.03:
         return rand.choice(ODD_LINES)
-    if kind < 0.06:
+    if kind < 0.05:
         depth = rand.choice([DEEPEST - 1, DEEPEST, DEEPEST + 1, 5_000])
         return b"[" * depth + b"]" * rand.choice([depth, depth, depth - 1])
-    body = right_body(rand, name if kind < 0.96 else "MALWARE/LINUX/URL")
-    if kind < 0.5:
+    count = rand.choice([0, 1, 1, 1, 2, 3])
+    updates = [right_update(rand, name, histories[name]) for name in rand.choices(list(histories), k=count)]
+    body = {"listUpdateResponses": updates}
+    if rand.random() < 0.3:
+        body["minimumWaitDuration"] = rand.choice(["1800s", "0.5s", "593.440s"])
+    if kind < 0.35:
         for _ in range(rand.choice([1, 1, 2])):
             change_field(rand, body)
     separators = rand.choice([(",", ":"), (", ", ": ")])
     text = json.dumps(body, ensure_ascii=rand.random() < 0.5, separators=separators)
     line = text.encode("utf-8", "surrogatepass")
-    return change_bytes(rand, line) if rand.random() < 0.35 else line
+    return change_bytes(rand, line) if rand.random() < 0.25 else line
+
+
+def any_history(rand):
+    """The sets of a list, version by version; prefixes have four bytes, or also more."""
+    sizes = rand.choice([[4], [4], [4, 4, 5, 32]])
+    choices = [bytes(rand.choices(b"\x00ab\xff", k=rand.choice(sizes))) for _ in range(12)]
+    return [sorted(set(rand.choices(choices, k=rand.randrange(8)))) if at else [] for at in range(5)]
 
 
 def any_input(rand):
-    name = "/".join(rand.choice(words) for words in (THREATS, PLATFORMS, ENTRIES))
-    lines = [any_line(rand, name) for _ in range(rand.choice([0, 1, 2, 10, 40]))]
-    return name, b"\n".join(lines) + rand.choice([b"", b"\n"])
+    every = [f"{t}/{p}/{e}" for t in THREATS for p in PLATFORMS for e in ENTRIES]
+    names = rand.sample(every, rand.choice([1, 1, 2, 3, 9]))
+    histories = {name: any_history(rand) for name in names}
+    lines = [any_line(rand, histories) for _ in range(rand.choice([0, 1, 2, 10, 40]))]
+    return names[:8], b"\n".join(lines) + rand.choice([b"", b"\n"])
 
 
 # ---- the comparison
+
+
+def run(names, text):
+    found = subprocess.run(
+        [SBUPDATE, "replay", *names], input=text, stdout=subprocess.PIPE, check=False
+    )
+    return found.stdout, found.returncode
+
+
+def differs(told, names, text, wanted):
+    found = run(names, text)
+    if found == wanted:
+        return False
+    print(f"{told}, {' '.join(names)}: {text[:2000]!r}\n  wanted {wanted[1]} {wanted[0][:2000]!r}")
+    print(f"  found  {found[1]} {found[0][:2000]!r}")
+    return True
 
 
 def main():
@@ -306,21 +573,23 @@ def main():
     parser.add_argument("--runs", type=int, default=5_000, help="how many inputs (5000)")
     parser.add_argument("--seed", type=int, default=20_240_229, help="where they begin")
     options = parser.parse_args()
-    rand = random.Random(options.seed)
-    outcomes, differing = collections.Counter(), 0
-    for number in range(options.runs):
-        name, text = any_input(rand)
-        wanted, status, became = replay(text, name)
-        outcomes += became
-        found = subprocess.run(
-            [SBUPDATE, "replay", name], input=text, stdout=subprocess.PIPE, check=False
-        )
-        if (found.stdout, found.returncode) != (wanted, status):
+    differing = 0
+    for name, lists, text, status, printed in RECORDINGS:
+        wanted = printed.encode("ascii"), status
+        differing += differs(name, lists, text, wanted)
+        if replay(text, lists)[:2] != wanted:
             differing += 1
-            print(f"input {number}, {name}: {text!r}\n  wanted {status} {wanted!r}")
-            print(f"  found  {found.returncode} {found.stdout!r}")
+            print(f"{name}: the second program finds {replay(text, lists)[:2]}")
+    print(f"{len(RECORDINGS)} recordings whose texts are known")
+    rand = random.Random(options.seed)
+    outcomes = collections.Counter()
+    for number in range(options.runs):
+        names, text = any_input(rand)
+        wanted, status, became = replay(text, names)
+        outcomes += became
+        differing += differs(f"input {number}", names, text, (wanted, status))
     told = ", ".join(f"{count:,} {outcome}" for outcome, count in sorted(outcomes.items()))
-    print(f"{options.runs:,} inputs of {sum(outcomes.values()):,} lines: {told}")
+    print(f"{options.runs:,} inputs: {told}")
     print(f"{differing} differ")
     return 1 if differing else 0
 
