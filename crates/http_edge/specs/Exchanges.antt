@@ -1,0 +1,42 @@
+-- An exchange: one session, what is sent in it, and when it is begun and closed.
+use Rattle.std.specs.Prelude.{◌≡◌, ℕ, List, [], ◌∷◌, ◌++◌, length, codes, decimal, encode_utf8_all, Some, Result, IsFalse}
+use Rattle.sb_model.specs.declared.time.Moment.{Moment}
+use Rattle.sb_outside.specs.declared.links.Kind.{Kind}
+use Rattle.sb_outside.specs.declared.links.Kind.TheVariants.{Update, Find}
+use Rattle.sb_outside.specs.declared.links.Session.{Session}
+use Rattle.http_edge.specs.declared.messages.Target.{Target}
+use Rattle.http_edge.specs.Responses.{line}
+
+abbrev pub path_of : Kind → List ℕ
+path_of Update = codes "/v4/threatListUpdates:fetch"
+path_of Find = codes "/v4/fullHashes:find"
+
+-- an empty key means that there is none
+abbrev pub query_of : List ℕ → List ℕ
+query_of [] = []
+query_of (first ∷ key) = codes "?key=" ++ encode_utf8_all (first ∷ key)
+
+abbrev pub request_head : Target → Kind → List ℕ → List ℕ
+request_head target kind body =
+    line (codes "POST " ++ path_of kind ++ query_of target.key ++ codes " HTTP/1.1")
+    ++ line (codes "Host: " ++ encode_utf8_all target.host)
+    ++ line (codes "Content-Type: application/json")
+    ++ line (codes "Content-Length: " ++ decimal (length body))
+    ++ line (codes "Connection: close")
+    ++ line []
+
+-- the whole text of a request
+abbrev pub request_text : Target → Kind → List ℕ → List ℕ
+request_text target kind body = request_head target kind body ++ body
+
+-- One session of this kind, begun and closed at these moments. Its request was sent, or a front of it.
+pub record IsSessionOf (target : Target) (asked : Kind) (body : List ℕ) (at end : Moment) (session : Session) : Type 0 where
+  pub kind : session.kind ≡ asked
+  pub begun : session.begun ≡ at
+  pub closed : session.closed ≡ Some end
+  pub unsent : List ℕ
+  pub front : session.sent ++ unsent ≡ request_text target asked body
+
+-- The whole request was sent where the session did not fail.
+abbrev pub SendsWhole : Target → Kind → List ℕ → Session → Type 0
+SendsWhole target kind body session = IsFalse session.failed → session.sent ≡ request_text target kind body

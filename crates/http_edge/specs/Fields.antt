@@ -1,0 +1,46 @@
+-- The fields of a head: the values that stand under a name, and what they say of the length of the body
+-- (RFC 9110, sections 5 and 8.6).
+use Rattle.std.specs.Prelude.{ℕ, ◌-◌, ◌^◌, ◌&&◌, nat_lt, min, List, [], ◌∷◌, length, map, codes, Bool, true, false, if◌then◌else◌, Option, Some, None}
+use Rattle.std.specs.List.{list_all, filter_map}
+use Rattle.std.specs.Char.{is_ascii_digit}
+use Rattle.std.specs.Str.{str_eq_ignore_ascii_case}
+use Rattle.std.specs.Str.Parse.{digits_value}
+use Rattle.httparse.specs.Grammar.{Field}
+use Rattle.httparse.specs.Spans.{name_and_value}
+use Rattle.http_edge.specs.declared.fields.BodyLength.{BodyLength}
+use Rattle.http_edge.specs.declared.fields.BodyLength.TheVariants.{Unsaid, Malformed, Said}
+
+-- the value of a field, where its name is the given one but for case
+abbrev pub value_if_named : List ℕ → List ℕ × List ℕ → Option (List ℕ)
+value_if_named name field = if str_eq_ignore_ascii_case field.0 name then Some field.1 else None
+
+-- the values under a name, of fields that are given by their names and values
+abbrev pub values_in : List ℕ → List (List ℕ × List ℕ) → List (List ℕ)
+values_in name fields = filter_map (value_if_named name) fields
+
+-- the values of the fields of that name, in their order, without the white space around them
+abbrev pub values_of : List ℕ → List Field → List (List ℕ)
+values_of name fields = values_in name (map name_and_value fields)
+
+-- a number that is past the greatest u64 counts as that one
+abbrev pub capped : ℕ → ℕ
+capped n = min n (2 ^ 64 - 1)
+
+-- one or more decimal digits
+abbrev pub is_number : List ℕ → Bool
+is_number value = nat_lt 0 (length value) && list_all is_ascii_digit value
+
+abbrev pub number_said : List ℕ → BodyLength
+number_said value = if is_number value then Said (capped (digits_value 10 value)) else Malformed
+
+-- what the values of `Content-Length` say: there is none, one that is a number, or something else
+abbrev pub length_in : List (List ℕ) → BodyLength
+length_in [] = Unsaid
+length_in (value ∷ []) = number_said value
+length_in (value ∷ next ∷ values) = Malformed
+
+abbrev pub length_said : List Field → BodyLength
+length_said fields = length_in (values_of (codes "content-length") fields)
+
+abbrev pub encodings_said : List Field → List (List ℕ)
+encodings_said fields = values_of (codes "transfer-encoding") fields

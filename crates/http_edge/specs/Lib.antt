@@ -1,0 +1,9 @@
+pub mod Fields
+pub mod Heads
+pub mod Requests
+pub mod Responses
+pub mod Printed
+pub mod Digests
+pub mod Chunks
+pub mod Outcomes
+pub mod Exchanges

@@ -1,0 +1,15 @@
+//! HTTP/1.1 at both ends (RFC 9112), with heads read by `httparse`: a server's requests and responses over
+//! sources and sinks, and a client's exchange over a link, each with its limits and its digest (RFC 9530).
+#![tactic(auto)]
+
+pub use faults::{ExchangeFault, RequestFault, ResponseFault};
+pub use fields::{BodyLength, Framing};
+pub use messages::{Allow, HttpRequest, Status, Target};
+pub use printing::push_exchange_cause;
+pub use responding::write_response;
+
+mod faults;
+mod fields;
+mod messages;
+mod printing;
+mod responding;

@@ -1,0 +1,44 @@
+ghost use Rattle.std.specs.Prelude.{◌≡◌, ◌++◌, decimal, OnOk};
+ghost use Rattle.http_edge.specs.Printed.{cause_text};
+
+use crate::ExchangeFault;
+use hash_prefixes::append_hex;
+use itoa::Buffer;
+use sb_model::{Bytes, OutOfMemory};
+
+// Appends a word and a number.
+fn push_counted(page: &mut Bytes, word: &str, number: u64) -> Result<(), OutOfMemory>
+    ensures { OnOk result (page.new ≡ page.old ++ (word.now ++ decimal number)) }
+{
+    let mut buffer = Buffer::new();
+    page.append(word.as_bytes())?;
+    page.append(buffer.format(number).as_bytes())
+}
+
+// Appends both digests.
+fn push_digests(page: &mut Bytes, got: &[u8], given: &[u8]) -> Result<(), OutOfMemory>
+    ensures { OnOk result (page.new ≡ page.old ++ cause_text (ExchangeFault.Digest got.now given.now)) }
+{
+    page.append(b"digest ")?;
+    append_hex(page, got)?;
+    page.append(b" ")?;
+    append_hex(page, given)
+}
+
+/// Appends the cause of a failed exchange as it is printed.
+pub fn push_exchange_cause(page: &mut Bytes, fault: &ExchangeFault) -> Result<(), OutOfMemory>
+    ensures { OnOk result (page.new ≡ page.old ++ cause_text fault.now) }
+{
+    match fault {
+        ExchangeFault::Link => page.append(b"link"),
+        ExchangeFault::Head => page.append(b"head"),
+        ExchangeFault::HeadLimit => page.append(b"head-limit"),
+        ExchangeFault::Status(status) => push_counted(page, "status ", u64::from(*status)),
+        ExchangeFault::NoLength => page.append(b"no-length"),
+        ExchangeFault::BodyLimit(length) => push_counted(page, "body-limit ", *length),
+        ExchangeFault::Cut => page.append(b"cut"),
+        ExchangeFault::NoDigest => page.append(b"no-digest"),
+        ExchangeFault::Digest { got, given } => push_digests(page, got, given),
+        ExchangeFault::Chunk(chunk) => push_counted(page, "chunk ", *chunk),
+    }
+}
