@@ -1,7 +1,9 @@
--- Fronts of two texts, one after the other, that a sink took.
+-- Bytes that a sink takes, and that a source gives, one after the other.
 use Rattle.std.proofs.Common.{◌≡◌, ◌≢◌, ℕ, ◌<◌, List, [], ◌∷◌, ◌++◌, length, take, drop, Option, Some, None, refl, sym, ap, ◌∙◌, append_assoc, arith, length-append}
-use Rattle.std.proofs.lemmas.List.{take-append-drop, length-drop}
-use Rattle.sb_outside.specs.Outside.{appended}
+use Rattle.std.proofs.lemmas.List.{take-append-drop, length-drop, append-nil}
+use Rattle.std.specs.Prelude.{IfSome}
+use Rattle.sb_outside.specs.Outside.{appended, prepended, bytes_left, next_piece, left_after_end, GivesFront, AnswersEnd}
+use Rattle.sb_outside.specs.Reading.{ReadsToEnd}
 use Rattle.sb_outside.specs.Writing.{HasFront}
 
 pub appended-appended : (known : Option (List ℕ)) (front back : List ℕ) → appended (appended known front) back ≡ appended known (front ++ back)
@@ -30,3 +32,49 @@ front_of_second before middle after first second n less took then = record {
   rest = append_assoc first (take n second) (drop n second) ∙ ap (λ text. first ++ text) (take-append-drop n second);
   missing = some_left n second less;
 }
+
+-- ---- bytes that a source gives one after the other
+
+prepended-prepended : (front back : List ℕ) (known : Option (List ℕ)) → prepended front (prepended back known) ≡ prepended (front ++ back) known
+prepended-prepended front back None = refl
+prepended-prepended front back (Some bytes) = ap (λ bs. Some bs) (sym (append_assoc front back bytes))
+
+pub front_then : (front back : List ℕ) (a b c : Option (List (List ℕ))) → GivesFront front a b → GivesFront back b c → GivesFront (front ++ back) a c
+front_then front back a b c first then = record {
+  front = first.front ∙ ap (λ known. prepended front known) then.front ∙ prepended-prepended front back _;
+  later = then.later ∙ first.later;
+}
+
+prepended-nothing : (known : Option (List ℕ)) → known ≡ prepended [] known
+prepended-nothing None = refl
+prepended-nothing (Some bytes) = refl
+
+-- nothing was given yet
+pub gives_nothing : (left : Option (List (List ℕ))) → GivesFront [] left left
+gives_nothing left = record { front = prepended-nothing (bytes_left left); later = refl }
+
+whole_piece : (given : List ℕ) (a b : Option (List (List ℕ))) → bytes_left a ≡ prepended given (bytes_left b) → IfSome b (λ pieces. next_piece pieces ≡ [])
+    → IfSome a (λ pieces. next_piece pieces ≡ given)
+whole_piece given None b front end = tt
+whole_piece given (Some pieces) None front end = absurd (cc)
+whole_piece given (Some pieces) (Some left) front end = cc (front, ap (λ rest. given ++ rest) end, append-nil given)
+
+-- bytes, and then the end
+pub ends_after : (given : List ℕ) (a b c : Option (List (List ℕ))) → GivesFront given a b → AnswersEnd b c → ReadsToEnd given a c
+ends_after given a b c gives ends = record {
+  whole = whole_piece given a b gives.front ends.at_end;
+  end = ends.later ∙ gives.later;
+}
+
+-- bytes, and then more of them up to the end
+pub to_end_then : (front back : List ℕ) (a b c : Option (List (List ℕ))) → GivesFront front a b → ReadsToEnd back b c → ReadsToEnd (front ++ back) a c
+to_end_then front back a b c gives ends = record {
+  whole = whole_then front back a b gives.front ends.whole;
+  end = ends.end ∙ gives.later;
+}
+  where
+    whole_then : (front back : List ℕ) (a b : Option (List (List ℕ))) → bytes_left a ≡ prepended front (bytes_left b) → IfSome b (λ pieces. next_piece pieces ≡ back)
+        → IfSome a (λ pieces. next_piece pieces ≡ front ++ back)
+    whole_then front back None b first end = tt
+    whole_then front back (Some pieces) None first end = absurd (cc)
+    whole_then front back (Some pieces) (Some left) first end = cc (first, ap (λ rest. front ++ rest) end)

@@ -1,1 +1,4 @@
 pub mod Fronts
+pub mod FieldValues
+pub mod HeadSizes
+pub mod RequestFacts

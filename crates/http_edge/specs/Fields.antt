@@ -6,7 +6,8 @@ use Rattle.std.specs.Char.{is_ascii_digit}
 use Rattle.std.specs.Str.{str_eq_ignore_ascii_case}
 use Rattle.std.specs.Str.Parse.{digits_value}
 use Rattle.httparse.specs.Grammar.{Field}
-use Rattle.httparse.specs.Spans.{name_and_value}
+use Rattle.httparse.specs.Spans.{name_and_value, header_bytes}
+use Rattle.httparse.specs.declared.spans.HeaderSpan.{HeaderSpan}
 use Rattle.http_edge.specs.declared.fields.BodyLength.{BodyLength}
 use Rattle.http_edge.specs.declared.fields.BodyLength.TheVariants.{Unsaid, Malformed, Said}
 
@@ -44,3 +45,7 @@ length_said fields = length_in (values_of (codes "content-length") fields)
 
 abbrev pub encodings_said : List Field → List (List ℕ)
 encodings_said fields = values_of (codes "transfer-encoding") fields
+
+-- the values under a name, of fields that lie at these places of a buffer
+abbrev pub values_at : List ℕ → List HeaderSpan → List ℕ → List (List ℕ)
+values_at buffer fields name = values_in name (map (header_bytes buffer) fields)

@@ -7,3 +7,4 @@ pub mod Digests
 pub mod Chunks
 pub mod Outcomes
 pub mod Exchanges
+pub mod Receiving

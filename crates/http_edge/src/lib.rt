@@ -6,10 +6,14 @@ pub use faults::{ExchangeFault, RequestFault, ResponseFault};
 pub use fields::{BodyLength, Framing};
 pub use messages::{Allow, HttpRequest, Status, Target};
 pub use printing::push_exchange_cause;
+pub use requests::read_request;
 pub use responding::write_response;
 
 mod faults;
 mod fields;
+mod heads;
 mod messages;
 mod printing;
+mod receiving;
+mod requests;
 mod responding;

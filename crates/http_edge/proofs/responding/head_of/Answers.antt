@@ -7,8 +7,8 @@ pub returns : goal.returns
 returns c =
     let text : c.as_bytes.result.now ≡ status_text c.args.status = c.as_bytes.ensures.value ∙ c.status_text.ensures in
     let first : c.push_line.new.page ≡ line (codes "HTTP/1.1 " ++ status_text c.args.status) =
-        c.in_ok-push_line.ensures ∙ ap (λ (page : List ℕ). page ++ line (codes "HTTP/1.1 " ++ c.as_bytes.result.now)) c.new-page.ensures
-        ∙ ap (λ (value : List ℕ). line (codes "HTTP/1.1 " ++ value)) text in
+    c.in_ok-push_line.ensures ∙ ap (λ (page : List ℕ). page ++ line (codes "HTTP/1.1 " ++ c.as_bytes.result.now)) c.new-page.ensures
+    ∙ ap (λ (value : List ℕ). line (codes "HTTP/1.1 " ++ value)) text in
     c.in_ok-push_line-4.ensures
     ∙ ap (λ (page : List ℕ). page ++ line (codes "")) (
     c.in_ok-push_line-3.ensures

@@ -1,0 +1,30 @@
+ghost use Rattle.std.specs.Prelude.{◌≡◌, vec_len, IfOk};
+
+use httparse::spans::{EMPTY_HEADER_SPAN, HeaderSpan};
+use sb_model::OutOfMemory;
+use std::alloc::Global;
+
+/// How many bytes a head has at most.
+pub(crate) const HEAD_LIMIT: usize = 16_384;
+
+/// How many fields a head has at most.
+pub(crate) const FIELD_LIMIT: usize = 64;
+
+/// How many bytes a read asks for.
+const PIECE: usize = 65_536;
+
+/// Room for the fields of every head of 16,384 bytes, since a field has three bytes at least. So the parser
+/// never refuses a head for the number of its fields.
+const ROOM: usize = 5_461;
+
+pub(crate) fn room_for_fields(alloc: Global) -> Result<Vec<HeaderSpan>, OutOfMemory>
+    ensures { IfOk result (λ room. vec_len room ≡ ROOM) }
+{
+    Ok(vec![in alloc; EMPTY_HEADER_SPAN; ROOM]?)
+}
+
+pub(crate) fn buffer_of(alloc: Global) -> Result<Vec<u8>, OutOfMemory>
+    ensures { IfOk result (λ buffer. vec_len buffer ≡ PIECE) }
+{
+    Ok(vec![in alloc; 0; PIECE]?)
+}

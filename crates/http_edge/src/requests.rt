@@ -1,0 +1,226 @@
+ghost use Rattle.std.specs.Prelude.{◌≡◌, ◌≢◌, ℕ, ◌<◌, ◌≤◌, List, [], length, take, map, codes, Bool, true, false, All, Option, Some, IfOk, OnOk, OnErr, IfErr, IsErrOf, IsTrue};
+ghost use Rattle.std.specs.Str.{bytes_eq};
+ghost use Rattle.sb_outside.specs.Outside.{Rose, GivesFront};
+ghost use Rattle.httparse.specs.Grammar.{RequestHead};
+ghost use Rattle.httparse.specs.Spans.{IsHeaderWithin};
+ghost use Rattle.http_edge.specs.Fields.{values_at, length_in};
+ghost use Rattle.http_edge.specs.Requests.{Gives, IsRefusal, RequestOutcome, length_by, length_unless};
+ghost use Rattle.http_edge.specs.Receiving.{IsFound, IsPlaced, IsPartsOf, IsRequestStep};
+
+use crate::fields::{BodyLength, first_value, length_said};
+use crate::heads::{FIELD_LIMIT, HEAD_LIMIT, buffer_of, room_for_fields};
+use crate::receiving::{Stop, receive, receive_body};
+use crate::{HttpRequest, RequestFault};
+use httparse::spans::{HeaderSpan, RequestSpans, parse_request};
+use sb_model::{Bytes, OutOfMemory};
+use sb_outside::Source;
+use std::alloc::Global;
+
+/// How many bytes the body of a request has at most.
+const BODY_LIMIT: u64 = 1_048_576;
+
+/// What is taken of the head of a request.
+#[derive(Debug, Drop)]
+pub(crate) struct RequestParts {
+    pub method: Bytes,
+    pub target: Bytes,
+    /// How many bytes the body has, where that is known.
+    pub length: Option<u64>,
+    /// Where the body begins.
+    pub start: usize,
+}
+
+/// What the bytes so far say of the head of a request.
+#[derive(Debug, Drop)]
+pub(crate) enum RequestStep {
+    Whole(RequestParts),
+    /// They can no longer become a head that can be taken.
+    Refused,
+    /// More bytes are needed.
+    Open,
+}
+
+fn length_by(method: &[u8], said: BodyLength) -> Option<u64>
+    ensures { result ≡ length_by method.now said }
+{
+    match said {
+        BodyLength::Said(length) => Some(length),
+        BodyLength::Unsaid if method == b"GET".as_slice() => Some(0),
+        _ => None,
+    }
+}
+
+/// How many bytes the body of a request has, where that is known.
+fn request_length(
+    method: &[u8],
+    buffer: &[u8],
+    fields: &[HeaderSpan],
+    said: BodyLength,
+) -> Option<u64>
+    requires { All (IsHeaderWithin (length buffer.now)) fields.now }
+    ensures { result ≡ length_unless (values_at buffer.now fields.now (codes "transfer-encoding")) (length_by method.now said) }
+{
+    match first_value(buffer, fields, b"transfer-encoding") {
+        Some(_) => None,
+        None => length_by(method, said),
+    }
+}
+
+/// Takes the parts of a whole head.
+fn take_parts(
+    alloc: Global,
+    buffer: &[u8],
+    fields: &[HeaderSpan],
+    spans: RequestSpans,
+) -> Result<RequestStep, OutOfMemory>
+    requires found { (head : RequestHead) × IsFound buffer.now fields.now spans head }
+    requires placed { IsPlaced buffer.now fields.now spans }
+    requires short { length buffer.now ≤ HEAD_LIMIT }
+    ensures step { IfOk result (λ step. IsRequestStep buffer.now step) }
+    ensures decided { result ≢ Ok RequestStep.Open }
+{
+    let said = length_said(buffer, fields);
+    if fields.len() > FIELD_LIMIT || said == BodyLength::Malformed {
+        return Ok(RequestStep::Refused);
+    }
+    let method = spans.method.of(buffer);
+    Ok(RequestStep::Whole(RequestParts {
+        method: Bytes::from_slice(alloc, method)?,
+        target: Bytes::from_slice(alloc, spans.path.of(buffer))?,
+        length: request_length(method, buffer, fields, said),
+        start: spans.len,
+    }))
+}
+
+/// The first bytes of a text, as many as a head has at most.
+fn front_of(text: &[u8]) -> &[u8]
+    ensures { result.now ≡ take HEAD_LIMIT text.now }
+{
+    &text[..text.len().min(HEAD_LIMIT)]
+}
+
+/// Looks at the head of a request, as far as it has come.
+fn look_at_head(
+    alloc: Global,
+    text: &[u8],
+    room: &mut [HeaderSpan],
+) -> Result<RequestStep, OutOfMemory>
+    requires { length room.old ≡ 5461 }
+    ensures { IfOk result (λ step. IsRequestStep text.now step) }
+{
+    let front = front_of(text);
+    match parse_request(front, room) {
+        Ok(httparse::Status::Complete(spans)) => {
+            take_parts(alloc, front, &room[..spans.headers], spans)
+        }
+        Ok(httparse::Status::Partial) => Ok(RequestStep::Open),
+        Err(_) => Ok(RequestStep::Refused),
+    }
+}
+
+/// Receives the head of a request. The text is what was received.
+fn receive_head<S: Source>(
+    alloc: Global,
+    source: &mut S,
+    buffer: &mut [u8],
+    text: &mut Bytes,
+) -> Result<RequestParts, RequestFault>
+    requires room { 0 < length buffer.old }
+    requires none { text.old ≡ [] }
+    ensures parts { IfOk result (λ parts. IsPartsOf text.new parts) }
+    ensures given { OnOk result (GivesFront text.new (S.left source.old) (S.left source.new)) }
+    ensures refusal { IfErr result (λ fault. (bytes : List ℕ) × (ended : Bool)
+        × Gives bytes ended (S.left source.old) (S.left source.new) × IsRefusal bytes ended fault) }
+    ensures failed { IsErrOf result RequestFault.ReadFault → Rose (S.faults source.old) (S.faults source.new) }
+    ensures kept { result ≢ Err RequestFault.ReadFault → S.faults source.new ≡ S.faults source.old }
+    ensures counted { S.faults source.old ≤ S.faults source.new }
+    ensures other { S.back source.new ≡ S.back source.old }
+{
+    let Ok(mut room) = room_for_fields(alloc) else {
+        return Err(RequestFault::OutOfMemory);
+    };
+    'pieces: loop {
+        match look_at_head(alloc, text.as_slice(), room.as_mut_slice()) {
+            Ok(RequestStep::Whole(parts)) => return Ok(parts),
+            Ok(RequestStep::Refused) => return Err(RequestFault::Head),
+            Ok(RequestStep::Open) => {}
+            Err(OutOfMemory) => return Err(RequestFault::OutOfMemory),
+        }
+        if text.len() >= HEAD_LIMIT {
+            return Err(RequestFault::HeadLimit);
+        }
+        match receive(source, buffer, text) {
+            Ok(()) => {}
+            Err(Stop::Ended) => return Err(RequestFault::Cut),
+            Err(Stop::Failed) => return Err(RequestFault::ReadFault),
+            Err(Stop::OutOfMemory) => return Err(RequestFault::OutOfMemory),
+        }
+    }
+}
+
+/// Receives the body of a request whose head was received.
+fn receive_rest<S: Source>(
+    alloc: Global,
+    source: &mut S,
+    buffer: &mut [u8],
+    text: &Bytes,
+    parts: RequestParts,
+) -> Result<HttpRequest, RequestFault>
+    requires room { 0 < length buffer.old }
+    requires parts { IsPartsOf text.now parts }
+    ensures outcome { (start : Option (List (List ℕ))) → GivesFront text.now start (S.left source.old)
+        → (bytes : List ℕ) × (ended : Bool) × Gives bytes ended start (S.left source.new) × RequestOutcome bytes ended result }
+    ensures failed { IsErrOf result RequestFault.ReadFault → Rose (S.faults source.old) (S.faults source.new) }
+    ensures kept { result ≢ Err RequestFault.ReadFault → S.faults source.new ≡ S.faults source.old }
+    ensures counted { S.faults source.old ≤ S.faults source.new }
+    ensures other { S.back source.new ≡ S.back source.old }
+{
+    let RequestParts {
+        method,
+        target,
+        length,
+        start,
+    } = parts;
+    let Some(length) = length else {
+        return Err(RequestFault::NoLength);
+    };
+    if length > BODY_LIMIT {
+        return Err(RequestFault::BodyLimit(length));
+    }
+    let Ok(mut body) = Bytes::from_slice(alloc, &text.as_slice()[start..]) else {
+        return Err(RequestFault::OutOfMemory);
+    };
+    match receive_body(source, buffer, &mut body, length as usize) {
+        Ok(()) => Ok(HttpRequest {
+            method,
+            target,
+            body,
+        }),
+        Err(Stop::Ended) => Err(RequestFault::Cut),
+        Err(Stop::Failed) => Err(RequestFault::ReadFault),
+        Err(Stop::OutOfMemory) => Err(RequestFault::OutOfMemory),
+    }
+}
+
+/// Reads one request (RFC 9112): its head, of at most 16,384 bytes and 64 fields, and its body, of at most
+/// 1,048,576 bytes. What follows the body is not looked at.
+pub fn read_request<S: Source>(alloc: Global, source: &mut S) -> Result<HttpRequest, RequestFault>
+    // What the source gave, with its end or without, and what that comes to.
+    ensures outcome { (bytes : List ℕ) × (ended : Bool) × Gives bytes ended (S.left source.old) (S.left source.new)
+        × RequestOutcome bytes ended result }
+
+    // A fault is counted, and nothing else is.
+    ensures failed { IsErrOf result RequestFault.ReadFault → Rose (S.faults source.old) (S.faults source.new) }
+    ensures kept { result ≢ Err RequestFault.ReadFault → S.faults source.new ≡ S.faults source.old }
+    ensures counted { S.faults source.old ≤ S.faults source.new }
+    ensures other { S.back source.new ≡ S.back source.old }
+{
+    let Ok(mut buffer) = buffer_of(alloc) else {
+        return Err(RequestFault::OutOfMemory);
+    };
+    let mut text = Bytes::new(alloc);
+    match receive_head(alloc, source, buffer.as_mut_slice(), &mut text) {
+        Ok(parts) => receive_rest(alloc, source, buffer.as_mut_slice(), &text, parts),
+        Err(fault) => Err(fault),
+    }
+}
