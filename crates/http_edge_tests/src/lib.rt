@@ -1,0 +1,7 @@
+//! The tests of `http_edge`. They stand apart, so that they are proved once and not with the crate.
+#![tactic(auto)]
+
+#[cfg(test)]
+mod requests;
+#[cfg(test)]
+mod responses;
