@@ -62,7 +62,7 @@ none_more buffer fields name i d found less none is not =
     ∙ ap option_to_list (sym is ∙ ap option_copied not)
 
 -- the values of all fields, from one on
-values_from : (buffer : List ℕ) (fields : List HeaderSpan) (name : List ℕ) (i : ℕ) (d : HeaderSpan) → i < length fields
+pub values_from : (buffer : List ℕ) (fields : List HeaderSpan) (name : List ℕ) (i : ℕ) (d : HeaderSpan) → i < length fields
     → values_at buffer fields name
     ≡ values_at buffer (take i fields) name ++ cons_option (value_if_named name (header_bytes buffer (get_or fields i d))) (values_at buffer (drop (suc i) fields) name)
 values_from buffer fields name i d less =

@@ -1,4 +1,5 @@
 pub mod Fronts
 pub mod FieldValues
+pub mod DigestFacts
 pub mod HeadSizes
 pub mod RequestFacts

@@ -4,7 +4,10 @@ use Rattle.std.specs.Prelude.{◌≡◌, ℕ, ◌==◌, List, ◌∷◌, ◌++�
 use Rattle.std.specs.List.{flat_map, slice_split}
 use Rattle.base64.specs.GeneralPurpose.{IsBytes}
 use Rattle.httparse.specs.Grammar.{Field, trim_ows}
-use Rattle.http_edge.specs.Fields.{values_of}
+use Rattle.std.specs.Option.{option_to_list}
+use Rattle.httparse.specs.Spans.{header_bytes}
+use Rattle.httparse.specs.declared.spans.HeaderSpan.{HeaderSpan}
+use Rattle.http_edge.specs.Fields.{values_of, value_if_named}
 use Rattle.http_edge.specs.Responses.{digest_text}
 
 -- the members of a value: its parts between commas, without the white space around them
@@ -41,3 +44,12 @@ IsDigestIn members None = All IsNoDigest members
 -- the digest that a head gives, if it gives one
 abbrev pub IsDigestGiven : List Field → Option (List ℕ) → Type 0
 IsDigestGiven fields digest = IsDigestIn (digest_members fields) digest
+
+-- whether a member is a digest, and which
+abbrev pub IsMemberDigest : List ℕ → Option (List ℕ) → Type 0
+IsMemberDigest member (Some digest) = IsDigestMember member digest
+IsMemberDigest member None = IsNoDigest member
+
+-- the members of a field that lies at these places of a buffer
+abbrev pub members_at : List ℕ → HeaderSpan → List (List ℕ)
+members_at buffer field = flat_map members_in (option_to_list (value_if_named (codes "content-digest") (header_bytes buffer field)))

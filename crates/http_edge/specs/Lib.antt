@@ -8,3 +8,4 @@ pub mod Chunks
 pub mod Outcomes
 pub mod Exchanges
 pub mod Receiving
+pub mod Hearing

@@ -27,7 +27,7 @@ pub enum Framing {
 }
 
 /// The value of a field, where its name is the given one but for case.
-fn value_if_named<'b>(buffer: &'b [u8], field: &HeaderSpan, name: &[u8]) -> Option<&'b [u8]>
+pub(crate) fn value_if_named<'b>(buffer: &'b [u8], field: &HeaderSpan, name: &[u8]) -> Option<&'b [u8]>
     requires { IsHeaderWithin (length buffer.now) field.now }
     ensures { option_copied result ≡ value_if_named name.now (header_bytes buffer.now field.now) }
 {

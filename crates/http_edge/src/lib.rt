@@ -9,9 +9,11 @@ pub use printing::push_exchange_cause;
 pub use requests::read_request;
 pub use responding::write_response;
 
+mod digests;
 mod faults;
 mod fields;
 mod heads;
+mod intake;
 mod messages;
 mod printing;
 mod receiving;
