@@ -1,5 +1,8 @@
 -- An exchange: one session, what is sent in it, and when it is begun and closed.
-use Rattle.std.specs.Prelude.{◌≡◌, ℕ, List, [], ◌∷◌, ◌++◌, length, codes, decimal, encode_utf8_all, Some, Result, IsFalse}
+use Rattle.std.specs.Prelude.{◌≡◌, ℕ, List, [], ◌∷◌, ◌++◌, length, codes, decimal, encode_utf8_all, Bool, Option, Some, None, Result, IsFalse}
+use Rattle.sb_outside.specs.Outside.{IfTold, with_entry}
+use Rattle.http_edge.specs.declared.faults.ExchangeFault.{ExchangeFault}
+use Rattle.http_edge.specs.Outcomes.{SessionOutcomeSoFar}
 use Rattle.sb_model.specs.declared.time.Moment.{Moment}
 use Rattle.sb_outside.specs.declared.links.Kind.{Kind}
 use Rattle.sb_outside.specs.declared.links.Kind.TheVariants.{Update, Find}
@@ -18,7 +21,7 @@ query_of (first ∷ key) = codes "?key=" ++ encode_utf8_all (first ∷ key)
 
 abbrev pub request_head : Target → Kind → List ℕ → List ℕ
 request_head target kind body =
-    line (codes "POST " ++ path_of kind ++ query_of target.key ++ codes " HTTP/1.1")
+    line (codes "POST " ++ (path_of kind ++ query_of target.key ++ codes " HTTP/1.1"))
     ++ line (codes "Host: " ++ encode_utf8_all target.host)
     ++ line (codes "Content-Type: application/json")
     ++ line (codes "Content-Length: " ++ decimal (length body))
@@ -40,3 +43,38 @@ pub record IsSessionOf (target : Target) (asked : Kind) (body : List ℕ) (at en
 -- The whole request was sent where the session did not fail.
 abbrev pub SendsWhole : Target → Kind → List ℕ → Session → Type 0
 SendsWhole target kind body session = IsFalse session.failed → session.sent ≡ request_text target kind body
+
+-- The same session before it is closed.
+pub record IsTalkOf (target : Target) (asked : Kind) (body : List ℕ) (at : Moment) (session : Session) : Type 0 where
+  pub kind : session.kind ≡ asked
+  pub begun : session.begun ≡ at
+  pub not_closed : session.closed ≡ None
+  pub unsent : List ℕ
+  pub front : session.sent ++ unsent ≡ request_text target asked body
+
+-- One session was held: the log has it at its end, and its outcome is the answer.
+pub record HoldsSession (target : Target) (asked : Kind) (body : List ℕ) (at : Moment) (need : Bool) (end : Moment) (before after : Option (List Session)) (answer : Result (List ℕ) ExchangeFault) : Type 0 where
+  pub session : Session
+  pub told : IfTold after (with_entry before session)
+  pub is : IsSessionOf target asked body at end session
+  pub sends : SendsWhole target asked body session
+  pub outcome : SessionOutcomeSoFar need session answer
+
+-- A part of a session was held, and the session was closed.
+pub record HoldsPart (target : Target) (asked : Kind) (body : List ℕ) (at end : Moment) (before after : Option (List Session)) : Type 0 where
+  pub session : Session
+  pub told : IfTold after (with_entry before session)
+  pub is : IsSessionOf target asked body at end session
+
+-- the same, while the session is not closed
+pub record IsConversation (target : Target) (asked : Kind) (body : List ℕ) (at : Moment) (need : Bool) (before after : Option (List Session)) (answer : Result (List ℕ) ExchangeFault) : Type 0 where
+  pub session : Session
+  pub told : IfTold after (with_entry before session)
+  pub is : IsTalkOf target asked body at session
+  pub sends : SendsWhole target asked body session
+  pub outcome : SessionOutcomeSoFar need session answer
+
+pub record IsPartOfConversation (target : Target) (asked : Kind) (body : List ℕ) (at : Moment) (before after : Option (List Session)) : Type 0 where
+  pub session : Session
+  pub told : IfTold after (with_entry before session)
+  pub is : IsTalkOf target asked body at session

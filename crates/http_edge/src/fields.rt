@@ -6,6 +6,8 @@ ghost use Rattle.std.specs.Str.Parse.{digits_value};
 ghost use Rattle.httparse.specs.Spans.{IsHeaderWithin, header_bytes};
 ghost use Rattle.http_edge.specs.Fields.{value_if_named, values_at, capped, is_number, number_said, length_in};
 
+ghost use Rattle.http_edge.specs.Outcomes.{framing_by_length, framing_by_encoding, framing_in};
+
 use httparse::spans::HeaderSpan;
 
 /// What the fields of a head say of the length of its body.
@@ -112,4 +114,36 @@ pub(crate) fn length_said(buffer: &[u8], fields: &[HeaderSpan]) -> BodyLength
         return BodyLength::Malformed;
     }
     number_said(value)
+}
+
+fn framing_by_length(said: BodyLength) -> Framing
+    ensures { result ≡ framing_by_length said }
+{
+    match said {
+        BodyLength::Said(length) => Framing::ByLength(length),
+        _ => Framing::Unframed,
+    }
+}
+
+fn framing_by_encoding(encoding: &[u8], said: BodyLength) -> Framing
+    ensures { result ≡ framing_by_encoding encoding.now said }
+{
+    if said == BodyLength::Unsaid && encoding.eq_ignore_ascii_case(b"chunked") {
+        return Framing::Chunked;
+    }
+    Framing::Unframed
+}
+
+/// How the fields frame the body.
+pub(crate) fn framing_said(buffer: &[u8], fields: &[HeaderSpan], said: BodyLength) -> Framing
+    requires { All (IsHeaderWithin (length buffer.now)) fields.now }
+    ensures { result ≡ framing_in (values_at buffer.now fields.now (codes "transfer-encoding")) said }
+{
+    let Some(encoding) = first_value(buffer, fields, b"transfer-encoding") else {
+        return framing_by_length(said);
+    };
+    if value_count(buffer, fields, b"transfer-encoding") != 1 {
+        return Framing::Unframed;
+    }
+    framing_by_encoding(encoding, said)
 }

@@ -1,4 +1,4 @@
-ghost use Rattle.std.specs.Prelude.{◌≡◌, vec_len, IfOk};
+ghost use Rattle.std.specs.Prelude.{◌≡◌, take, vec_len, IfOk};
 
 use httparse::spans::{EMPTY_HEADER_SPAN, HeaderSpan};
 use sb_model::OutOfMemory;
@@ -27,4 +27,11 @@ pub(crate) fn buffer_of(alloc: Global) -> Result<Vec<u8>, OutOfMemory>
     ensures { IfOk result (λ buffer. vec_len buffer ≡ PIECE) }
 {
     Ok(vec![in alloc; 0; PIECE]?)
+}
+
+/// The first bytes of a text, as many as a head has at most.
+pub(crate) fn front_of(text: &[u8]) -> &[u8]
+    ensures { result.now ≡ take HEAD_LIMIT text.now }
+{
+    &text[..text.len().min(HEAD_LIMIT)]
 }

@@ -2,6 +2,7 @@
 //! sources and sinks, and a client's exchange over a link, each with its limits and its digest (RFC 9530).
 #![tactic(auto)]
 
+pub use exchanging::{Exchanged, exchange};
 pub use faults::{ExchangeFault, RequestFault, ResponseFault};
 pub use fields::{BodyLength, Framing};
 pub use messages::{Allow, HttpRequest, Status, Target};
@@ -10,12 +11,14 @@ pub use requests::read_request;
 pub use responding::write_response;
 
 mod digests;
+mod exchanging;
 mod faults;
 mod fields;
 mod heads;
-mod intake;
+mod hearing;
 mod messages;
 mod printing;
 mod receiving;
 mod requests;
+mod response_heads;
 mod responding;

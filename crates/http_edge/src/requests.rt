@@ -8,7 +8,7 @@ ghost use Rattle.http_edge.specs.Requests.{Gives, IsRefusal, RequestOutcome, len
 ghost use Rattle.http_edge.specs.Receiving.{IsFound, IsPlaced, IsPartsOf, IsRequestStep};
 
 use crate::fields::{BodyLength, first_value, length_said};
-use crate::heads::{FIELD_LIMIT, HEAD_LIMIT, buffer_of, room_for_fields};
+use crate::heads::{FIELD_LIMIT, HEAD_LIMIT, buffer_of, front_of, room_for_fields};
 use crate::receiving::{Stop, receive, receive_body};
 use crate::{HttpRequest, RequestFault};
 use httparse::spans::{HeaderSpan, RequestSpans, parse_request};
@@ -90,13 +90,6 @@ fn take_parts(
         length: request_length(method, buffer, fields, said),
         start: spans.len,
     }))
-}
-
-/// The first bytes of a text, as many as a head has at most.
-fn front_of(text: &[u8]) -> &[u8]
-    ensures { result.now ≡ take HEAD_LIMIT text.now }
-{
-    &text[..text.len().min(HEAD_LIMIT)]
 }
 
 /// Looks at the head of a request, as far as it has come.

@@ -1,6 +1,6 @@
 use Rattle.std.proofs.Common.{ℕ, List, ◌∙◌, ap, length, take, min, arith}
 use Rattle.std.proofs.lemmas.List.{take_min}
-use Rattle.http_edge.proofs.requests.front_of.Goals as goal
+use Rattle.http_edge.proofs.heads.front_of.Goals as goal
 
 pub returns : goal.returns
 returns c =

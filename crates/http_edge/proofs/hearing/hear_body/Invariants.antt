@@ -1,0 +1,14 @@
+use Rattle.std.proofs.Common.{◌≡◌, ◌<◌, ◌-◌, ℕ, List, ◌++◌, length, false}
+use Rattle.http_edge.specs.Hearing.{Hears}
+use Rattle.http_edge.proofs.hearing.hear_body.Given as goal
+
+abbrev pub invariant-pieces : goal.invariant-pieces
+invariant-pieces g l =
+    record {
+      room : 0 < length l.buffer;
+      so_far : (given : List ℕ) × Hears given false false (g.L.Link.log l.initial.link) (g.L.Link.log l.link) × (l.body ≡ l.initial.body ++ given);
+      faults : g.L.Link.faults l.link ≡ g.L.Link.faults l.initial.link;
+    }
+
+abbrev pub decreases-pieces : goal.decreases-pieces
+decreases-pieces g l = l.wanted - length l.body

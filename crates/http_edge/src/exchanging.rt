@@ -1,0 +1,281 @@
+ghost use Rattle.std.specs.Prelude.{◌≡◌, ◌≢◌, ℕ, ◌<◌, ◌≤◌, List, ◌++◌, [], length, Bool, false, Option, Some, None, encode_utf8_all, codes, decimal, IfOk, OnOk, OnErr, IsErrOf, IsTrue};
+ghost use Rattle.sb_outside.specs.Outside.{Rose, IfTold, with_entry};
+ghost use Rattle.sb_outside.specs.Sessions.{with_sent, with_failure};
+ghost use Rattle.sb_model.specs.declared.time.Moment.{Moment};
+ghost use Rattle.sb_outside.specs.declared.links.Session.{Session};
+ghost use Rattle.http_edge.specs.Responses.{line};
+ghost use Rattle.http_edge.specs.Exchanges.{path_of, query_of, request_head, HoldsSession, HoldsPart, IsConversation, IsPartOfConversation};
+ghost use Rattle.http_edge.specs.Hearing.{Turns, Hears, IsResponsePartsOf, IsJudged, IsHeard, IsPartHeard, SendsFront};
+
+use crate::heads::buffer_of;
+use crate::hearing::{HeadFault, hear_body, hear_head};
+use crate::receiving::Stop;
+use crate::responding::{push_length, push_line};
+use crate::response_heads::ResponseParts;
+use crate::{ExchangeFault, Framing, Target};
+use hash_prefixes::full_hash;
+use sb_model::{Bytes, Moment, OutOfMemory, Text};
+use sb_outside::{Clock, Failed, Kind, Link};
+use std::alloc::Global;
+
+/// How many bytes the body of a response has at most.
+const BODY_LIMIT: u64 = 201_326_592;
+
+/// What came of an exchange, and when its session was closed.
+#[derive(Debug, Drop)]
+pub struct Exchanged {
+    pub ended: Moment,
+    pub answer: Result<Bytes, ExchangeFault>,
+}
+
+/// Compares the digest of a whole body.
+fn judge(body: Bytes, given: Option<[u8; 32]>, need_digest: bool) -> Result<Bytes, ExchangeFault>
+    ensures { IsJudged need_digest body given result }
+{
+    match given {
+        Some(given) => {
+            let got = full_hash(body.as_slice()).bytes;
+            if got != given {
+                return Err(ExchangeFault::Digest { got, given });
+            }
+            Ok(body)
+        }
+        None => {
+            if need_digest {
+                return Err(ExchangeFault::NoDigest);
+            }
+            Ok(body)
+        }
+    }
+}
+
+/// Hears a body whose length is given.
+fn hear_length<L: Link>(
+    alloc: Global,
+    link: &mut L,
+    buffer: &mut [u8],
+    text: &Bytes,
+    parts: ResponseParts,
+    size: u64,
+    need_digest: bool,
+) -> Result<Result<Bytes, ExchangeFault>, OutOfMemory>
+    requires room { 0 < length buffer.old }
+    requires parts { IsResponsePartsOf text.now parts }
+    requires success { parts.status ≡ 200 }
+    requires framing { parts.framing ≡ Framing.ByLength size }
+    ensures heard { (start : Option (List Session)) → Hears text.now false false start (L.log link.old)
+        → IfOk result (λ answer. IsHeard need_digest start (L.log link.new) answer) }
+    ensures refused { OnErr result ((start : Option (List Session)) → Hears text.now false false start (L.log link.old)
+        → IsPartHeard start (L.log link.new)) }
+    ensures failed { IfOk result (λ answer. IsErrOf answer ExchangeFault.Link → Rose (L.faults link.old) (L.faults link.new)) }
+    ensures kept { IfOk result (λ answer. answer ≢ Err ExchangeFault.Link → L.faults link.new ≡ L.faults link.old) }
+    ensures counted { L.faults link.old ≤ L.faults link.new }
+{
+    if size > BODY_LIMIT {
+        return Ok(Err(ExchangeFault::BodyLimit(size)));
+    }
+    let Ok(mut body) = Bytes::from_slice(alloc, &text.as_slice()[parts.start..]) else {
+        return Err(OutOfMemory);
+    };
+    match hear_body(link, buffer, &mut body, size as usize) {
+        Ok(()) => Ok(judge(body, parts.digest, need_digest)),
+        Err(Stop::Ended) => Ok(Err(ExchangeFault::Cut)),
+        Err(Stop::Failed) => Ok(Err(ExchangeFault::Link)),
+        Err(Stop::OutOfMemory) => Err(OutOfMemory),
+    }
+}
+
+/// Hears what follows the head of a response. A chunked body is not read yet, and counts as one without a length.
+fn hear_answer<L: Link>(
+    alloc: Global,
+    link: &mut L,
+    buffer: &mut [u8],
+    text: &Bytes,
+    parts: ResponseParts,
+    need_digest: bool,
+) -> Result<Result<Bytes, ExchangeFault>, OutOfMemory>
+    requires room { 0 < length buffer.old }
+    requires parts { IsResponsePartsOf text.now parts }
+    ensures heard { (start : Option (List Session)) → Hears text.now false false start (L.log link.old)
+        → IfOk result (λ answer. IsHeard need_digest start (L.log link.new) answer) }
+    ensures refused { OnErr result ((start : Option (List Session)) → Hears text.now false false start (L.log link.old)
+        → IsPartHeard start (L.log link.new)) }
+    ensures failed { IfOk result (λ answer. IsErrOf answer ExchangeFault.Link → Rose (L.faults link.old) (L.faults link.new)) }
+    ensures kept { IfOk result (λ answer. answer ≢ Err ExchangeFault.Link → L.faults link.new ≡ L.faults link.old) }
+    ensures counted { L.faults link.old ≤ L.faults link.new }
+{
+    if parts.status != 200 {
+        return Ok(Err(ExchangeFault::Status(parts.status)));
+    }
+    match parts.framing {
+        Framing::ByLength(length) => {
+            hear_length(alloc, link, buffer, text, parts, length, need_digest)
+        }
+        Framing::Chunked => Ok(Err(ExchangeFault::NoLength)),
+        Framing::Unframed => Ok(Err(ExchangeFault::NoLength)),
+    }
+}
+
+/// Hears a whole response.
+fn listen<L: Link>(
+    alloc: Global,
+    link: &mut L,
+    need_digest: bool,
+) -> Result<Result<Bytes, ExchangeFault>, OutOfMemory>
+    ensures heard { IfOk result (λ answer. IsHeard need_digest (L.log link.old) (L.log link.new) answer) }
+    ensures refused { OnErr result (IsPartHeard (L.log link.old) (L.log link.new)) }
+    ensures failed { IfOk result (λ answer. IsErrOf answer ExchangeFault.Link → Rose (L.faults link.old) (L.faults link.new)) }
+    ensures kept { IfOk result (λ answer. answer ≢ Err ExchangeFault.Link → L.faults link.new ≡ L.faults link.old) }
+    ensures counted { L.faults link.old ≤ L.faults link.new }
+{
+    let Ok(mut buffer) = buffer_of(alloc) else {
+        return Err(OutOfMemory);
+    };
+    let mut text = Bytes::new(alloc);
+    match hear_head(alloc, link, buffer.as_mut_slice(), &mut text) {
+        Ok(parts) => hear_answer(alloc, link, buffer.as_mut_slice(), &text, parts, need_digest),
+        Err(HeadFault::Fault(fault)) => Ok(Err(fault)),
+        Err(HeadFault::OutOfMemory) => Err(OutOfMemory),
+    }
+}
+
+fn path_of(kind: Kind) -> &'static str
+    ensures { result.now ≡ path_of kind }
+{
+    match kind {
+        Kind::Update => "/v4/threatListUpdates:fetch",
+        Kind::Find => "/v4/fullHashes:find",
+    }
+}
+
+/// Sends a whole request. After an `Err` a front of it went out.
+fn send_request<L: Link>(link: &mut L, head: &[u8], body: &[u8]) -> Result<(), Failed>
+    ensures ok { OnOk result (Turns (with_sent (head.now ++ body.now)) (L.log link.old) (L.log link.new)) }
+    ensures err { OnErr result (SendsFront (head.now ++ body.now) (L.log link.old) (L.log link.new)) }
+    ensures failed { OnErr result (Rose (L.faults link.old) (L.faults link.new)) }
+    ensures kept { OnOk result (L.faults link.new ≡ L.faults link.old) }
+    ensures counted { L.faults link.old ≤ L.faults link.new }
+{
+    match link.send(head) {
+        Ok(()) => match link.send(body) {
+            Ok(()) => Ok(()),
+            Err(Failed) => Err(Failed),
+        },
+        Err(Failed) => Err(Failed),
+    }
+}
+
+// Appends the key, where there is one.
+fn push_query(page: &mut Bytes, key: &Text) -> Result<(), OutOfMemory>
+    ensures { OnOk result (page.new ≡ page.old ++ query_of key.now) }
+{
+    if key.is_empty() {
+        return Ok(());
+    }
+    page.append(b"?key=")?;
+    page.append(key.as_str().as_bytes())
+}
+
+/// What follows the method in a request line.
+fn rest_of_line(alloc: Global, target: &Target, kind: Kind) -> Result<Bytes, OutOfMemory>
+    ensures { IfOk result (λ text. text ≡ path_of kind ++ query_of target.now.key ++ codes " HTTP/1.1") }
+{
+    let mut text = Bytes::from_slice(alloc, path_of(kind).as_bytes())?;
+    push_query(&mut text, &target.key)?;
+    text.append(b" HTTP/1.1")?;
+    Ok(text)
+}
+
+// Appends the field that names the host.
+fn push_host(page: &mut Bytes, host: &Text) -> Result<(), OutOfMemory>
+    ensures { OnOk result (page.new ≡ page.old ++ line (codes "Host: " ++ encode_utf8_all host.now)) }
+{
+    push_line(page, b"Host: ", host.as_str().as_bytes())
+}
+
+/// The head of a request.
+fn request_head(
+    alloc: Global,
+    target: &Target,
+    kind: Kind,
+    body: &[u8],
+) -> Result<Bytes, OutOfMemory>
+    ensures { IfOk result (λ head. head ≡ request_head target.now kind body.now) }
+{
+    let mut page = Bytes::new(alloc);
+    let rest = rest_of_line(alloc, target, kind)?;
+    push_line(&mut page, b"POST ", rest.as_slice())?;
+    push_host(&mut page, &target.host)?;
+    push_line(&mut page, b"Content-Type: ", b"application/json")?;
+    push_length(&mut page, body.len())?;
+    push_line(&mut page, b"Connection: ", b"close")?;
+    push_line(&mut page, b"", b"")?;
+    Ok(page)
+}
+
+/// Holds a session, and leaves it open.
+fn converse<L: Link>(
+    alloc: Global,
+    link: &mut L,
+    at: Moment,
+    target: &Target,
+    kind: Kind,
+    body: &[u8],
+    need_digest: bool,
+) -> Result<Result<Bytes, ExchangeFault>, OutOfMemory>
+    ensures answer { IfOk result (λ answer. IsConversation target.now kind body.now at need_digest (L.log link.old) (L.log link.new) answer) }
+    ensures refused { OnErr result (IsPartOfConversation target.now kind body.now at (L.log link.old) (L.log link.new)) }
+    ensures failed { IfOk result (λ answer. IsErrOf answer ExchangeFault.Link → Rose (L.faults link.old) (L.faults link.new)) }
+    ensures kept { IfOk result (λ answer. answer ≢ Err ExchangeFault.Link → L.faults link.new ≡ L.faults link.old) }
+    ensures counted { L.faults link.old ≤ L.faults link.new }
+{
+    match link.begin(at, kind) {
+        Ok(()) => {}
+        Err(Failed) => return Ok(Err(ExchangeFault::Link)),
+    }
+    let Ok(head) = request_head(alloc, target, kind, body) else {
+        return Err(OutOfMemory);
+    };
+    match send_request(link, head.as_slice(), body) {
+        Ok(()) => listen(alloc, link, need_digest),
+        Err(Failed) => Ok(Err(ExchangeFault::Link)),
+    }
+}
+
+/// Sends a request in a session of its own and hears the response (RFC 9112), whose body has at most 201,326,592
+/// bytes. The session is begun at `at`, which is the clock's last answer, and closed at its next one, in every
+/// case. A chunked body is not read yet, and counts as one without a length.
+pub fn exchange<L: Link, C: Clock>(
+    alloc: Global,
+    link: &mut L,
+    clock: &mut C,
+    at: Moment,
+    target: &Target,
+    kind: Kind,
+    body: &[u8],
+    need_digest: bool,
+) -> Result<Exchanged, OutOfMemory>
+    requires { C.last clock.old ≡ at.0 }
+
+    // One session, begun and closed at these moments, whose outcome is the answer.
+    ensures session { IfOk result (λ e. HoldsSession target.now kind body.now at need_digest e.ended (L.log link.old) (L.log link.new) e.answer) }
+    ensures refused { OnErr result ((ended : Moment) × HoldsPart target.now kind body.now at ended (L.log link.old) (L.log link.new)
+        × IfTold (C.answers clock.new) (with_entry (C.answers clock.old) ended)) }
+
+    // The session was closed at the clock's next answer.
+    ensures ended { IfOk result (λ e. IfTold (C.answers clock.new) (with_entry (C.answers clock.old) e.ended)) }
+    ensures rises { IfOk result (λ e. (at.0 ≤ e.ended.0) × (C.last clock.new ≡ e.ended.0)) }
+
+    // A fault is counted, and nothing else is.
+    ensures failed { IfOk result (λ e. IsErrOf e.answer ExchangeFault.Link → Rose (L.faults link.old) (L.faults link.new)) }
+    ensures kept { IfOk result (λ e. e.answer ≢ Err ExchangeFault.Link → L.faults link.new ≡ L.faults link.old) }
+    ensures counted { L.faults link.old ≤ L.faults link.new }
+{
+    let heard = converse(alloc, link, at, target, kind, body, need_digest);
+    let ended = clock.now();
+    link.close(ended);
+    match heard {
+        Ok(answer) => Ok(Exchanged { ended, answer }),
+        Err(OutOfMemory) => Err(OutOfMemory),
+    }
+}

@@ -1,0 +1,109 @@
+ghost use Rattle.std.specs.Prelude.{◌≡◌, ◌≢◌, ℕ, ◌<◌, ◌≤◌, List, [], length, Bool, Option, Some, false, IfOk, OnOk, OnErr, IfErr, IsErrOf};
+ghost use Rattle.sb_outside.specs.Outside.{Rose};
+ghost use Rattle.sb_outside.specs.Sessions.{with_end, with_failure};
+ghost use Rattle.sb_outside.specs.declared.links.Session.{Session};
+ghost use Rattle.http_edge.specs.Hearing.{Turns, Hears, HearsMore, HearsSome, SessionEndsShort, SessionFillsUp, FailsAfter, IsResponsePartsOf, IsFaultOfHead};
+
+use crate::ExchangeFault;
+use crate::heads::{HEAD_LIMIT, room_for_fields};
+use crate::receiving::Stop;
+use crate::response_heads::{ResponseParts, ResponseStep, look_at_response};
+use sb_model::{Bytes, OutOfMemory};
+use sb_outside::{Failed, Link};
+use std::alloc::Global;
+
+/// Why the head of a response was not taken.
+#[derive(Clone, Copy, Debug)]
+pub(crate) enum HeadFault {
+    Fault(ExchangeFault),
+    OutOfMemory,
+}
+
+/// Appends the next bytes of a session to a text.
+pub(crate) fn hear<L: Link>(link: &mut L, buffer: &mut [u8], text: &mut Bytes) -> Result<(), Stop>
+    requires { 0 < length buffer.old }
+    ensures more { OnOk result (HearsMore text.old text.new (L.log link.old) (L.log link.new)) }
+    ensures text { OnErr result (text.new ≡ text.old) }
+    ensures end { IsErrOf result Stop.Ended → Turns with_end (L.log link.old) (L.log link.new) }
+    ensures failed_log { IsErrOf result Stop.Failed → Turns with_failure (L.log link.old) (L.log link.new) }
+    ensures refused_log { IsErrOf result Stop.OutOfMemory → HearsSome (L.log link.old) (L.log link.new) }
+    ensures failed { IsErrOf result Stop.Failed → Rose (L.faults link.old) (L.faults link.new) }
+    ensures kept { result ≢ Err Stop.Failed → L.faults link.new ≡ L.faults link.old }
+    ensures counted { L.faults link.old ≤ L.faults link.new }
+{
+    match link.recv(buffer) {
+        Ok(0) => Err(Stop::Ended),
+        Ok(count) => match text.append(&buffer[..count]) {
+            Ok(()) => Ok(()),
+            Err(OutOfMemory) => Err(Stop::OutOfMemory),
+        },
+        Err(Failed) => Err(Stop::Failed),
+    }
+}
+
+/// Appends the next bytes of a session to a body until it has the wanted ones, and keeps these.
+pub(crate) fn hear_body<L: Link>(
+    link: &mut L,
+    buffer: &mut [u8],
+    body: &mut Bytes,
+    wanted: usize,
+) -> Result<(), Stop>
+    requires { 0 < length buffer.old }
+    ensures whole { OnOk result (SessionFillsUp body.old body.new wanted (L.log link.old) (L.log link.new)) }
+    ensures short { IsErrOf result Stop.Ended → SessionEndsShort body.old wanted (L.log link.old) (L.log link.new) }
+    ensures failed_log { IsErrOf result Stop.Failed → FailsAfter (L.log link.old) (L.log link.new) }
+    ensures refused_log { IsErrOf result Stop.OutOfMemory → HearsSome (L.log link.old) (L.log link.new) }
+    ensures failed { IsErrOf result Stop.Failed → Rose (L.faults link.old) (L.faults link.new) }
+    ensures kept { result ≢ Err Stop.Failed → L.faults link.new ≡ L.faults link.old }
+    ensures counted { L.faults link.old ≤ L.faults link.new }
+{
+    'pieces: while body.len() < wanted {
+        match hear(link, buffer, body) {
+            Ok(()) => {}
+            Err(Stop::Ended) => return Err(Stop::Ended),
+            Err(Stop::Failed) => return Err(Stop::Failed),
+            Err(Stop::OutOfMemory) => return Err(Stop::OutOfMemory),
+        }
+    }
+    body.truncate(wanted);
+    Ok(())
+}
+
+/// Hears the head of a response. The text is what was received.
+pub(crate) fn hear_head<L: Link>(
+    alloc: Global,
+    link: &mut L,
+    buffer: &mut [u8],
+    text: &mut Bytes,
+) -> Result<ResponseParts, HeadFault>
+    requires room { 0 < length buffer.old }
+    requires none { text.old ≡ [] }
+    ensures parts { IfOk result (λ parts. IsResponsePartsOf text.new parts) }
+    ensures given { OnOk result (Hears text.new false false (L.log link.old) (L.log link.new)) }
+    ensures fault { IfErr result (λ fault. (bytes : List ℕ) × (ended : Bool) × (failed : Bool)
+        × Hears bytes ended failed (L.log link.old) (L.log link.new) × IsFaultOfHead bytes ended failed fault) }
+    ensures failed { IsErrOf result (HeadFault.Fault ExchangeFault.Link) → Rose (L.faults link.old) (L.faults link.new) }
+    ensures kept { result ≢ Err (HeadFault.Fault ExchangeFault.Link) → L.faults link.new ≡ L.faults link.old }
+    ensures counted { L.faults link.old ≤ L.faults link.new }
+{
+    let Ok(mut room) = room_for_fields(alloc) else {
+        return Err(HeadFault::OutOfMemory);
+    };
+    'pieces: loop {
+        match look_at_response(alloc, text.as_slice(), room.as_mut_slice()) {
+            Ok(ResponseStep::Whole(parts)) => return Ok(parts),
+            Ok(ResponseStep::Refused) => return Err(HeadFault::Fault(ExchangeFault::Head)),
+            Ok(ResponseStep::Open) => {}
+            Err(OutOfMemory) => return Err(HeadFault::OutOfMemory),
+        }
+        if text.len() >= HEAD_LIMIT {
+            return Err(HeadFault::Fault(ExchangeFault::HeadLimit));
+        }
+        match hear(link, buffer, text) {
+            Ok(()) => {}
+            Err(Stop::Ended) => return Err(HeadFault::Fault(ExchangeFault::Cut)),
+            Err(Stop::Failed) => return Err(HeadFault::Fault(ExchangeFault::Link)),
+            Err(Stop::OutOfMemory) => return Err(HeadFault::OutOfMemory),
+        }
+    }
+}
