@@ -88,14 +88,19 @@ whole_of text given parts n is status framing allowed enough = record {
 pub judged : (need : Bool) (text given : List ℕ) (parts : ResponseParts) (n : ℕ) (body : List ℕ) (answer : Result (List ℕ) ExchangeFault) → IsResponsePartsOf text parts
     → parts.status ≡ 200 → parts.framing ≡ ByLength n → n ≤ 201326592 → n ≤ length (drop parts.start text ++ given) → body ≡ take n (drop parts.start text ++ given)
     → IsJudged need body parts.digest answer → BytesOutcome need (text ++ given) false answer
-judged need text given parts n body (Ok passed) is status framing allowed enough body-is says =
-    (parts.digest, subst (λ b. HasWhole (text ++ given) b parts.digest) (sym (says.0 ∙ body-is)) (whole_of text given parts n is status framing allowed enough),
-    subst (λ b. IsRightDigest need b parts.digest) (sym says.0) says.1)
+judged need text given parts n body (Ok passed) is status framing allowed enough body-is says = (
+  parts.digest,
+  subst (λ b. HasWhole (text ++ given) b parts.digest) (sym (says.0 ∙ body-is)) (whole_of text given parts n is status framing allowed enough),
+  subst (λ b. IsRightDigest need b parts.digest) (sym says.0) says.1,
+)
 judged need text given parts n body (Err fault.NoDigest) is status framing allowed enough body-is says =
     (take n (drop parts.start text ++ given), subst (HasWhole (text ++ given) (take n (drop parts.start text ++ given))) says.0 (whole_of text given parts n is status framing allowed enough), says.1)
-judged need text given parts n body (Err (fault.Digest got other)) is status framing allowed enough body-is says =
-    (take n (drop parts.start text ++ given), subst (HasWhole (text ++ given) (take n (drop parts.start text ++ given))) says.0 (whole_of text given parts n is status framing allowed enough),
-    says.1 ∙ ap sha256 body-is, says.2)
+judged need text given parts n body (Err (fault.Digest got other)) is status framing allowed enough body-is says = (
+  take n (drop parts.start text ++ given),
+  subst (HasWhole (text ++ given) (take n (drop parts.start text ++ given))) says.0 (whole_of text given parts n is status framing allowed enough),
+  says.1 ∙ ap sha256 body-is,
+  says.2,
+)
 judged need text given parts n body (Err fault.Link) is status framing allowed enough body-is says = absurd says
 judged need text given parts n body (Err fault.Head) is status framing allowed enough body-is says = absurd says
 judged need text given parts n body (Err fault.HeadLimit) is status framing allowed enough body-is says = absurd says
@@ -111,14 +116,25 @@ success_here text parts is status = record { response = is.has; success = sym is
 pub long_body : (need ended : Bool) (text : List ℕ) (parts : ResponseParts) (n : ℕ) → IsResponsePartsOf text parts → parts.status ≡ 200 → parts.framing ≡ ByLength n → 201326592 < n
     → OutcomeSoFar need text ended (Err (fault.BodyLimit n))
 long_body need ended text parts n is status framing past =
-    inl (is.head, drop parts.start text, success_here text parts is status,
-    subst (λ f. HasLongBody f (drop parts.start text) n) (sym (is.framing ∙ framing)) (refl, past))
+    inl (
+      is.head,
+      drop parts.start text,
+      success_here text parts is status,
+      subst (λ f. HasLongBody f (drop parts.start text) n) (sym (is.framing ∙ framing)) (refl, past),
+    )
 
 pub cut_body : (need : Bool) (text given : List ℕ) (parts : ResponseParts) (n : ℕ) → IsResponsePartsOf text parts → parts.status ≡ 200 → parts.framing ≡ ByLength n → n ≤ 201326592
     → length (drop parts.start text ++ given) < n → OutcomeSoFar need (text ++ given) true (Err fault.Cut)
 cut_body need text given parts n is status framing allowed short =
-    inl (refl, inr (is.head, drop parts.start text ++ given, success_of text parts given is status,
-    subst (λ f. LacksRest f (drop parts.start text ++ given)) (sym (is.framing ∙ framing)) (allowed, short)))
+    inl (
+      refl,
+      inr (
+        is.head,
+        drop parts.start text ++ given,
+        success_of text parts given is status,
+        subst (λ f. LacksRest f (drop parts.start text ++ given)) (sym (is.framing ∙ framing)) (allowed, short),
+      ),
+    )
 
 pub other_status : (need ended : Bool) (text : List ℕ) (parts : ResponseParts) → IsResponsePartsOf text parts → parts.status ≢ 200
     → OutcomeSoFar need text ended (Err (fault.Status parts.status))

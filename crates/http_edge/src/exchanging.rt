@@ -133,7 +133,14 @@ fn listen<L: Link>(
     };
     let mut text = Bytes::new(alloc);
     match hear_head(alloc, link, buffer.as_mut_slice(), &mut text) {
-        Ok(parts) => hear_answer(alloc, link, buffer.as_mut_slice(), &text, parts, need_digest),
+        Ok(parts) => hear_answer(
+            alloc,
+            link,
+            buffer.as_mut_slice(),
+            &text,
+            parts,
+            need_digest,
+        ),
         Err(HeadFault::Fault(fault)) => Ok(Err(fault)),
         Err(HeadFault::OutOfMemory) => Err(OutOfMemory),
     }

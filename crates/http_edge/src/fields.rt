@@ -5,7 +5,6 @@ ghost use Rattle.std.specs.Char.{is_ascii_digit};
 ghost use Rattle.std.specs.Str.Parse.{digits_value};
 ghost use Rattle.httparse.specs.Spans.{IsHeaderWithin, header_bytes};
 ghost use Rattle.http_edge.specs.Fields.{value_if_named, values_at, capped, is_number, number_said, length_in};
-
 ghost use Rattle.http_edge.specs.Outcomes.{framing_by_length, framing_by_encoding, framing_in};
 
 use httparse::spans::HeaderSpan;
@@ -29,7 +28,11 @@ pub enum Framing {
 }
 
 /// The value of a field, where its name is the given one but for case.
-pub(crate) fn value_if_named<'b>(buffer: &'b [u8], field: &HeaderSpan, name: &[u8]) -> Option<&'b [u8]>
+pub(crate) fn value_if_named<'b>(
+    buffer: &'b [u8],
+    field: &HeaderSpan,
+    name: &[u8],
+) -> Option<&'b [u8]>
     requires { IsHeaderWithin (length buffer.now) field.now }
     ensures { option_copied result ≡ value_if_named name.now (header_bytes buffer.now field.now) }
 {

@@ -20,5 +20,5 @@ mod messages;
 mod printing;
 mod receiving;
 mod requests;
-mod response_heads;
 mod responding;
+mod response_heads;

@@ -14,8 +14,11 @@ members-preserved c =
     let not : IsNoDigest (trim_ows part) = subst IsNoDigest c.trim.ensures says in
     let so_far = c.members.invariant.so_far in
     record {
-      so_far = (so_far.0 ++ trim_ows part ∷ [], All-push IsNoDigest so_far.0 (trim_ows part) so_far.1 not,
-      one_more c.args.value.now c.members.rest.now part c.in-Some-more.more.now so_far.0 so_far.2 split.0);
+      so_far = (
+        so_far.0 ++ trim_ows part ∷ [],
+        All-push IsNoDigest so_far.0 (trim_ows part) so_far.1 not,
+        one_more c.args.value.now c.members.rest.now part c.in-Some-more.more.now so_far.0 so_far.2 split.0,
+      );
     }
 
 pub returns-in-None : goal.returns-in-None

@@ -8,10 +8,11 @@ pub returns-then-byte-eq44 : goal.returns-then-byte-eq44
 returns-then-byte-eq44 c =
     let value = c.args.value.now in
     let i = c.loop-at.at in
-    let rest = take_rest value (i + 1) in
-    (part_at value i c.loop-at-test.true c.loop-at.invariant c.if-byte-eq44.true
-    ∙ ap (λ (after : List ℕ). take i value ∷ slice_split (λ byte. eqb byte 44) after) (sym rest),
-    omega (arith, ap length rest, length-drop (i + 1) value))
+    let rest = take_rest value (i + 1) in (
+      part_at value i c.loop-at-test.true c.loop-at.invariant c.if-byte-eq44.true
+          ∙ ap (λ (after : List ℕ). take i value ∷ slice_split (λ byte. eqb byte 44) after) (sym rest),
+      omega (arith, ap length rest, length-drop (i + 1) value),
+    )
 
 pub loop-at-preserved : goal.loop-at-preserved
 loop-at-preserved c = none_so_far c.args.value.now c.loop-at.at c.loop-at-test.true c.loop-at.invariant c.if-byte-eq44.false

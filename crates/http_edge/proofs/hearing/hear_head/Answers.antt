@@ -8,14 +8,22 @@ pub returns-in_default-clause-fault : goal.returns-in_default-clause-fault
 returns-in_default-clause-fault g c = ([], false, false, hears_nothing _, tt)
 
 pub returns-in-Ok-Refused-clause-fault : goal.returns-in-Ok-Refused-clause-fault
-returns-in-Ok-Refused-clause-fault g c =
-    (c.pieces.text, false, false, c.pieces.invariant.so_far,
-    λ need. refused_response c.pieces.text c.as_slice.result.now c.in-Ok-Refused.field-0 c.as_slice.ensures c.in-Ok-Refused.field-0-is c.in-Ok-Refused.ensures)
+returns-in-Ok-Refused-clause-fault g c = (
+  c.pieces.text,
+  false,
+  false,
+  c.pieces.invariant.so_far,
+  λ need. refused_response c.pieces.text c.as_slice.result.now c.in-Ok-Refused.field-0 c.as_slice.ensures c.in-Ok-Refused.field-0-is c.in-Ok-Refused.ensures,
+)
 
 pub returns-in-Err-Ended-clause-fault : goal.returns-in-Err-Ended-clause-fault
-returns-in-Err-Ended-clause-fault g c =
-    (c.pieces.text, true, false, hears_end c.pieces.text _ _ _ c.pieces.invariant.so_far (c.in-Err-Ended.ensures.end (ap Err c.in-Err-Ended.field-0-is)),
-    λ need. (refl, inl (omega arith, open_response c.pieces.text c.as_slice.result.now c.in-Ok-Open.field-0 c.as_slice.ensures c.in-Ok-Open.field-0-is c.in-Ok-Open.ensures)))
+returns-in-Err-Ended-clause-fault g c = (
+  c.pieces.text,
+  true,
+  false,
+  hears_end c.pieces.text _ _ _ c.pieces.invariant.so_far (c.in-Err-Ended.ensures.end (ap Err c.in-Err-Ended.field-0-is)),
+  λ need. (refl, inl (omega arith, open_response c.pieces.text c.as_slice.result.now c.in-Ok-Open.field-0 c.as_slice.ensures c.in-Ok-Open.field-0-is c.in-Ok-Open.ensures)),
+)
 
 pub returns-in-Err-Failed-clause-fault : goal.returns-in-Err-Failed-clause-fault
 returns-in-Err-Failed-clause-fault g c =
@@ -35,6 +43,10 @@ pieces-init g c = record {
 }
 
 pub returns-then-len-ge-HEAD_LIMIT-clause-fault : goal.returns-then-len-ge-HEAD_LIMIT-clause-fault
-returns-then-len-ge-HEAD_LIMIT-clause-fault g c =
-    (c.pieces.text, false, false, c.pieces.invariant.so_far,
-    λ need. (omega arith, open_response c.pieces.text c.as_slice.result.now c.in-Ok-Open.field-0 c.as_slice.ensures c.in-Ok-Open.field-0-is c.in-Ok-Open.ensures))
+returns-then-len-ge-HEAD_LIMIT-clause-fault g c = (
+  c.pieces.text,
+  false,
+  false,
+  c.pieces.invariant.so_far,
+  λ need. (omega arith, open_response c.pieces.text c.as_slice.result.now c.in-Ok-Open.field-0 c.as_slice.ensures c.in-Ok-Open.field-0-is c.in-Ok-Open.ensures),
+)
