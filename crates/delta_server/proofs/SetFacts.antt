@@ -1,0 +1,115 @@
+-- Members of one size, their bytes and their numbers, in a walk through the members.
+use Rattle.std.proofs.Common.{◌≡◌, ℕ, zero, suc, ◌+◌, ◌-◌, ◌*◌, ◌<◌, ◌≤◌, Bool, true, false, cond, List, [], ◌∷◌, ◌++◌, length, take, map, get_or, refl, sym, ap, ◌∙◌, arith, append-nil, length-append}
+use Rattle.std.specs.Prelude.{◌==◌, ◌%◌, ◌||◌, filter}
+use Rattle.std.specs.Int.{w32, from_le_bytes}
+use Rattle.std.specs.List.{list_any, range_with_len}
+use Rattle.std.proofs.lemmas.Bool.{eqb-true}
+use Rattle.std.proofs.lemmas.List.{map-append}
+use Rattle.std.proofs.Math.Nat.{mul-mod_left}
+use Rattle.std.proofs.lemmas.List.Concat.{flat_map-append}
+use Rattle.std.proofs.lemmas.List.Elements.{filter-append, filter_more}
+use Rattle.sb_model.specs.Prefixes.{concatenation}
+use Rattle.update_messages.specs.declared.sets.Additions.{Additions}
+use Rattle.update_messages.specs.Answer.{has_size, addition_set}
+
+-- the members of a size among the first so many
+abbrev pub of_size : ℕ → List (List ℕ) → ℕ → List (List ℕ)
+of_size size members i = filter (has_size size) (take i members)
+
+of_size_more : (size : ℕ) (members : List (List ℕ)) (i : ℕ) (member : List ℕ) → i < length members → member ≡ get_or members i member
+    → of_size size members (i + 1) ≡ of_size size members i ++ cond (length member == size) (member ∷ []) []
+of_size_more size members i member below is =
+    filter_more (has_size size) members i member below
+    ∙ ap (λ (m : List ℕ). of_size size members i ++ cond (length m == size) (m ∷ []) []) (sym is)
+
+pub of_size_same : (size : ℕ) (members : List (List ℕ)) (i : ℕ) (member : List ℕ) → i < length members → member ≡ get_or members i member → (length member == size) ≡ false
+    → of_size size members (i + 1) ≡ of_size size members i
+of_size_same size members i member below is other =
+    of_size_more size members i member below is
+    ∙ ap (λ b. of_size size members i ++ cond b (member ∷ []) []) other ∙ append-nil (of_size size members i)
+
+pub of_size_one : (size : ℕ) (members : List (List ℕ)) (i : ℕ) (member : List ℕ) → i < length members → member ≡ get_or members i member → (length member == size) ≡ true
+    → of_size size members (i + 1) ≡ of_size size members i ++ member ∷ []
+of_size_one size members i member below is own =
+    of_size_more size members i member below is ∙ ap (λ b. of_size size members i ++ cond b (member ∷ []) []) own
+
+pub bytes_more : (ms : List (List ℕ)) (member : List ℕ) → concatenation (ms ++ member ∷ []) ≡ concatenation ms ++ member
+bytes_more ms member = flat_map-append (λ (m : List ℕ). m) ms (member ∷ []) ∙ ap (λ (b : List ℕ). concatenation ms ++ b) (append-nil member)
+
+pub numbers_more : (ms : List (List ℕ)) (member : List ℕ) → map (from_le_bytes w32) (ms ++ member ∷ []) ≡ map (from_le_bytes w32) ms ++ from_le_bytes w32 member ∷ []
+numbers_more ms member = map-append (from_le_bytes w32) ms (member ∷ [])
+
+-- ---- the sizes that occur, rising
+
+range_push : (a n : ℕ) → range_with_len a (n + 1) ≡ range_with_len a n ++ (a + n) ∷ []
+range_push a zero = ap (λ k. k ∷ []) (omega arith)
+range_push a (suc n) =
+    ap (range_with_len a) (let same : suc n + 1 ≡ suc (n + 1) = omega arith in same)
+    ∙ ap (λ (ns : List ℕ). a ∷ ns) (range_push (a + 1) n)
+    ∙ ap (λ k. (a ∷ range_with_len (a + 1) n) ++ k ∷ []) (let same : a + 1 + n ≡ a + suc n = omega arith in same)
+
+-- the sets of the first so many sizes from 4 on
+abbrev pub sets_up_to : Bool → List (List ℕ) → ℕ → List Additions
+sets_up_to rice members n = map (addition_set rice members) (filter (λ size. list_any (has_size size) members) (range_with_len 4 n))
+
+module _ (rice : Bool) (members : List (List ℕ)) (n size : ℕ) (at : 4 + n ≡ size) where
+  sets_more : (b : Bool) → list_any (has_size size) members ≡ b
+      → sets_up_to rice members (n + 1) ≡ sets_up_to rice members n ++ map (addition_set rice members) (cond b (size ∷ []) [])
+  sets_more b is =
+      ap (λ (ns : List ℕ). map (addition_set rice members) (filter (λ k. list_any (has_size k) members) ns)) (range_push 4 n)
+      ∙ ap (map (addition_set rice members)) (filter-append (λ k. list_any (has_size k) members) (range_with_len 4 n) ((4 + n) ∷ []))
+      ∙ map-append (addition_set rice members) (filter (λ k. list_any (has_size k) members) (range_with_len 4 n)) (filter (λ k. list_any (has_size k) members) ((4 + n) ∷ []))
+      ∙ ap (λ k. sets_up_to rice members n ++ map (addition_set rice members) (filter (λ j. list_any (has_size j) members) (k ∷ []))) at
+      ∙ ap (λ c. sets_up_to rice members n ++ map (addition_set rice members) (cond c (size ∷ []) [])) is
+
+  pub sets_one : list_any (has_size size) members ≡ true → sets_up_to rice members (n + 1) ≡ sets_up_to rice members n ++ addition_set rice members size ∷ []
+  sets_one is = sets_more true is
+
+  pub sets_same : list_any (has_size size) members ≡ false → sets_up_to rice members (n + 1) ≡ sets_up_to rice members n
+  sets_same is = sets_more false is ∙ append-nil (sets_up_to rice members n)
+
+pub sets_pushed : (rice : Bool) (members : List (List ℕ)) (size : ℕ) (old new : List Additions) (set : Additions) → 4 ≤ size → list_any (has_size size) members ≡ true
+    → old ≡ sets_up_to rice members (size - 4) → set ≡ addition_set rice members size → new ≡ old ++ set ∷ [] → new ≡ sets_up_to rice members (size + 1 - 4)
+sets_pushed rice members size old new set low there before is pushed =
+    pushed ∙ ap (λ (xs : List Additions). xs ++ set ∷ []) before ∙ ap (λ (x : Additions). sets_up_to rice members (size - 4) ++ x ∷ []) is
+    ∙ sym (sets_one rice members (size - 4) size (omega arith) there)
+    ∙ ap (sets_up_to rice members) (let next : size - 4 + 1 ≡ size + 1 - 4 = omega arith in next)
+
+pub sets_kept : (rice : Bool) (members : List (List ℕ)) (size : ℕ) (old : List Additions) → 4 ≤ size → list_any (has_size size) members ≡ false
+    → old ≡ sets_up_to rice members (size - 4) → old ≡ sets_up_to rice members (size + 1 - 4)
+sets_kept rice members size old low none before =
+    before ∙ sym (sets_same rice members (size - 4) size (omega arith) none) ∙ ap (sets_up_to rice members) (let next : size - 4 + 1 ≡ size + 1 - 4 = omega arith in next)
+
+-- ---- what a test keeps
+
+pub few_kept : (p : List ℕ → Bool) (ms : List (List ℕ)) → length (filter p ms) ≤ length ms
+few_kept p [] = omega arith
+few_kept p (m ∷ ms) = go (p m) (few_kept p ms)
+  where
+    go : (b : Bool) → length (filter p ms) ≤ length ms → length (cond b (m ∷ filter p ms) (filter p ms)) ≤ suc (length ms)
+    go true more = omega (arith, more)
+    go false more = omega (arith, more)
+
+pub some_kept : (p : List ℕ → Bool) (ms : List (List ℕ)) → list_any p ms ≡ true → 0 < length (filter p ms)
+some_kept p [] h = absurd (cc)
+some_kept p (m ∷ ms) h = go (p m) h (some_kept p ms)
+  where
+    go : (b : Bool) → (b || list_any p ms) ≡ true → (list_any p ms ≡ true → 0 < length (filter p ms)) → 0 < length (cond b (m ∷ filter p ms) (filter p ms))
+    go true k more = omega arith
+    go false k more = more k
+
+-- ---- what the sets of messages keep to
+
+pub whole_pieces : (size : ℕ) (members : List (List ℕ)) → 4 ≤ size → length (concatenation (filter (has_size size) members)) % size ≡ 0
+whole_pieces size members low =
+    let count : length (concatenation (filter (has_size size) members)) ≡ length (filter (has_size size) members) * size = same_lengths members in
+    ap (λ n. n % size) count ∙ mul-mod_left (length (filter (has_size size) members)) size
+  where
+    same_lengths : (ms : List (List ℕ)) → length (concatenation (filter (has_size size) ms)) ≡ length (filter (has_size size) ms) * size
+    same_lengths [] = omega arith
+    same_lengths (m ∷ ms) = go (length m == size) refl (same_lengths ms)
+      where
+        go : (b : Bool) → (length m == size) ≡ b → length (concatenation (filter (has_size size) ms)) ≡ length (filter (has_size size) ms) * size
+            → length (concatenation (cond b (m ∷ filter (has_size size) ms) (filter (has_size size) ms))) ≡ length (cond b (m ∷ filter (has_size size) ms) (filter (has_size size) ms)) * size
+        go true is more = omega (arith, length-append m (concatenation (filter (has_size size) ms)), eqb-true (length m) size is, more)
+        go false is more = more

@@ -1,0 +1,17 @@
+//! What a list server answers: the state tokens of its versions, the version that a client is
+//! brought to, and the update that leads there.
+//!
+//! `specs/Tokens.antt` has the naming of versions, and `Updates` an update between two sets. The
+//! answer to a whole request is defined in `update_messages`, for any naming.
+#![tactic(auto)]
+
+pub use laws::tokens_name_versions;
+pub use sets::{addition_sets, removal_sets};
+pub use tokens::{read_state, state_token};
+pub use updates::{Sent, full_update, partial_update};
+
+mod laws;
+mod numbers;
+mod sets;
+mod tokens;
+mod updates;

@@ -1,0 +1,119 @@
+ghost use Rattle.std.specs.Prelude.{◌≡◌, ℕ, ◌<◌, ◌≤◌, [], ◌∷◌, length, filter, IfOk, IsTrue, All};
+ghost use Rattle.std.specs.List.{list_any};
+ghost use Rattle.std.specs.List.Sorted.{IsStrictlyIncreasing};
+ghost use Rattle.sb_model.specs.Prefixes.{concatenation};
+ghost use Rattle.sb_model.specs.History.{IsPrefixSize};
+ghost use Rattle.prefix_set.specs.declared.set.TheConstants.{MAX_PREFIXES};
+ghost use Rattle.update_messages.specs.Answer.{has_size, addition_set, addition_sets, removal_sets};
+ghost use Rattle.update_messages.specs.Messages.{IsAddition, IsRemoval};
+
+use crate::numbers::rising_numbers;
+use hash_prefixes::Prefix;
+use rice_coding::encode;
+use sb_model::{Bytes, OutOfMemory, Row};
+use std::alloc::Global;
+use update_messages::{Additions, Removals};
+
+// Whether some member has this many bytes.
+fn has_member_of(members: &[Prefix], size: u8) -> bool
+    ensures { result ≡ list_any (has_size size) members.now }
+{
+    members.iter().any(|member| member.size() == size)
+}
+
+// The members of one size, one after the other.
+fn bytes_of_size(alloc: Global, members: &[Prefix], size: u8) -> Result<Bytes, OutOfMemory>
+    ensures { IfOk result (λ bytes. bytes ≡ concatenation (filter (has_size size) members.now)) }
+{
+    let mut bytes = Bytes::new(alloc);
+    for member in members {
+        if member.size() == size {
+            bytes.append(member.as_bytes())?;
+        }
+    }
+    Ok(bytes)
+}
+
+// The additions of one size that occurs.
+fn addition_set(
+    alloc: Global,
+    members: &[Prefix],
+    size: u8,
+    rice: bool,
+) -> Result<Additions, OutOfMemory>
+    requires size { IsPrefixSize size }
+    requires occurs { IsTrue (list_any (has_size size) members.now) }
+    requires few { length members.now ≤ MAX_PREFIXES }
+    ensures set { IfOk result (λ set. set ≡ addition_set rice members.now size) }
+    ensures keeps { IfOk result IsAddition }
+{
+    if size == 4 && rice {
+        let numbers = rising_numbers(alloc, members)?;
+        Ok(Additions::Rice(encode(alloc, &numbers)?))
+    } else {
+        let bytes = bytes_of_size(alloc, members, size)?;
+        Ok(Additions::Raw { size, bytes })
+    }
+}
+
+/// The additions of an update: one set for each size that occurs, rising. Prefixes of four bytes
+/// are Rice coded where the client takes that.
+pub fn addition_sets(
+    alloc: Global,
+    members: &[Prefix],
+    rice: bool,
+) -> Result<Row<Additions>, OutOfMemory>
+    requires { length members.now ≤ MAX_PREFIXES }
+    ensures sets { IfOk result (λ sets. sets ≡ addition_sets rice members.now) }
+    ensures keep { IfOk result (All IsAddition) }
+{
+    let mut sets = Row::new(alloc);
+    for size in 4..33 {
+        if has_member_of(members, size) {
+            sets.push(addition_set(alloc, members, size, rice)?)?;
+        }
+    }
+    Ok(sets)
+}
+
+// The one set of some places.
+fn removal_set(
+    alloc: Global,
+    places: Row<u32>,
+    size: u8,
+    rice: bool,
+) -> Result<Removals, OutOfMemory>
+    requires some { 0 < length places }
+    requires rising { IsStrictlyIncreasing places }
+    requires few { length places ≤ MAX_PREFIXES }
+    requires below { All (λ place. place < MAX_PREFIXES) places }
+    ensures set { IfOk result (λ set. removal_sets rice size places ≡ set ∷ []) }
+    ensures keeps { IfOk result IsRemoval }
+{
+    if size == 4 && rice {
+        Ok(Removals::Rice(encode(alloc, places.as_slice())?))
+    } else {
+        Ok(Removals::Raw(places))
+    }
+}
+
+/// The removals of an update: one set of the places, and none where there are none. They are Rice
+/// coded where the list's declared size is 4 and the client takes that.
+pub fn removal_sets(
+    alloc: Global,
+    places: Row<u32>,
+    size: u8,
+    rice: bool,
+) -> Result<Row<Removals>, OutOfMemory>
+    requires rising { IsStrictlyIncreasing places }
+    requires few { length places ≤ MAX_PREFIXES }
+    requires below { All (λ place. place < MAX_PREFIXES) places }
+    ensures sets { IfOk result (λ sets. sets ≡ removal_sets rice size places) }
+    ensures keep { IfOk result (All IsRemoval) }
+{
+    let mut sets = Row::new(alloc);
+    if !places.is_empty() {
+        sets.push(removal_set(alloc, places, size, rice)?)?;
+    }
+    Ok(sets)
+}

@@ -1,0 +1,77 @@
+ghost use Rattle.std.specs.Prelude.{◌≡◌, ◌≤◌, length, IfOk};
+ghost use Rattle.sha2.specs.Sha256.{sha256};
+ghost use Rattle.sb_model.specs.Prefixes.{concatenation};
+ghost use Rattle.delta_server.specs.Updates.{whole_update, difference_update};
+
+use crate::sets::{addition_sets, removal_sets};
+use hash_prefixes::Prefix;
+use prefix_set::PrefixSet;
+use sb_model::{Bytes, OutOfMemory, Row};
+use std::alloc::Global;
+use update_messages::{ListRequest, ListUpdate};
+
+/// A set as it is sent: its members, its digest, and the token of its version.
+#[derive(Clone, Copy)]
+pub struct Sent<'a> {
+    pub set: &'a PrefixSet,
+    pub digest: [u8; 32],
+    pub token: [u8; 20],
+}
+
+// The members of a set.
+fn members_of(alloc: Global, set: &PrefixSet) -> Result<Row<Prefix>, OutOfMemory>
+    ensures { IfOk result (λ members. members ≡ set.now) }
+{
+    let mut members = Row::with_capacity(alloc, set.len() as usize)?;
+    for i in 0..set.len() {
+        members.push(set.at(i))?;
+    }
+    Ok(members)
+}
+
+/// The update to the whole of a set.
+pub fn full_update(
+    alloc: Global,
+    asked: &ListRequest,
+    newer: &Sent<'_>,
+) -> Result<ListUpdate, OutOfMemory>
+    requires { newer.now.digest ≡ sha256 (concatenation newer.now.set.now) }
+    ensures { IfOk result (λ update. update ≡ whole_update asked.now newer.now.set.now newer.now.token) }
+{
+    let _ = newer.set.len();
+    let members = members_of(alloc, newer.set)?;
+    Ok(ListUpdate {
+        name: asked.name,
+        full: true,
+        base: Bytes::new(alloc),
+        additions: addition_sets(alloc, members.as_slice(), asked.rice)?,
+        removals: Row::new(alloc),
+        new_state: Bytes::from_slice(alloc, newer.token.as_slice())?,
+        checksum: newer.digest,
+    })
+}
+
+/// The update from the set of the asked state to a newer one, of a list with a declared size.
+pub fn partial_update(
+    alloc: Global,
+    asked: &ListRequest,
+    size: u8,
+    old: &PrefixSet,
+    newer: &Sent<'_>,
+) -> Result<ListUpdate, OutOfMemory>
+    requires { newer.now.digest ≡ sha256 (concatenation newer.now.set.now) }
+    ensures { IfOk result (λ update. update ≡ difference_update asked.now size old.now newer.now.set.now newer.now.token) }
+{
+    let _ = old.len();
+    let _ = newer.set.len();
+    let delta = old.difference(alloc, newer.set)?;
+    Ok(ListUpdate {
+        name: asked.name,
+        full: false,
+        base: asked.state.copy()?,
+        additions: addition_sets(alloc, delta.additions.as_slice(), asked.rice)?,
+        removals: removal_sets(alloc, delta.removals, size, asked.rice)?,
+        new_state: Bytes::from_slice(alloc, newer.token.as_slice())?,
+        checksum: newer.digest,
+    })
+}
