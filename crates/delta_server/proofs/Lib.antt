@@ -1,5 +1,9 @@
+pub mod CountFacts
+pub mod EntryFacts
 pub mod Membership
 pub mod NumberFacts
+pub mod SetCounts
 pub mod SetFacts
+pub mod TargetFacts
 pub mod TokenFacts
 pub mod UpdateFacts

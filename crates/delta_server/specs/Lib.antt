@@ -1,2 +1,5 @@
+pub mod Counts
 pub mod Tokens
 pub mod Updates
+pub mod Version
+pub mod Walk

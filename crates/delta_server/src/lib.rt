@@ -9,9 +9,14 @@ pub use laws::tokens_name_versions;
 pub use sets::{addition_sets, removal_sets};
 pub use tokens::{read_state, state_token};
 pub use updates::{Sent, full_update, partial_update};
+pub use walk::{changes_taken, target_of};
 
+mod hashes;
+mod holders;
 mod laws;
 mod numbers;
 mod sets;
 mod tokens;
 mod updates;
+mod version;
+mod walk;

@@ -1,0 +1,64 @@
+-- How a walk counts: for each full hash the prefix that is published of it, and for each prefix the full hashes that have it.
+use Rattle.std.specs.Prelude.{◌≡◌, ℕ, zero, suc, ◌+◌, Bool, true, false, List, [], ◌∷◌, length, filter, Option, Some, None, if◌then◌else◌}
+use Rattle.std.specs.BTreeMap.{is_at}
+use Rattle.std.specs.List.{AllByRecursion}
+use Rattle.std.specs.Map.{lookup}
+use Rattle.std.specs.Str.{bytes_eq}
+use Rattle.sb_model.specs.declared.history.Added.{Added}
+use Rattle.sb_model.specs.Difference.{has_member}
+use Rattle.sb_model.specs.History.{prefix_of}
+use Rattle.sb_model.specs.Prefixes.{bytes_cmp}
+use Rattle.delta_server.specs.Walk.{published}
+use Rattle.delta_server.specs.declared.holders.Holders.{Holders}
+use Rattle.delta_server.specs.declared.hashes.Hashes.{Hashes}
+
+-- ---- maps whose keys are strings of bytes
+
+abbrev pub found_in : {X : Type 0} → List (List ℕ × X) → List ℕ → Option X
+found_in entries key = lookup (is_at (bytes_cmp key)) entries
+
+-- what a map becomes where the value of a key is put or taken out
+abbrev pub Puts : {X : Type 0} → List (List ℕ × X) → List (List ℕ × X) → List ℕ → Option X → Type 0
+Puts before after key value = (other : List ℕ) → found_in after other ≡ (if is_at (bytes_cmp key) other then value else found_in before other)
+
+-- ---- the full hashes that have a prefix
+
+abbrev pub has_prefix : List ℕ → Added → Bool
+has_prefix prefix entry = bytes_eq (prefix_of entry) prefix
+
+-- how many
+abbrev pub holders_of : List ℕ → List Added → ℕ
+holders_of prefix entries = length (filter (has_prefix prefix) entries)
+
+-- none is not counted
+abbrev pub counted : ℕ → Option ℕ
+counted zero = None
+counted (suc count) = Some (suc count)
+
+-- one more full hash has the prefix
+pub record Gains (fewer more : List Added) (prefix : List ℕ) : Type 0 where
+  pub holders : (other : List ℕ) → holders_of other more ≡ holders_of other fewer + (if bytes_eq prefix other then 1 else 0)
+
+-- the prefixes of these full hashes are counted, and those that an older set has too
+pub record Counts (now : Holders) (entries : List Added) : Type 0 where
+  pub holders : (prefix : List ℕ) → found_in now.counts.entries prefix ≡ counted (holders_of prefix entries)
+  pub members : length now.counts.entries ≡ length (published entries)
+  pub stay : now.shared ≡ length (filter (has_member (published entries)) now.held.now)
+  pub known : now.shared ≡ length (filter (has_member now.held.now) (published entries))
+
+-- ---- the prefix of a full hash
+
+abbrev pub prefix_at : List ℕ → List Added → Option (List ℕ)
+prefix_at hash [] = None
+prefix_at hash (entry ∷ entries) = if bytes_eq entry.hash hash then Some (prefix_of entry) else prefix_at hash entries
+
+-- no two entries have one hash
+abbrev pub AreApart : List Added → Type 0
+AreApart [] = Unit {0}
+AreApart (entry ∷ entries) = AllByRecursion (λ other. bytes_eq other.hash entry.hash ≡ false) entries × AreApart entries
+
+-- these full hashes are known with their prefixes
+pub record Knows (now : Hashes) (entries : List Added) : Type 0 where
+  pub apart : AreApart entries
+  pub prefixes : (hash : List ℕ) → found_in now.prefixes.entries hash ≡ prefix_at hash entries
+  pub count : length now.prefixes.entries ≡ length entries

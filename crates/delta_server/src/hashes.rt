@@ -1,0 +1,45 @@
+ghost use Rattle.std.specs.Prelude.{◌≡◌, ℕ, ◌+◌, ◌<◌, ◌^◌, List, [], ◌∷◌, ◌++◌, length, None, OnOk};
+ghost use Rattle.sb_model.specs.declared.history.Added.{Added as Entry};
+ghost use Rattle.sb_model.specs.History.{prefix_of, without_hash};
+ghost use Rattle.delta_server.specs.Counts.{prefix_at, Knows};
+
+use hash_prefixes::Prefix;
+use sb_model::OutOfMemory;
+use std::alloc::Global;
+use std::collections::BTreeMap;
+
+/// The full hashes of a version, each with the prefix that is published of it.
+#[derive(Drop)]
+pub(crate) struct Hashes {
+    pub(crate) prefixes: BTreeMap<[u8; 32], Prefix>,
+}
+
+impl Hashes {
+    pub(crate) fn new(alloc: Global) -> Hashes
+        ensures { Knows result [] }
+    {
+        Hashes {
+            prefixes: BTreeMap::new(alloc),
+        }
+    }
+
+    // Takes a full hash out, and gives its prefix where it was there.
+    pub(crate) fn take(&mut self, hash: &[u8; 32]) -> Option<Prefix>
+        ensures prefix { (entries : List Entry) → Knows self.old entries → result ≡ prefix_at hash.now entries }
+        ensures knows { (entries : List Entry) → Knows self.old entries
+            → Knows self.new (without_hash entries hash.now) }
+    {
+        self.prefixes.remove(hash)
+    }
+
+    // Puts a full hash in, which was not there.
+    pub(crate) fn put(&mut self, hash: [u8; 32], prefix: Prefix) -> Result<(), OutOfMemory>
+        ensures knows { OnOk result ((entries : List Entry) (added : Entry) → added.hash ≡ hash → prefix_of added ≡ prefix
+            → prefix_at hash entries ≡ None → Knows self.old entries → Knows self.new (entries ++ added ∷ [])) }
+        ensures few { OnOk result ((entries : List Entry) → Knows self.new entries → length entries < 2 ^ 63) }
+    {
+        self.prefixes.insert(hash, prefix)?;
+        let _ = self.prefixes.len();
+        Ok(())
+    }
+}
