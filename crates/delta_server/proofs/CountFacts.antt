@@ -1,7 +1,6 @@
 -- The counts of prefixes where one full hash more has a prefix, or one less.
-use Rattle.std.proofs.Common.{◌≡◌, ℕ, zero, suc, ◌+◌, ◌-◌, ◌^◌, ◌<◌, ◌≤◌, ◌⊎◌, inl, inr, Bool, true, false, cond, List, [], ◌∷◌, ◌++◌, length, map, refl, sym, ap, subst, ◌∙◌, arith, Option, Some, None}
+use Rattle.std.proofs.Common.{◌≡◌, ℕ, zero, suc, ◌+◌, ◌-◌, ◌^◌, ◌<◌, ◌≤◌, ◌⊎◌, inl, inr, Bool, true, false, cond, List, [], ◌∷◌, length, map, refl, sym, ap, subst, ◌∙◌, arith, Some, None}
 use Rattle.std.specs.Prelude.{◌↔◌, min, filter, Contains, if◌then◌else◌, is_some, IsTrue}
-use Rattle.std.specs.BTreeMap.{is_at}
 use Rattle.std.specs.Option.{unwrap_or}
 use Rattle.std.specs.Str.{bytes_eq}
 use Rattle.std.proofs.lemmas.Bool.{false≢true}
@@ -9,7 +8,7 @@ use Rattle.std.proofs.lemmas.Map.Text.{is_eq-slice_cmp}
 use Rattle.sb_model.specs.declared.history.Added.{Added}
 use Rattle.sb_model.specs.Difference.{has_member}
 use Rattle.sb_model.specs.History.{prefix_of}
-use Rattle.sb_model.specs.Prefixes.{bytes_cmp, IsRising, with_member, set_of}
+use Rattle.sb_model.specs.Prefixes.{IsRising, with_member, set_of}
 use Rattle.delta_server.specs.Counts.{found_in, Puts, has_prefix, holders_of, counted, Gains, Counts}
 use Rattle.delta_server.specs.declared.holders.Holders.{Holders}
 use Rattle.delta_server.specs.Walk.{published}

@@ -1,5 +1,5 @@
 -- What is in a list, by recursion on it.
-use Rattle.std.proofs.Common.{◌≡◌, ℕ, zero, suc, ◌+◌, ◌<◌, ◌≤◌, ◌⊎◌, inl, inr, Bool, true, false, cond, List, [], ◌∷◌, ◌++◌, length, map, get_or, refl, sym, ap, subst, ◌∙◌, arith, Some}
+use Rattle.std.proofs.Common.{◌≡◌, ℕ, zero, suc, ◌+◌, ◌<◌, ◌≤◌, ◌⊎◌, inl, inr, Bool, true, false, cond, List, [], ◌∷◌, ◌++◌, length, map, get_or, refl, sym, ap, subst, ◌∙◌, arith, Some, None}
 use Rattle.std.specs.Prelude.{Contains, filter}
 use Rattle.std.specs.List.{AllByRecursion, find, flat_map, range_with_len}
 use Rattle.std.proofs.lemmas.Bool.{cases_eq}
@@ -113,3 +113,22 @@ pub from_range : (v a n : ℕ) → In v (range_with_len a n) → (a ≤ v) × (v
 from_range v a zero h = absurd h
 from_range v a (suc n) (inl e) = (omega arith, omega arith)
 from_range v a (suc n) (inr h) = let more = from_range v (a + 1) n h in (omega (arith, more.0), omega (arith, more.1))
+
+-- ---- what a search finds
+
+pub finds_none : {X : Type 0} (p : X → Bool) (xs : List X) → ((x : X) → In x xs → p x ≡ true → ⊥) → find p xs ≡ None
+finds_none p [] none = refl
+finds_none p (y ∷ ys) none = go (p y) refl (finds_none p ys (λ x h. none x (inr h)))
+  where
+    go : (b : Bool) → p y ≡ b → find p ys ≡ None → cond b (Some y) (find p ys) ≡ None
+    go true is more = absurd (none y (inl refl) is)
+    go false is more = more
+
+pub finds_one : {X : Type 0} (p : X → Bool) (xs : List X) (v : X) → In v xs → p v ≡ true → ((x : X) → In x xs → p x ≡ true → x ≡ v) → find p xs ≡ Some v
+finds_one p [] v there passes only = absurd there
+finds_one p (y ∷ ys) v there passes only = go (p y) refl there (λ h. finds_one p ys v h passes (λ x k. only x (inr k)))
+  where
+    go : (b : Bool) → p y ≡ b → (y ≡ v) ⊎ In v ys → (In v ys → find p ys ≡ Some v) → cond b (Some y) (find p ys) ≡ Some v
+    go true is h more = ap Some (only y (inl refl) is)
+    go false is (inl same) more = absurd (cc)
+    go false is (inr h) more = more h

@@ -1,5 +1,5 @@
 -- Targets by a walk from a held version on.
-use Rattle.std.proofs.Common.{◌≡◌, ℕ, zero, suc, ◌+◌, ◌-◌, ◌<◌, ◌≤◌, Bool, true, false, cond, not, List, [], ◌∷◌, ◌++◌, length, take, drop, refl, sym, ap, subst, ◌∙◌, arith, length-drop, Option, Some, None}
+use Rattle.std.proofs.Common.{◌≡◌, ℕ, zero, suc, ◌+◌, ◌-◌, ◌<◌, ◌≤◌, Bool, true, false, not, List, [], ◌∷◌, length, take, drop, refl, sym, ap, ◌∙◌, arith, length-drop, Option, Some, None}
 use Rattle.std.specs.Prelude.{◌==◌, ◌&&◌, ◌||◌, nat_le, filter, fold, if◌then◌else◌}
 use Rattle.std.proofs.lemmas.Bool.{eq-eqb, eqb-true, le-leb}
 use Rattle.std.specs.Option.{IfSome, unwrap_or}
@@ -7,7 +7,7 @@ use Rattle.std.proofs.lemmas.List.{take_all}
 use Rattle.sb_model.specs.declared.history.Added.{Added}
 use Rattle.sb_model.specs.declared.history.Change.{Change}
 use Rattle.sb_model.specs.declared.names.ListName.{ListName}
-use Rattle.sb_model.specs.Difference.{has_member, added_members, difference_count}
+use Rattle.sb_model.specs.Difference.{has_member, difference_count}
 use Rattle.sb_model.specs.History.{History, version_count, prefixes_at, after_change}
 use Rattle.sb_model.specs.Target.{is_within, can_reach, greatest_up_to, target_version}
 use Rattle.delta_server.specs.Walk.{published, entries_after, may_take, changes_taken, held_set}
@@ -111,7 +111,7 @@ module _ (history : History) (list : ListName) (held max_update max_database : �
       ap (greatest_up_to reach) whole ∙ greatest_from (version_count history - held)
       ∙ ap (λ n. held + greatest_up_to later n) rest
       ∙ ap (λ n. held + n) (greatest_same later _ (length (drop held history.changes)) (λ k.
-        ap (λ (es : List Added). may_take (prefixes_at history list held) max_update max_database (published es)) (fold_split (after_change list) [] held k history.changes)))
+      ap (λ (es : List Added). may_take (prefixes_at history list held) max_update max_database (published es)) (fold_split (after_change list) [] held k history.changes)))
 
 -- ---- the target of one who holds a version, or none
 
@@ -128,8 +128,8 @@ target_is history list None max_update max_database first taken held within is o
 target_is history list (Some version) max_update max_database first taken held within is own walked =
     ap (λ n. n + taken) is
     ∙ ap (λ n. version + n) (walked
-      ∙ ap (λ n. changes_taken list held (entries_after list [] history.changes n) (drop n history.changes) max_update max_database) is
-      ∙ ap (λ (h : List (List ℕ)). changes_taken list h (entries_after list [] history.changes version) (drop version history.changes) max_update max_database) own)
+    ∙ ap (λ n. changes_taken list held (entries_after list [] history.changes n) (drop n history.changes) max_update max_database) is
+    ∙ ap (λ (h : List (List ℕ)). changes_taken list h (entries_after list [] history.changes version) (drop version history.changes) max_update max_database) own)
     ∙ sym (target_some history list version max_update max_database within)
 
 -- what passing a whole front leads to

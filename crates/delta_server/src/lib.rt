@@ -7,7 +7,7 @@
 
 pub use laws::tokens_name_versions;
 pub use sets::{addition_sets, removal_sets};
-pub use tokens::{read_state, state_token};
+pub use tokens::{held_version, read_state, state_token};
 pub use updates::{Sent, full_update, partial_update};
 pub use walk::{changes_taken, target_of};
 

@@ -1,9 +1,13 @@
 ghost use Rattle.std.specs.Prelude.{◌≡◌, ℕ, ◌≤◌, ◌↔◌, Some, length, IsTrue};
 ghost use Rattle.std.specs.Int.{w64, from_be_bytes};
 ghost use Rattle.sb_model.specs.declared.names.ListName.{ListName};
-ghost use Rattle.delta_server.specs.Tokens.{server_token, codes_of};
+ghost use Rattle.sb_model.specs.History.{History, version_count};
+ghost use Rattle.update_messages.specs.Answer.{version_named};
+ghost use Rattle.delta_server.specs.Tokens.{server_token, server_naming, codes_of};
 
-use sb_model::{EntryType, ListName, PlatformType, ThreatType, codes_name_types};
+use sb_model::{
+    EntryType, ListName, PlatformType, ThreatType, codes_name_types, names_go_by_their_codes,
+};
 
 /// How many bytes a state token has.
 const TOKEN_LEN: usize = 20;
@@ -87,4 +91,28 @@ pub fn read_state(epoch: u64, len: u64, state: &[u8]) -> Option<(ListName, u64)>
         return None;
     }
     Some((list, version))
+}
+
+// Whether two names are one.
+fn is_same(a: ListName, b: ListName) -> bool
+    ensures { IsTrue result ↔ (a ≡ b) }
+{
+    names_go_by_their_codes();
+    a.threat.code() == b.threat.code()
+        && a.platform.code() == b.platform.code()
+        && a.entry.code() == b.entry.code()
+}
+
+/// The version of a list that a state names, where it is the state token of one.
+pub fn held_version(epoch: u64, len: u64, list: ListName, state: &[u8]) -> Option<u64>
+    ensures { (history : History) → history.epoch ≡ epoch → version_count history ≡ len
+        → result ≡ version_named history (server_naming history) list state.now }
+{
+    let Some((named, version)) = read_state(epoch, len, state) else {
+        return None;
+    };
+    if !is_same(named, list) {
+        return None;
+    }
+    Some(version)
 }

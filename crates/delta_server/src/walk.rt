@@ -94,6 +94,12 @@ pub fn target_of(
     let first = from.unwrap_or(0) as usize;
     let mut version = Version::start(alloc, held, &[])?;
     pass_each(&mut version, list, &changes[..first])?;
-    let taken = taken_from(&mut version, list, &changes[first..], max_update, max_database)?;
+    let taken = taken_from(
+        &mut version,
+        list,
+        &changes[first..],
+        max_update,
+        max_database,
+    )?;
     Ok(first as u64 + taken)
 }

@@ -1,8 +1,6 @@
-use Rattle.std.proofs.Common.{◌≡◌, ◌≤◌, ◌+◌, ℕ, Bool, true, false, List, length, ap, sym, subst, ◌∙◌, arith}
+use Rattle.std.proofs.Common.{◌≡◌, ◌+◌, ℕ, Bool, true, false, List, ap, sym, subst, ◌∙◌, arith}
 use Rattle.sb_model.specs.declared.history.Added.{Added}
-use Rattle.sb_model.specs.Prefixes.{set_of}
 use Rattle.sb_model.specs.History.{after_change}
-use Rattle.sb_model.specs.Target.{greatest_up_to}
 use Rattle.delta_server.specs.Version.{Stands}
 use Rattle.delta_server.specs.Walk.{published, entries_after, may_take}
 use Rattle.delta_server.proofs.EntryFacts.{fold_on}

@@ -1,8 +1,8 @@
-use Rattle.std.proofs.Common.{◌≤◌, ℕ, List, [], take, drop, length, ap, sym, subst, ◌∙◌, refl}
+use Rattle.std.proofs.Common.{◌≤◌, ℕ, List, [], take, length, ap, sym, subst, ◌∙◌, refl}
 use Rattle.std.specs.Prelude.{IfSome}
 use Rattle.std.proofs.lemmas.List.{take_rest}
 use Rattle.sb_model.specs.declared.history.Change.{Change}
-use Rattle.delta_server.specs.Walk.{entries_after, held_set}
+use Rattle.delta_server.specs.Walk.{held_set}
 use Rattle.delta_server.proofs.TargetFacts.{target_is, front_passed, walk_is}
 use Rattle.delta_server.proofs.walk.target_of.Goals as goal
 

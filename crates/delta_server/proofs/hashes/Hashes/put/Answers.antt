@@ -1,8 +1,7 @@
-use Rattle.std.proofs.Common.{◌≡◌, ℕ, Bool, List, Option, Some, None, ap, sym, subst, ◌∙◌}
+use Rattle.std.proofs.Common.{ℕ, Bool, List, Option, Some, ap, sym, subst, ◌∙◌}
 use Rattle.std.specs.Prelude.{if◌then◌else◌}
 use Rattle.std.specs.Str.{bytes_eq}
 use Rattle.std.proofs.lemmas.Map.Text.{is_eq-slice_cmp}
-use Rattle.sb_model.specs.History.{prefix_of}
 use Rattle.delta_server.specs.Counts.{found_in, prefix_at}
 use Rattle.delta_server.proofs.EntryFacts.{Lacks, lacks_none, apart_push, prefix_at-push, put_count}
 use Rattle.delta_server.proofs.hashes.Hashes.put.Goals as goal

@@ -1,4 +1,4 @@
-use Rattle.std.proofs.Common.{◌≡◌, ℕ, Bool, List, Option, None, ap, sym, ◌∙◌}
+use Rattle.std.proofs.Common.{ℕ, Bool, List, Option, None, ap, sym, ◌∙◌}
 use Rattle.std.specs.Prelude.{if◌then◌else◌}
 use Rattle.std.specs.Str.{bytes_eq}
 use Rattle.std.proofs.lemmas.Map.Text.{is_eq-slice_cmp}

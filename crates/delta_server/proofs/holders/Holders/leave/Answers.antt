@@ -1,9 +1,8 @@
-use Rattle.std.proofs.Common.{◌≡◌, ℕ, ◌+◌, ◌<◌, ◌≤◌, Bool, true, false, length, refl, sym, ap, ◌∙◌, arith}
+use Rattle.std.proofs.Common.{◌≡◌, ◌+◌, ◌<◌, Bool, true, false, length, refl, sym, ap, ◌∙◌, arith}
 use Rattle.std.specs.Prelude.{if◌then◌else◌}
 use Rattle.sb_model.specs.Difference.{has_member}
 use Rattle.delta_server.specs.Counts.{holders_of}
-use Rattle.delta_server.specs.Walk.{published}
-use Rattle.delta_server.proofs.Membership.{In, in_contained}
+use Rattle.delta_server.proofs.Membership.{in_contained}
 use Rattle.delta_server.proofs.CountFacts.{SetLaws, leaves, leaves_last, there_before, count_is, gains_own, lost, first_changes, published_again, shared_some, has_held}
 use Rattle.delta_server.proofs.holders.Holders.leave.Goals as goal
 

@@ -1,4 +1,4 @@
-use Rattle.std.proofs.Common.{refl, ap, List, ◌∙◌}
+use Rattle.std.proofs.Common.{refl, ap, List}
 use Rattle.delta_server.specs.Counts.{found_in}
 use Rattle.delta_server.proofs.CountFacts.{nothing_held}
 use Rattle.delta_server.proofs.holders.Holders.new.Goals as goal

@@ -1,7 +1,6 @@
-use Rattle.std.proofs.Common.{◌≡◌, List, take, sym, subst, ◌∙◌, arith}
+use Rattle.std.proofs.Common.{take, sym, subst, ◌∙◌}
 use Rattle.std.specs.Prelude.{fold}
 use Rattle.std.proofs.lemmas.List.Sums.{fold_more}
-use Rattle.sb_model.specs.declared.history.Added.{Added}
 use Rattle.sb_model.specs.History.{with_added}
 use Rattle.delta_server.specs.Version.{Stands}
 use Rattle.delta_server.proofs.version.Version.add_each.Goals as goal

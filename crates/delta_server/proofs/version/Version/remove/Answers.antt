@@ -1,4 +1,4 @@
-use Rattle.std.proofs.Common.{◌≡◌, List, Option, Some, None, sym, subst, ◌∙◌}
+use Rattle.std.proofs.Common.{◌≡◌, List, Some, None, sym, subst, ◌∙◌}
 use Rattle.sb_model.specs.declared.history.Added.{Added}
 use Rattle.sb_model.specs.History.{without_hash}
 use Rattle.delta_server.specs.Counts.{Counts, prefix_at}
