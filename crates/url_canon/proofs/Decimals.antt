@@ -8,8 +8,8 @@ use Rattle.std.specs.Str.{str_to_ascii_lowercase}
 use Rattle.std.proofs.lemmas.Bool.{or_from, and_parts, eqb-true, ne_eqb, leb-true, not-true, ltb-true, agree_below_at, false≢true, cond-true, cond-false, cases_Bool}
 use Rattle.std.proofs.lemmas.List.{append-nil}
 use Rattle.std.proofs.lemmas.Bool.Decides.{nat_tests}
-use Rattle.url_canon.specs.Words.{is_nil}
-use Rattle.url_canon.specs.Address.{is_dot, number_in, number_of, address_in, address_of, address_text}
+use Rattle.url_canon.specs.Words.{is_nil, is_dot}
+use Rattle.url_canon.specs.Address.{number_in, number_of, address_in, address_of, address_text}
 use Rattle.url_canon.specs.Host.{is_colon, name_of}
 use Rattle.url_canon.proofs.Splits.{Lacks}
 use Rattle.url_canon.proofs.Numbers.{stopped, address_in-last, address_in-more, joined_below}

@@ -3,7 +3,8 @@ use Rattle.std.proofs.Common.{◌≡◌, ℕ, zero, suc, ◌+◌, ◌*◌, ◌^�
 use Rattle.std.specs.Prelude.{◌↔◌}
 use Rattle.std.specs.List.{slice_split}
 use Rattle.std.proofs.lemmas.Bool.{cond-true, lt-ltb, ltb-true}
-use Rattle.url_canon.specs.Address.{is_dot, number_of, address_in, address_of, StandFor, IsAddressOf}
+use Rattle.url_canon.specs.Address.{number_of, address_in, address_of, StandFor, IsAddressOf}
+use Rattle.url_canon.specs.Words.{is_dot}
 
 -- the address of so many bytes that numbers stand for
 abbrev value_of : ℕ → List ℕ → Option ℕ

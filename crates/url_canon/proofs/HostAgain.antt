@@ -5,8 +5,8 @@ use Rattle.std.specs.Char.{to_ascii_lowercase}
 use Rattle.std.specs.Str.{str_to_ascii_lowercase}
 use Rattle.std.proofs.lemmas.Bool.{cond-true, cond-false, or_from, or_parts, or_right, and_left, and_parts, and_from, eqb-true, ne_eqb, cases_Bool, false≢true}
 use Rattle.std.proofs.lemmas.List.{map-append, take-append-drop}
-use Rattle.url_canon.specs.Words.{begins_with, is_nil, without_leading, from_first}
-use Rattle.url_canon.specs.Address.{is_dot, address_of, address_text}
+use Rattle.url_canon.specs.Words.{begins_with, is_nil, without_leading, from_first, is_dot}
+use Rattle.url_canon.specs.Address.{address_of, address_text}
 use Rattle.url_canon.specs.Host.{is_open, is_close, is_bracketed, bracketed_host, name_of, HostParts, named_or_address, named_host, host_of}
 use Rattle.url_canon.proofs.Splits.{Lacks}
 use Rattle.url_canon.proofs.Cuts.{before_first-not, before_first-at, none-before_first, before-and-from}

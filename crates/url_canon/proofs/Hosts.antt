@@ -5,8 +5,7 @@ use Rattle.std.specs.Char.{to_ascii_lowercase}
 use Rattle.std.specs.Str.{str_to_ascii_lowercase}
 use Rattle.std.proofs.lemmas.Bool.{cond-true, cond-false, or_parts, and_parts, and_from, eq-eqb, eqb-true, cases_Bool, false≢true, true_from_ne_false, false_from_ne_true}
 use Rattle.std.proofs.lemmas.List.{map-append}
-use Rattle.url_canon.specs.Words.{begins_with, is_nil, without_leading, from_first}
-use Rattle.url_canon.specs.Address.{is_dot}
+use Rattle.url_canon.specs.Words.{begins_with, is_nil, without_leading, from_first, is_dot}
 use Rattle.url_canon.specs.Host.{is_open, is_close, is_colon, is_bracketed, labels_of, name_of}
 use Rattle.url_canon.proofs.Splits.{Lacks, Lacks-slice_split}
 use Rattle.url_canon.proofs.Cuts.{split_none, before_first-none, none-before_first, before-and-from}

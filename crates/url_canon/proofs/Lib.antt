@@ -1,9 +1,7 @@
 pub mod Splits
 pub mod Unescapes
-pub mod Stack
 pub mod Cuts
 pub mod Trims
-pub mod Labels
 pub mod Numbers
 pub mod Components
 pub mod Whole
@@ -16,3 +14,8 @@ pub mod HostAgain
 pub mod Schemes
 pub mod Stays
 pub mod FourBytes
+pub mod Places
+pub mod Labels
+pub mod Runs
+pub mod Inplace
+pub mod Laid

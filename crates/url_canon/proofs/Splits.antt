@@ -1,6 +1,7 @@
 -- The parts between the elements that pass a test.
 use Rattle.std.proofs.Common.{◌≡◌, ℕ, ◌+◌, ◌<◌, ◌≢◌, List, [], ◌∷◌, Bool, false, eqb, length, drop, Option, Some, None, refl, arith}
 use Rattle.std.specs.List.{AllByRecursion, All, slice_split, onto_first, list_any}
+use Rattle.std.specs.Option.{option_map_or}
 use Rattle.url_canon.specs.Words.{last_part}
 use Rattle.url_canon.specs.Path.{is_slash, components_of}
 use Rattle.std.proofs.lemmas.Bool.{cond_both, eqb-false, or_from, or_parts}
@@ -34,16 +35,14 @@ some-slice_split p [] = omega arith
 some-slice_split p (x ∷ xs) =
     cond_both (p x) ([] ∷ slice_split p xs) (onto_first x (slice_split p xs)) (λ parts. 0 < length parts) (λ _. omega arith) (λ _. some-onto_first x (slice_split p xs))
 
--- no part has the number at which a list was split
-pub All_ne-slice_split : (c : ℕ) (xs : List ℕ) → All (λ part. All (λ x. x ≢ c) part) (slice_split (λ x. eqb x c) xs)
-All_ne-slice_split c xs =
-    All-weaker (Lacks (λ x. eqb x c)) (λ part. All (λ x. x ≢ c) part) (λ part h. All-weaker (λ x. eqb x c ≡ false) (λ x. x ≢ c) (λ x not_x. eqb-false x c not_x) part (All-from_recursion (λ x. eqb x c ≡ false) part (each_fails (λ x. eqb x c) part h))) (slice_split (λ x. eqb x c) xs) (All-from_recursion (Lacks (λ x. eqb x c)) (slice_split (λ x. eqb x c) xs) (Lacks-slice_split (λ x. eqb x c) xs))
+-- what lacks a number has it nowhere
+pub All_ne-lacking : (c : ℕ) (xs : List ℕ) → list_any (λ x. eqb x c) xs ≡ false → All (λ x. x ≢ c) xs
+All_ne-lacking c xs none =
+    All-weaker (λ x. eqb x c ≡ false) (λ x. x ≢ c) (λ x not_x. eqb-false x c not_x) xs (All-from_recursion (λ x. eqb x c ≡ false) xs (each_fails (λ x. eqb x c) xs none))
 
-pub All_ne_slash : (path : List ℕ) → All (λ part. All (λ x. x ≢ 47) part) (components_of path)
-All_ne_slash path = All_ne-slice_split 47 (drop 1 path)
-
-pub some_component : (path : List ℕ) → 0 < length (components_of path)
-some_component path = some-slice_split is_slash (drop 1 path)
+-- the parts of the rest that a split left, which has none where there is no rest
+abbrev pub parts_after : {X : Type 0} → (X → Bool) → Option (List X) → List (List X)
+parts_after p rest = option_map_or (slice_split p) rest []
 
 -- how much is left to split
 abbrev pub size_after : Option (List ℕ) → ℕ

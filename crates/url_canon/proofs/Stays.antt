@@ -12,18 +12,18 @@ use Rattle.url_canon.specs.Parts.{scheme_of, after_scheme, ends_authority, is_at
 use Rattle.url_canon.specs.Host.{HostParts, host_of}
 use Rattle.url_canon.specs.Path.{path_text, path_of}
 use Rattle.url_canon.specs.Url.{Url, query_text, text_of}
-use Rattle.url_canon.specs.Canonical.{url_at, parts_of, escaped_url, escaped_parts, canonical_of_cleaned, StaysCanonical}
+use Rattle.url_canon.specs.Canonical.{host_in, url_at, parts_of, escaped_url, escaped_parts, canonical_of_cleaned, StaysCanonical, IsCanonical}
 use Rattle.url_canon.specs.declared.fault.UrlFault.{UrlFault}
-use Rattle.url_canon.proofs.Splits.{Lacks, Lacks-slice_split}
+use Rattle.url_canon.proofs.Splits.{All_ne-lacking, Lacks, Lacks-slice_split}
 use Rattle.url_canon.proofs.Cuts.{split_none, none-before_first, before-and-from, before_first-at, before_first-none, from_first-at, after_first-at, from_first-some}
 use Rattle.url_canon.proofs.Trims.{without_leading-not}
 use Rattle.url_canon.proofs.Unescapes.{has_escape, unescaped_plain, plain_from_finished}
-use Rattle.url_canon.proofs.Escapes.{is_wide, AreBytes, none-escaped, unescaped-escaped, escaped_safe, escaped-append, any-append}
+use Rattle.url_canon.proofs.Escapes.{any-escaped, is_wide, AreBytes, none-escaped, unescaped-escaped, escaped_safe, escaped-append, any-append}
 use Rattle.url_canon.proofs.Lacking.{Lacks-append, Lacks-back, Lacks-before_first, Lacks-from_first, Lacks-parts, Lacks-path_text, each-last, ignores_below, ignores_wide, IsPlain, plain-front, plain-back, plain-append, plain-after, plain-parts, parts_off}
-use Rattle.url_canon.proofs.Paths.{some-path_of, path_of-again, each-path_of}
+use Rattle.url_canon.proofs.Paths.{normal-escaped, some-path_of, path_of-again, each-path_of}
 use Rattle.url_canon.proofs.Schemes.{IsScheme, scheme_of-is, scheme_of-again, after_scheme-again, Lacks-scheme, safe-scheme, narrow-scheme, no_percent-scheme, Lacks-after_scheme, plain-after_scheme}
 use Rattle.url_canon.proofs.HostAgain.{host_of-again, IsApart, Lacks-host_of, plain-host_of}
-use Rattle.url_canon.proofs.Whole.{canonical_of-short, cleaned-some, host_at, parts_of-none, parts_of-some}
+use Rattle.url_canon.proofs.Whole.{canonical_of-short, cleaned-some, parts_of-none, parts_of-some}
 
 -- cleaning leaves an escaped text
 
@@ -34,7 +34,7 @@ Lacks-or p q (x ∷ xs) h k =
     let in_q = or_parts (q x) (list_any q xs) k in
     or_from (p x || q x) (list_any (λ x. p x || q x) xs) (or_from (p x) (q x) in_p.0 in_q.0) (Lacks-or p q xs in_p.1 in_q.1)
 
-filter_all : (p : ℕ → Bool) (xs : List ℕ) → Lacks p xs → filter (λ x. not (p x)) xs ≡ xs
+pub filter_all : (p : ℕ → Bool) (xs : List ℕ) → Lacks p xs → filter (λ x. not (p x)) xs ≡ xs
 filter_all p [] h = refl
 filter_all p (x ∷ xs) h =
     let parts = or_parts (p x) (list_any p xs) h in
@@ -146,7 +146,7 @@ read_again url h =
     let later = path_text url.path ++ query_text url.query in
     let first = path_after url.path (query_text url.query) h.some_path in
     let rest : after_scheme (text_of url) ≡ url.host ++ 47 ∷ first.0 = after_scheme-again url.scheme (url.host ++ later) h.scheme ∙ ap (λ r. url.host ++ r) first.1 in
-    let host : host_at (text_of url) ≡ Some (record { text = url.host; is_address = url.is_address }) = ap (λ r. host_of (authority_of r)) rest ∙ (ap host_of (authority_of-again url.host first.0 h.no_end h.no_at) ∙ h.host) in
+    let host : host_in (text_of url) ≡ Some (record { text = url.host; is_address = url.is_address }) = ap (λ r. host_of (authority_of r)) rest ∙ (ap host_of (authority_of-again url.host first.0 h.no_end h.no_at) ∙ h.host) in
     let tail : after_authority (after_scheme (text_of url)) ≡ later = ap after_authority rest ∙ (after_authority-again url.host first.0 h.no_end ∙ sym first.1) in
     let read : HostParts = record { text = url.host; is_address = url.is_address } in
     parts_of-some (text_of url) read host
@@ -275,7 +275,7 @@ query_at_end text =
     marked : (text : List ℕ) → list_any is_question text ≡ true → 63 ∷ after_first is_question text ≡ from_first is_question text
     marked text some = from_first-some is_question text 63 (λ x e. eqb-true x 63 e) some
 
-is_read : (plain : List ℕ) (host : HostParts) → IsPlain plain → AreBytes plain → host_at plain ≡ Some host → IsRead (record { scheme = scheme_of plain; host = host.text; path = path_of (path_part (after_authority (after_scheme plain))); query = query_part (after_authority (after_scheme plain)); is_address = host.is_address })
+is_read : (plain : List ℕ) (host : HostParts) → IsPlain plain → AreBytes plain → host_in plain ≡ Some host → IsRead (record { scheme = scheme_of plain; host = host.text; path = path_of (path_part (after_authority (after_scheme plain))); query = query_part (after_authority (after_scheme plain)); is_address = host.is_address })
 is_read plain host escapes bytes is =
     let rest = after_scheme plain in
     let tail = after_authority rest in
@@ -306,12 +306,22 @@ fine url = Ok url
 same_ok : (a b : Url) → fine a ≡ fine b → a ≡ b
 same_ok a b f = cc
 
-stays_at : (plain : List ℕ) (o : Option HostParts) (url : Url) → IsPlain plain → AreBytes plain → host_at plain ≡ o → escaped_parts (parts_of plain) ≡ Ok url → StaysCanonical url
-stays_at plain None url escapes bytes is e = absurd (let f = sym (ap escaped_parts (parts_of-none plain is)) ∙ e in cc)
-stays_at plain (Some host) url escapes bytes is e =
-    let found = sym (ap escaped_parts (parts_of-some plain host is)) ∙ e in
-    subst StaysCanonical (same_ok _ url found) (stays_read _ (is_read plain host escapes bytes is))
+slashless-host : (plain : List ℕ) (host : HostParts) → host_in plain ≡ Some host → Lacks (λ x. eqb x 47) (escaped host.text)
+slashless-host plain host is =
+    let rest = after_scheme plain in
+    let no_end = Lacks-host_of ends_authority (authority_of rest) host ends_apart (Lacks-authority_of ends_authority rest (none-before_first ends_authority rest)) is in
+    any-escaped 47 host.text (record { safe = refl; below = omega arith; apart = λ e. omega arith }) ∙ no_slash host.text no_end
+  where
+    no_slash : (text : List ℕ) → Lacks ends_authority text → Lacks (λ x. eqb x 47) text
+    no_slash [] h = refl
+    no_slash (x ∷ text) h =
+        let parts = or_parts (ends_authority x) (list_any ends_authority text) h in
+        or_from (eqb x 47) (list_any (λ x. eqb x 47) text) (or_parts (eqb x 47) (eqb x 63) parts.0).0 (no_slash text parts.1)
 
--- the canonical URL of an unescaped text of bytes stays as it is when its text is read
-pub stays : (plain : List ℕ) (url : Url) → HasNoEscape plain → AreBytes plain → escaped_parts (parts_of plain) ≡ Ok url → StaysCanonical url
-stays plain url escapes bytes e = stays_at plain (host_at plain) url (plain_from_finished plain escapes) bytes refl e
+-- the URL of an unescaped text of bytes is canonical
+pub canonical-read : (plain : List ℕ) (host : HostParts) → HasNoEscape plain → AreBytes plain → host_in plain ≡ Some host → IsCanonical (escaped_url (record { scheme = scheme_of plain; host = host.text; path = path_of (path_part (after_authority (after_scheme plain))); query = query_part (after_authority (after_scheme plain)); is_address = host.is_address }))
+canonical-read plain host escapes bytes is = record {
+  again = stays_read _ (is_read plain host (plain_from_finished plain escapes) bytes is);
+  host = All_ne-lacking 47 (escaped host.text) (slashless-host plain host is);
+  path = normal-escaped (path_part (after_authority (after_scheme plain)));
+}

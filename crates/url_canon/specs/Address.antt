@@ -1,10 +1,8 @@
 -- The IPv4 addresses among the names of hosts, in the forms that `inet_aton` reads.
-use Rattle.std.specs.Prelude.{◌≡◌, ◌<◌, ℕ, suc, zero, ◌+◌, ◌*◌, ◌/◌, ◌%◌, ◌^◌, List, [], ◌∷◌, ◌++◌, ◌==◌, nat_lt, nat_eq, Bool, ◌&&◌, ◌||◌, if◌then◌else◌, Option, Some, None, option_and_then, codes, length, drop, map, fold, decimal}
+use Rattle.std.specs.Prelude.{◌≡◌, ◌<◌, ℕ, suc, zero, ◌+◌, ◌*◌, ◌/◌, ◌%◌, ◌^◌, List, [], ◌∷◌, ◌++◌, nat_lt, nat_eq, Bool, ◌&&◌, ◌||◌, if◌then◌else◌, Option, Some, None, option_and_then, codes, length, drop, map, fold, decimal}
 use Rattle.std.specs.List.{slice_split, starts_with, list_all}
 use Rattle.std.specs.Char.{digit_value}
-
-abbrev pub is_dot : ℕ → Bool
-is_dot byte = byte == 46
+use Rattle.url_canon.specs.Words.{is_dot}
 
 -- the number that the digits of a base spell, of which there is one at least
 unfoldable pub number_in : ℕ → List ℕ → Option ℕ

@@ -1,11 +1,11 @@
 -- The canonical URL of a text.
-use Rattle.std.specs.Prelude.{◌≡◌, ◌≤◌, ℕ, List, [], ◌∷◌, nat_lt, if◌then◌else◌, Option, Some, None, Result, Ok, Err, option_map, length, map}
+use Rattle.std.specs.Prelude.{◌≡◌, ◌≢◌, ◌≤◌, All, ℕ, List, [], ◌∷◌, nat_lt, if◌then◌else◌, Option, Some, None, Result, Ok, Err, option_map, length, map}
 use Rattle.url_canon.specs.Cleaning.{without_fragment, trimmed}
 use Rattle.url_canon.specs.Unescaping.{unescaped}
 use Rattle.url_canon.specs.Escaping.{escaped}
 use Rattle.url_canon.specs.Parts.{scheme_of, after_scheme, authority_of, after_authority, path_part, query_part}
 use Rattle.url_canon.specs.Host.{HostParts, host_of}
-use Rattle.url_canon.specs.Path.{path_of}
+use Rattle.url_canon.specs.Path.{path_of, IsNormalPath}
 use Rattle.url_canon.specs.Url.{Url, text_of}
 use Rattle.url_canon.specs.declared.fault.UrlFault.{UrlFault}
 use Rattle.url_canon.specs.declared.fault.UrlFault.TheVariants.{Empty, NoHost, TooLong, OutOfMemory}
@@ -15,10 +15,13 @@ url_at scheme None rest = Err NoHost
 url_at scheme (Some host) rest =
     Ok (record { scheme = scheme; host = host.text; path = path_of (path_part rest); query = query_part rest; is_address = host.is_address })
 
+-- the host that an unescaped text names, where it names one
+abbrev pub host_in : List ℕ → Option HostParts
+host_in plain = host_of (authority_of (after_scheme plain))
+
 -- the parts of an unescaped text, still unescaped
 unfoldable pub parts_of : List ℕ → Result Url UrlFault
-parts_of plain =
-    let rest = after_scheme plain in url_at (scheme_of plain) (host_of (authority_of rest)) (after_authority rest)
+parts_of plain = url_at (scheme_of plain) (host_in plain) (after_authority (after_scheme plain))
 
 -- the host, the path and the query escaped
 abbrev pub escaped_url : Url → Url
@@ -48,3 +51,9 @@ Answers (Err fault) wanted = wanted ≡ Err fault
 -- The text of the URL has this URL again, where it is not too long to be read.
 abbrev pub StaysCanonical : Url → Type 0
 StaysCanonical url = length (text_of url) ≤ 8192 → canonical_of (text_of url) ≡ Ok url
+
+-- what a canonical URL is
+pub record IsCanonical (url : Url) : Type 0 where
+  pub again : StaysCanonical url
+  pub host : All (λ byte. byte ≢ 47) url.host
+  pub path : IsNormalPath url.path

@@ -1,10 +1,10 @@
 -- The host of an authority (RFC 3986, section 3.2.2).
-use Rattle.std.specs.Prelude.{ℕ, List, ◌∷◌, ◌++◌, ◌==◌, Bool, true, false, not, ◌&&◌, if◌then◌else◌, Option, Some, None, filter, codes}
+use Rattle.std.specs.Prelude.{ℕ, List, ◌++◌, ◌==◌, Bool, true, false, not, ◌&&◌, if◌then◌else◌, Option, Some, None, filter, codes}
 use Rattle.std.specs.List.{before_first, slice_split, list_any, join_with_byte}
 use Rattle.std.specs.Str.{str_to_ascii_lowercase}
-use Rattle.url_canon.specs.Words.{begins_with, is_nil, without_leading}
+use Rattle.url_canon.specs.Words.{begins_with, is_nil, without_leading, is_dot}
 use Rattle.url_canon.specs.declared.host.Host.{Host}
-use Rattle.url_canon.specs.Address.{is_dot, address_of, address_text}
+use Rattle.url_canon.specs.Address.{address_of, address_text}
 
 abbrev pub is_open : ℕ → Bool
 is_open byte = byte == 91
@@ -26,12 +26,6 @@ bracketed_host text = str_to_ascii_lowercase (before_first is_close text ++ code
 -- what stands between the dots, where something does
 abbrev pub labels_of : List ℕ → List (List ℕ)
 labels_of text = filter (λ label. not (is_nil label)) (slice_split is_dot text)
-
--- Of the code and not of the rule: a name with one label more, in lower case; an empty label adds nothing
-abbrev pub with_label : List ℕ → List ℕ → List ℕ
-with_label name label =
-    if is_nil label then name
-    else (if is_nil name then str_to_ascii_lowercase label else name ++ (46 ∷ str_to_ascii_lowercase label))
 
 -- the name before the port in lower case, with one dot between two labels and none at the ends
 unfoldable pub name_of : List ℕ → List ℕ

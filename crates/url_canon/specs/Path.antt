@@ -1,5 +1,5 @@
 -- The path of a URL as its components (RFC 3986, section 3.3), and what `.` and `..` do (section 5.2.4).
-use Rattle.std.specs.Prelude.{ℕ, ◌-◌, List, [], ◌∷◌, ◌++◌, ◌==◌, Bool, ◌||◌, if◌then◌else◌, codes, length, take, drop, fold, bytes_eq}
+use Rattle.std.specs.Prelude.{◌≡◌, ◌≢◌, ◌<◌, All, false, ℕ, ◌-◌, List, [], ◌∷◌, ◌++◌, ◌==◌, Bool, ◌||◌, if◌then◌else◌, codes, length, take, drop, fold, bytes_eq}
 use Rattle.std.specs.List.{flat_map, slice_split}
 use Rattle.url_canon.specs.Words.{is_nil, last_part}
 
@@ -14,23 +14,27 @@ path_text components = flat_map (λ component. 47 ∷ component) components
 abbrev pub components_of : List ℕ → List (List ℕ)
 components_of path = slice_split is_slash (drop 1 path)
 
-abbrev pub is_same : List ℕ → Bool
-is_same component = bytes_eq component (codes ".")
+abbrev pub is_single_dot : List ℕ → Bool
+is_single_dot component = bytes_eq component (codes ".")
 
-abbrev pub is_parent : List ℕ → Bool
-is_parent component = bytes_eq component (codes "..")
+abbrev pub is_double_dot : List ℕ → Bool
+is_double_dot component = bytes_eq component (codes "..")
+
+-- a dot segment: `.`, the directory of what stands before it, or `..`, the directory above
+abbrev pub is_dot_segment : List ℕ → Bool
+is_dot_segment component = is_single_dot component || is_double_dot component
 
 -- One component more: `.` goes, and `..` goes with the component before it, if any.
 abbrev pub with_component : List (List ℕ) → List ℕ → List (List ℕ)
 with_component before component =
-    if is_same component then before
-    else (if is_parent component then take (length before - 1) before else before ++ component ∷ [])
+    if is_single_dot component then before
+    else (if is_double_dot component then take (length before - 1) before else before ++ component ∷ [])
 
 -- the components with `.` and `..` carried out; where the last was one of these, an empty one is last
-unfoldable pub resolved : List (List ℕ) → List (List ℕ)
-resolved components =
+unfoldable pub without_dot_segments : List (List ℕ) → List (List ℕ)
+without_dot_segments components =
     fold with_component [] components
-    ++ (if is_same (last_part components) || is_parent (last_part components) then ([] ∷ []) else [])
+    ++ (if is_dot_segment (last_part components) then ([] ∷ []) else [])
 
 -- without the empty ones but the last
 abbrev pub without_empty : List (List ℕ) → List (List ℕ)
@@ -41,4 +45,17 @@ without_empty (component ∷ next ∷ components) =
 
 -- the components of a canonical path
 unfoldable pub path_of : List ℕ → List (List ℕ)
-path_of path = without_empty (resolved (components_of path))
+path_of path = without_empty (without_dot_segments (components_of path))
+
+-- all components but the last
+abbrev pub directories : List (List ℕ) → List (List ℕ)
+directories [] = []
+directories (component ∷ []) = []
+directories (component ∷ next ∷ rest) = component ∷ directories (next ∷ rest)
+
+-- There is a component, none has a slash, none is a dot segment, and none but the last is empty.
+pub record IsNormalPath (components : List (List ℕ)) : Type 0 where
+  pub some : 0 < length components
+  pub no_slash : All (λ component. All (λ byte. byte ≢ 47) component) components
+  pub no_dots : All (λ component. is_dot_segment component ≡ false) components
+  pub no_empty : All (λ component. component ≢ []) (directories components)

@@ -1,6 +1,9 @@
--- Cuts of a list of bytes that std has no word for.
-use Rattle.std.specs.Prelude.{List, [], ◌∷◌, Bool, true, false, Option, Some, None, drop, reverse}
-use Rattle.std.specs.List.{prefix_len, position_or_len, slice_split}
+-- Words that several of the definitions here need: a dot, and cuts of a list that std has no word for.
+use Rattle.std.specs.Prelude.{ℕ, ◌==◌, List, [], ◌∷◌, Bool, true, false, drop, reverse}
+use Rattle.std.specs.List.{prefix_len, position_or_len}
+
+abbrev pub is_dot : ℕ → Bool
+is_dot byte = byte == 46
 
 -- the first element passes
 abbrev pub begins_with : {X : Type 0} → (X → Bool) → List X → Bool
@@ -28,8 +31,3 @@ abbrev pub last_part : {X : Type 0} → List (List X) → List X
 last_part [] = []
 last_part (part ∷ []) = part
 last_part (part ∷ next ∷ parts) = last_part (next ∷ parts)
-
--- Of the code and not of the rule: the parts of the rest that a split left, which has none where there is no rest
-abbrev pub parts_after : {X : Type 0} → (X → Bool) → Option (List X) → List (List X)
-parts_after p None = []
-parts_after p (Some rest) = slice_split p rest

@@ -1,6 +1,7 @@
 ghost use Rattle.std.specs.Prelude.{◌≡◌, ℕ, List, Some, ◌↔◌, ◌+◌, ◌*◌, ◌^◌, ◌≤◌, ◌<◌, ◌++◌, min, option_map, OnOk, IfSome, decimal};
 ghost use Rattle.std.specs.List.{slice_split};
-ghost use Rattle.url_canon.specs.Address.{IsAddressOf, is_dot, number_in, number_of, address_in, address_of, address_text};
+ghost use Rattle.url_canon.specs.Address.{IsAddressOf, number_in, number_of, address_in, address_of, address_text};
+ghost use Rattle.url_canon.specs.Words.{is_dot};
 
 use crate::split::split_at_byte;
 use crate::unescape::hex_value;

@@ -1,41 +1,49 @@
-ghost use Rattle.std.specs.Prelude.{◌≡◌, ℕ, ◌<◌, ◌≤◌, ◌↔◌, List, length, IfOk, IsErrOf, option_map, option_copied};
-ghost use Rattle.url_canon.specs.Cleaning.{without_fragment, trimmed};
+ghost use Rattle.std.specs.Prelude.{◌≡◌, ◌≢◌, Err, None, ℕ, ◌<◌, ◌≤◌, ◌↔◌, List, [], ◌++◌, length, IfOk, OnOk, IsErrOf, option_map, option_copied};
+ghost use Rattle.url_canon.specs.Cleaning.{is_hash, without_fragment, trimmed};
+ghost use Rattle.std.specs.List.{before_first};
+ghost use Rattle.url_canon.specs.Url.{query_text};
 ghost use Rattle.url_canon.specs.Escaping.{escaped};
-ghost use Rattle.url_canon.specs.Unescaping.{HasNoEscape, IsUnescapedOf};
-ghost use Rattle.url_canon.specs.Canonical.{parts_of, escaped_parts, canonical_of, Answers};
+ghost use Rattle.url_canon.specs.Unescaping.{HasNoEscape, IsUnescapedOf, unescaped};
+ghost use Rattle.url_canon.specs.Canonical.{host_in, parts_of, escaped_parts, canonical_of_cleaned, canonical_of, Answers};
 
 use crate::UrlFault;
-use crate::escape::append_escaped;
+use crate::escape::{append_escaped, count_unsafe};
 use crate::host::{append_lowercase, host_of};
 use crate::parts::{split_authority, split_scheme, without_user};
-use crate::path::path_of;
+use crate::path::append_path;
 use crate::split::split_at_byte;
-use crate::strip::{trimmed, without_fragment};
+use crate::strip::{before_hash, has_line_byte, trimmed, without_line_bytes};
 use crate::unescape::unescaped;
 use crate::url::CanonicalUrl;
+use memchr::memchr;
 use sb_model::{Bytes, OutOfMemory};
 use std::alloc::Global;
 
 /// The most bytes that a URL may have.
 const MAX_LEN: usize = 8192;
 
-/// A text, escaped.
-fn escaped(alloc: Global, text: &[u8]) -> Result<Bytes, OutOfMemory>
-    ensures { IfOk result (λ out. out ≡ escaped text.now) }
+/// How many bytes a URL may take more than its text, but for what is escaped: a scheme, a slash
+/// and the decimals of an address.
+const SPARE: usize = 32;
+
+/// A buffer with room for the canonical text of an unescaped text.
+fn room_for(alloc: Global, plain: &[u8]) -> Result<Bytes, OutOfMemory>
+    ensures { IfOk result (λ out. out ≡ []) }
 {
-    let mut out = Bytes::with_capacity(alloc, text.len())?;
-    append_escaped(&mut out, text)?;
-    Ok(out)
+    let escapes = count_unsafe(plain).saturating_mul(2);
+    Bytes::with_capacity(alloc, escapes.saturating_add(plain.len() + SPARE))
 }
 
-/// A query, escaped.
-fn escaped_query(alloc: Global, query: Option<&[u8]>) -> Result<Option<Bytes>, OutOfMemory>
-    ensures { IfOk result (λ out. out ≡ option_map escaped (option_copied query.entry)) }
+/// Appends a query, escaped and after a `?`, where there is one.
+fn append_query(out: &mut Bytes, query: Option<&[u8]>) -> Result<(), OutOfMemory>
+    ensures { OnOk result (out.new
+        ≡ out.old ++ query_text (option_map escaped (option_copied query.entry))) }
 {
-    match query {
-        None => Ok(None),
-        Some(query) => Ok(Some(escaped(alloc, query)?)),
-    }
+    let Some(query) = query else {
+        return Ok(());
+    };
+    out.push(b'?')?;
+    append_escaped(out, query)
 }
 
 /// The canonical URL of a text that is unescaped.
@@ -48,13 +56,32 @@ fn canonical_of_plain(alloc: Global, plain: &[u8]) -> Result<CanonicalUrl, UrlFa
     let Some(host) = host_of(alloc, without_user(authority))? else {
         return Err(UrlFault::NoHost);
     };
-    let mut lower_scheme = Bytes::new(alloc);
-    append_lowercase(&mut lower_scheme, scheme)?;
     let (path, query) = split_at_byte(tail, b'?');
-    let host_text = escaped(alloc, host.text.as_slice())?;
-    let path_text = path_of(alloc, path)?;
-    let query = escaped_query(alloc, query)?;
-    Ok(CanonicalUrl::new(lower_scheme, host_text, path_text, query, host.is_address))
+    let mut text = room_for(alloc, plain)?;
+    append_lowercase(&mut text, scheme)?;
+    text.append(b"://")?;
+    let host_at = text.len();
+    append_escaped(&mut text, host.text.as_slice())?;
+    let path_at = text.len();
+    append_path(&mut text, alloc, path)?;
+    let query_at = text.len();
+    append_query(&mut text, query)?;
+    Ok(CanonicalUrl::new(text, host_at, path_at, query_at, host.is_address))
+}
+
+/// The canonical URL of a text without tabs and line ends.
+fn canonical_of_line(alloc: Global, line: &[u8]) -> Result<CanonicalUrl, UrlFault>
+    ensures { Answers result (canonical_of_cleaned (trimmed (before_first is_hash line.now))) }
+{
+    let kept = trimmed(before_hash(line));
+    if kept.is_empty() {
+        return Err(UrlFault::Empty);
+    }
+    if memchr(b'%', kept).is_none() {
+        return canonical_of_plain(alloc, kept);
+    }
+    let plain = unescaped(alloc, kept)?;
+    canonical_of_plain(alloc, plain.as_slice())
 }
 
 /// The canonical URL of a text of at most 8,192 bytes.
@@ -70,15 +97,18 @@ pub fn canonical(alloc: Global, text: &[u8]) -> Result<CanonicalUrl, UrlFault>
         → IsUnescapedOf (trimmed (without_fragment text.now)) plain
         → Answers result (escaped_parts (parts_of plain)) }
     ensures too_long { IsErrOf result (UrlFault.TooLong (length text.now)) ↔ (8192 < length text.now) }
+    ensures empty { result ≢ Err UrlFault.OutOfMemory → (IsErrOf result UrlFault.Empty
+        ↔ ((length text.now ≤ 8192) × (trimmed (without_fragment text.now) ≡ []))) }
+    ensures no_host { result ≢ Err UrlFault.OutOfMemory → (IsErrOf result UrlFault.NoHost
+        ↔ ((length text.now ≤ 8192) × (trimmed (without_fragment text.now) ≢ [])
+        × (host_in (unescaped (trimmed (without_fragment text.now))) ≡ None))) }
 {
     if text.len() > MAX_LEN {
         return Err(UrlFault::TooLong(text.len()));
     }
-    let whole = without_fragment(alloc, text)?;
-    let kept = trimmed(whole.as_slice());
-    if kept.is_empty() {
-        return Err(UrlFault::Empty);
+    if !has_line_byte(text) {
+        return canonical_of_line(alloc, text);
     }
-    let plain = unescaped(alloc, kept)?;
-    canonical_of_plain(alloc, plain.as_slice())
+    let line = without_line_bytes(alloc, text)?;
+    canonical_of_line(alloc, line.as_slice())
 }

@@ -1,13 +1,16 @@
-ghost use Rattle.std.specs.Prelude.{◌≡◌, ◌++◌, true, false, Some, None, IfOk, OnOk, MatchOption, codes, option_map};
-ghost use Rattle.std.specs.List.{before_first};
+ghost use Rattle.std.specs.Prelude.{◌≡◌, ◌∷◌, ◌++◌, true, false, if◌then◌else◌, IfOk, OnOk, MatchOption, codes, option_map};
+ghost use Rattle.std.specs.List.{before_first, join_with_byte};
 ghost use Rattle.std.specs.Str.{str_to_ascii_lowercase};
-ghost use Rattle.url_canon.specs.Words.{begins_with};
-ghost use Rattle.url_canon.specs.Host.{is_open, is_bracketed, is_close, with_label, name_of, named_host, host_of, view};
+ghost use Rattle.url_canon.specs.Words.{begins_with, is_nil};
+ghost use Rattle.url_canon.specs.Host.{is_open, is_bracketed, is_close, labels_of, name_of, named_host, host_of, view};
 
 use crate::address::{address_of, append_address};
 use crate::split::{place_of, split_at_byte, without_leading};
 use sb_model::{Bytes, OutOfMemory};
 use std::alloc::Global;
+
+/// How many bytes four decimals take at most, with the dots between them.
+const ADDRESS_ROOM: usize = 15;
 
 /// A host in lower case, not yet escaped.
 #[derive(Debug, Drop)]
@@ -53,9 +56,19 @@ fn in_brackets(text: &[u8]) -> Option<&[u8]>
     Some(&text[..place + 1])
 }
 
+/// Turns the capital letters of a text into small ones.
+fn lower(text: &mut [u8])
+    ensures { text.new ≡ str_to_ascii_lowercase text.old }
+{
+    for byte in text.iter_mut() {
+        *byte = byte.to_ascii_lowercase();
+    }
+}
+
 /// Appends a label after a dot, which the first label goes without. An empty label is left out.
-fn append_label(out: &mut Bytes, label: &[u8]) -> Result<(), OutOfMemory>
-    ensures { OnOk result (out.new ≡ with_label out.old label.now) }
+fn append_label(out: &mut Vec<u8>, label: &[u8]) -> Result<(), OutOfMemory>
+    ensures { OnOk result (out.new.items ≡ (if is_nil label.now then out.old.items
+        else (if is_nil out.old.items then label.now else out.old.items ++ 46 ∷ label.now))) }
 {
     if label.is_empty() {
         return Ok(());
@@ -63,16 +76,16 @@ fn append_label(out: &mut Bytes, label: &[u8]) -> Result<(), OutOfMemory>
     if !out.is_empty() {
         out.push(b'.')?;
     }
-    append_lowercase(out, label)
+    out.extend_from_slice(label)?;
+    Ok(())
 }
 
-/// A host's name in lower case, with one dot between two labels and none at the ends.
-fn name_of(alloc: Global, text: &[u8]) -> Result<Bytes, OutOfMemory>
-    ensures { IfOk result (λ name. name ≡ name_of text.now) }
+/// The labels of a name that are not empty, with one dot between two and none at the ends.
+fn joined_labels(alloc: Global, text: &[u8]) -> Result<Vec<u8>, OutOfMemory>
+    ensures { IfOk result (λ name. name.items ≡ join_with_byte 46 (labels_of text.now)) }
 {
-    let (before_port, _) = split_at_byte(text, b':');
-    let mut name = Bytes::new(alloc);
-    let mut rest = Some(before_port);
+    let mut name = Vec::with_capacity(alloc, text.len())?;
+    let mut rest = Some(text);
     while let Some(labels) = rest {
         let (label, more) = split_at_byte(labels, b'.');
         append_label(&mut name, label)?;
@@ -81,18 +94,29 @@ fn name_of(alloc: Global, text: &[u8]) -> Result<Bytes, OutOfMemory>
     Ok(name)
 }
 
+/// A host's name in lower case, with one dot between two labels and none at the ends.
+#[tactic(auto, unfolding(crate::specs::Host::name_of))]
+fn name_of(alloc: Global, text: &[u8]) -> Result<Vec<u8>, OutOfMemory>
+    ensures { IfOk result (λ name. name.items ≡ name_of text.now) }
+{
+    let (before_port, _) = split_at_byte(text, b':');
+    let mut name = joined_labels(alloc, before_port)?;
+    lower(name.as_mut_slice());
+    Ok(name)
+}
+
 /// A name as a host: four decimals where it is an IPv4 address, and else the name.
 #[tactic(auto, unfolding(crate::specs::Host::named_host))]
-fn named_host(alloc: Global, name: Bytes) -> Result<Host, OutOfMemory>
-    ensures { IfOk result (λ host. view host ≡ named_host name) }
+fn named_host(alloc: Global, name: Vec<u8>) -> Result<Host, OutOfMemory>
+    ensures { IfOk result (λ host. view host ≡ named_host name.items) }
 {
     match address_of(name.as_slice()) {
         None => Ok(Host {
-            text: name,
+            text: Bytes::from_vec(name),
             is_address: false,
         }),
         Some(address) => {
-            let mut text = Bytes::new(alloc);
+            let mut text = Bytes::with_capacity(alloc, ADDRESS_ROOM)?;
             append_address(&mut text, address)?;
             Ok(Host {
                 text,
@@ -108,7 +132,7 @@ pub fn host_of(alloc: Global, text: &[u8]) -> Result<Option<Host>, OutOfMemory>
     ensures { IfOk result (λ host. option_map view host ≡ host_of text.now) }
 {
     if let Some(bracketed) = in_brackets(without_leading(text, b'.')) {
-        let mut text = Bytes::new(alloc);
+        let mut text = Bytes::with_capacity(alloc, bracketed.len())?;
         append_lowercase(&mut text, bracketed)?;
         return Ok(Some(Host {
             text,

@@ -2,10 +2,11 @@ ghost use Rattle.std.specs.Prelude.{◌≡◌, ◌+◌, ◌≤◌, ◌<◌, ◌=
 ghost use Rattle.std.specs.List.{prefix_len, position_or_len, before_first, slice_split, starts_with};
 ghost use Rattle.std.specs.Char.{is_ascii_alphabetic};
 ghost use Rattle.std.specs.Str.{str_to_ascii_lowercase};
-ghost use Rattle.url_canon.specs.Words.{begins_with, last_part, parts_after};
+ghost use Rattle.url_canon.specs.Words.{begins_with, last_part};
 ghost use Rattle.url_canon.specs.Parts.{is_scheme_byte, has_scheme, scheme_of, after_scheme, ends_authority, is_at, after_authority};
 
 use crate::split::split_at_byte;
+use memchr::memchr2;
 
 /// Whether a byte may stand in a scheme after its first letter (RFC 3986, section 3.1).
 fn is_scheme_byte(byte: u8) -> bool
@@ -67,20 +68,11 @@ pub fn split_scheme(text: &[u8]) -> (&[u8], &[u8])
     }
 }
 
-/// Whether a byte ends an authority.
-fn ends_authority(byte: u8) -> bool
-    ensures { result ≡ ends_authority byte }
-{
-    byte == b'/' || byte == b'?'
-}
-
 /// How many bytes the authority takes that a text begins with.
 fn authority_len(text: &[u8]) -> usize
     ensures { result ≡ position_or_len ends_authority text.now }
 {
-    text.iter()
-        .take_while(|byte| !ends_authority(**byte))
-        .count()
+    memchr2(b'/', b'?', text).unwrap_or(text.len())
 }
 
 /// The authority, which ends at the first `/` or `?`, and the rest from there (RFC 3986, section 3.2).

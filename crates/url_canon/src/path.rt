@@ -1,8 +1,8 @@
-ghost use Rattle.std.specs.Prelude.{◌≡◌, ◌++◌, ◌∷◌, [], ◌||◌, not, if◌then◌else◌, map, IfOk, OnOk};
+ghost use Rattle.std.specs.Prelude.{◌≡◌, ◌++◌, ◌∷◌, [], ◌||◌, not, if◌then◌else◌, length, ◌≤◌, map, IfOk, OnOk};
 ghost use Rattle.std.specs.List.{slice_split};
 ghost use Rattle.url_canon.specs.Words.{is_nil};
 ghost use Rattle.url_canon.specs.Escaping.{escaped};
-ghost use Rattle.url_canon.specs.Path.{is_slash, is_same, is_parent, with_component, resolved, without_empty, path_of, path_text};
+ghost use Rattle.url_canon.specs.Path.{is_slash, is_single_dot, is_double_dot, with_component, without_dot_segments, without_empty, path_of, path_text};
 
 use crate::escape::append_escaped;
 use crate::split::split_at_byte;
@@ -10,15 +10,15 @@ use sb_model::{Bytes, OutOfMemory};
 use std::alloc::Global;
 
 /// Whether a component is `.`, which names the directory of those before it.
-fn is_same(component: &[u8]) -> bool
-    ensures { result ≡ is_same component.now }
+fn is_single_dot(component: &[u8]) -> bool
+    ensures { result ≡ is_single_dot component.now }
 {
     component == b".".as_slice()
 }
 
 /// Whether a component is `..`, which names the directory above.
-fn is_parent(component: &[u8]) -> bool
-    ensures { result ≡ is_parent component.now }
+fn is_double_dot(component: &[u8]) -> bool
+    ensures { result ≡ is_double_dot component.now }
 {
     component == b"..".as_slice()
 }
@@ -28,10 +28,10 @@ fn add_component<'a>(kept: &mut Vec<&'a [u8]>, component: &'a [u8]) -> Result<()
     ensures { OnOk result (map (λ c. c.now) kept.new.items
         ≡ with_component (map (λ c. c.now) kept.old.items) component.now) }
 {
-    if is_same(component) {
+    if is_single_dot(component) {
         return Ok(());
     }
-    if is_parent(component) {
+    if is_double_dot(component) {
         let _ = kept.pop();
         return Ok(());
     }
@@ -42,20 +42,27 @@ fn add_component<'a>(kept: &mut Vec<&'a [u8]>, component: &'a [u8]) -> Result<()
 /// Adds an empty component after a last one that was `.` or `..`.
 fn add_directory<'a>(kept: &mut Vec<&'a [u8]>, last: &'a [u8]) -> Result<(), OutOfMemory>
     ensures { OnOk result (map (λ c. c.now) kept.new.items
-        ≡ map (λ c. c.now) kept.old.items ++ (if is_same last.now || is_parent last.now then [] ∷ [] else [])) }
+        ≡ map (λ c. c.now) kept.old.items ++ (if is_single_dot last.now || is_double_dot last.now then [] ∷ [] else [])) }
 {
-    if is_same(last) || is_parent(last) {
+    if is_single_dot(last) || is_double_dot(last) {
         kept.push(&last[last.len()..])?;
     }
     Ok(())
 }
 
-/// The components of a path without its first slash, with `.` and `..` carried out.
-fn resolved(alloc: Global, path: &[u8]) -> Result<Vec<&[u8]>, OutOfMemory>
-    ensures { IfOk result (λ kept. map (λ c. c.now) kept.items
-        ≡ resolved (slice_split is_slash path.now)) }
+/// How many slashes a path has.
+fn count_slashes(path: &[u8]) -> usize
+    ensures { result ≤ length path.now }
 {
-    let mut kept = Vec::new(alloc);
+    path.iter().filter(|byte| **byte == b'/').count()
+}
+
+/// The components of a path without its first slash, with `.` and `..` carried out.
+fn without_dot_segments(alloc: Global, path: &[u8]) -> Result<Vec<&[u8]>, OutOfMemory>
+    ensures { IfOk result (λ kept. map (λ c. c.now) kept.items
+        ≡ without_dot_segments (slice_split is_slash path.now)) }
+{
+    let mut kept = Vec::with_capacity(alloc, count_slashes(path) + 2)?;
     let mut last = path;
     let mut rest = Some(path);
     while let Some(components) = rest {
@@ -92,17 +99,15 @@ fn append_components(out: &mut Bytes, components: &[&[u8]]) -> Result<(), OutOfM
     Ok(())
 }
 
-/// The canonical path of a path, which is empty or begins with a slash.
+/// Appends the canonical path of a path, which is empty or begins with a slash.
 #[tactic(auto, unfolding(crate::specs::Path::path_of))]
-pub fn path_of(alloc: Global, path: &[u8]) -> Result<Bytes, OutOfMemory>
-    ensures { IfOk result (λ out. out ≡ path_text (map escaped (path_of path.now))) }
+pub fn append_path(out: &mut Bytes, alloc: Global, path: &[u8]) -> Result<(), OutOfMemory>
+    ensures { OnOk result (out.new ≡ out.old ++ path_text (map escaped (path_of path.now))) }
 {
     let after_slash = match path {
         [_, rest @ ..] => rest,
         [] => path,
     };
-    let components = resolved(alloc, after_slash)?;
-    let mut out = Bytes::with_capacity(alloc, path.len() + 1)?;
-    append_components(&mut out, components.as_slice())?;
-    Ok(out)
+    let components = without_dot_segments(alloc, after_slash)?;
+    append_components(out, components.as_slice())
 }

@@ -1,13 +1,15 @@
-ghost use Rattle.std.specs.Prelude.{◌≡◌, ◌<◌, ◌∷◌, ◌==◌, Some, None, if◌then◌else◌, length, IfSome, option_copied};
+ghost use Rattle.std.specs.Prelude.{◌≡◌, ◌<◌, ◌∷◌, ◌==◌, Some, None, if◌then◌else◌, length, [], IfSome, option_copied};
+ghost use Rattle.std.specs.Option.{option_map_or};
 ghost use Rattle.std.specs.List.{position_or_len, prefix_len, before_first, after_first, slice_split, list_any};
-ghost use Rattle.url_canon.specs.Words.{without_leading, parts_after};
+ghost use Rattle.url_canon.specs.Words.{without_leading};
+
+use memchr::memchr;
 
 /// The place of the first such byte, or the length where there is none.
-#[tactic(auto, using(crate::proofs::Cuts::places))]
 pub fn place_of(text: &[u8], byte: u8) -> usize
     ensures { result ≡ position_or_len (λ b. b == byte) text.now }
 {
-    text.iter().take_while(|b| **b != byte).count()
+    memchr(byte, text).unwrap_or(text.len())
 }
 
 /// How many such bytes the text begins with.
@@ -25,7 +27,7 @@ pub fn split_at_byte(text: &[u8], byte: u8) -> (&[u8], Option<&[u8]>)
     ensures after { option_copied result.1 ≡ (if list_any (λ b. b == byte) text.now
         then Some (after_first (λ b. b == byte) text.now) else None) }
     ensures parts { slice_split (λ b. b == byte) text.now
-        ≡ result.0.now ∷ parts_after (λ b. b == byte) (option_copied result.1) }
+        ≡ result.0.now ∷ option_map_or (slice_split (λ b. b == byte)) (option_copied result.1) [] }
     ensures shorter { IfSome result.1 (λ rest. length rest.now < length text.now) }
 {
     let place = place_of(text, byte);

@@ -1,7 +1,8 @@
-ghost use Rattle.std.specs.Prelude.{◌≡◌, ℕ, ◌+◌, ◌-◌, ◌<◌, ◌≤◌, ◌↔◌, List, ◌∷◌, true, false, reverse, take, vec_len, IfOk, OnOk, MatchOption};
+ghost use Rattle.std.specs.Prelude.{◌≡◌, ℕ, ◌<◌, ◌≤◌, List, ◌∷◌, ◌++◌, true, false, length, take, drop, vec_len, IfOk, MatchOption};
 ghost use Rattle.std.specs.Char.{digit_value};
 ghost use Rattle.url_canon.specs.Unescaping.{is_hex, with_byte, unescaped, IsUnescapedOf};
 
+use memchr::{memchr, memrchr};
 use sb_model::OutOfMemory;
 use std::alloc::Global;
 
@@ -18,50 +19,82 @@ pub fn hex_value(byte: u8) -> Option<u8>
     }
 }
 
-/// The byte that the two topmost bytes of a stack spell, the topmost being the higher digit.
-fn byte_on_top(stack: &Vec<u8>) -> Option<u8>
-    ensures { MatchOption result
-        (with_byte 37 (reverse stack.now.items) ≡ 37 ∷ reverse stack.now.items)
-        (λ byte. (2 ≤ vec_len stack.now) × (with_byte 37 (reverse stack.now.items)
-        ≡ with_byte byte (reverse (take (vec_len stack.now - 2) stack.now.items)))) }
+/// The byte that the two digits at the front of a text spell after a `%`.
+fn spelled(text: &[u8]) -> Option<u8>
+    ensures { MatchOption result (with_byte 37 text.now ≡ 37 ∷ text.now)
+        (λ byte. (2 ≤ length text.now) × (with_byte 37 text.now ≡ with_byte byte (drop 2 text.now))) }
 {
-    let len = stack.len();
-    if len < 2 {
+    let [high, low, ..] = text else {
         return None;
-    }
-    let high = hex_value(stack[len - 1])?;
-    let low = hex_value(stack[len - 2])?;
+    };
+    let high = hex_value(*high)?;
+    let low = hex_value(*low)?;
     Some(16 * high + low)
 }
 
-/// Puts a byte on a stack, which holds an unescaped text from its end to its front. An escape that
-/// the byte begins becomes its byte, which is put in its turn.
-fn put(stack: &mut Vec<u8>, byte: u8) -> Result<(), OutOfMemory>
-    ensures { OnOk result (reverse stack.new.items ≡ with_byte byte (reverse stack.old.items)) }
+/// The byte that a byte becomes in front of an unescaped text, and how many bytes of the text go
+/// into it: an escape that the byte begins becomes its byte, which may begin another.
+fn byte_before(byte: u8, text: &[u8]) -> (u8, usize)
+    ensures within { result.1 ≤ length text.now }
+    ensures value { with_byte byte text.now ≡ result.0 ∷ drop result.1 text.now }
 {
     let mut front = byte;
+    let mut taken = 0;
     while front == b'%' {
-        let Some(spelled) = byte_on_top(stack) else {
-            break;
+        let Some(value) = spelled(&text[taken..]) else {
+            return (front, taken);
         };
-        stack.truncate(stack.len() - 2);
-        front = spelled;
+        front = value;
+        taken += 2;
     }
-    stack.push(front)?;
-    Ok(())
+    (front, taken)
 }
 
-/// The unescaped text. It goes from the end to the front, so that it takes time in the length alone.
+/// Unescapes the bytes from `first` on. What stands from `end` on is unescaped already, and the
+/// answer is where the unescaped text begins in the end. It goes from the end to the front, so that it
+/// takes time in the length alone.
+fn unescape_part(bytes: &mut [u8], first: usize, end: usize) -> usize
+    requires order { first ≤ end }
+    requires within { end ≤ length bytes.old }
+    requires ended { unescaped (drop end bytes.old) ≡ drop end bytes.old }
+    ensures order { (first ≤ result) × (result ≤ length bytes.new) }
+    ensures front { take first bytes.new ≡ take first bytes.old }
+    ensures value { drop result bytes.new ≡ unescaped (drop first bytes.old) }
+{
+    let mut top = end;
+    for place in (first..end).rev() {
+        let (front, taken) = byte_before(bytes[place], &bytes[top..]);
+        top = top + taken - 1;
+        bytes[top] = front;
+    }
+    top
+}
+
+/// Takes the bytes at the places from `first` up to `end` out.
+fn remove_places(bytes: &mut Vec<u8>, first: usize, end: usize)
+    requires { (first ≤ end) × (end ≤ vec_len bytes.old) }
+    ensures { bytes.new.items ≡ take first bytes.old.items ++ drop end bytes.old.items }
+{
+    let len = bytes.len();
+    bytes.copy_within(end..len, first);
+    bytes.truncate(first + (len - end));
+}
+
+/// The unescaped text. What stands before the first `%` and after the last one is copied as it is.
 pub fn unescaped(alloc: Global, text: &[u8]) -> Result<Vec<u8>, OutOfMemory>
     ensures value { IfOk result (λ plain. plain.items ≡ unescaped text.now) }
     ensures unescaped { IfOk result (λ plain. IsUnescapedOf text.now plain.items) }
 {
-    let mut stack = Vec::with_capacity(alloc, text.len())?;
-    for place in (0..text.len()).rev() {
-        put(&mut stack, text[place])?;
-    }
-    stack.reverse();
-    Ok(stack)
+    let mut bytes = Vec::from_slice(alloc, text)?;
+    let Some(first) = memchr(b'%', text) else {
+        return Ok(bytes);
+    };
+    let Some(last) = memrchr(b'%', text) else {
+        return Ok(bytes);
+    };
+    let top = unescape_part(bytes.as_mut_slice(), first, last + 1);
+    remove_places(&mut bytes, first, top);
+    Ok(bytes)
 }
 
 /// Each text has one unescaped text, whichever steps lead there.

@@ -9,7 +9,8 @@ use Rattle.std.proofs.lemmas.List.Splits.{slice_split_first, slice_split_none, l
 use Rattle.std.proofs.lemmas.List.Elements.{All-from_get_or, filter-append}
 use Rattle.std.proofs.lemmas.List.{take_more, map-append}
 use borrow.Author.Tests.{ltb-false}
-use Rattle.url_expressions.specs.Expressions.{is_dot, components, last_components}
+use Rattle.url_canon.specs.Words.{is_dot}
+use Rattle.url_expressions.specs.Expressions.{components, last_components}
 
 -- the first dot ends the first component
 pub components_found : (xs : List ℕ) (i : ℕ) → position is_dot xs ≡ Some i → components xs ≡ take i xs ∷ components (drop (i + 1) xs)

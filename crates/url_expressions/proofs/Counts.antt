@@ -4,9 +4,9 @@ use Rattle.std.specs.Prelude.{map, filter, nat_le}
 use Rattle.std.specs.Str.{bytes_eq}
 use Rattle.std.proofs.lemmas.List.{length-map, length-take}
 use Rattle.std.proofs.Math.Nat.{mul-le-mul}
-use Rattle.url_canon.specs.Path.{path_text}
+use Rattle.url_canon.specs.Path.{path_text, directories}
 use Rattle.url_canon.specs.Url.{Url}
-use Rattle.url_expressions.specs.Expressions.{hosts_of, components, last_components, path_with_query, paths_of, folders_of, folder_text, fronts, directories, combinations, first_occurrences, expressions_of}
+use Rattle.url_expressions.specs.Expressions.{hosts_of, components, last_components, path_with_query, paths_of, folders_of, folder_text, fronts, combinations, first_occurrences, expressions_of}
 
 length-filter : {A : Type 0} (p : A → Bool) (xs : List A) → length (filter p xs) ≤ length xs
 length-filter p [] = omega arith

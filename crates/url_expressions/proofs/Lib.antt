@@ -1,6 +1,9 @@
+pub mod Search
 pub mod Components
 pub mod Counts
-pub mod Joined
-pub mod Pushed
 pub mod Occurrences
 pub mod Slashes
+pub mod Pieces
+pub mod Apart
+pub mod Backs
+pub mod Joined

@@ -9,12 +9,15 @@ use Rattle.std.proofs.lemmas.List.Elements.{filter-append}
 use Rattle.std.proofs.lemmas.Map.Views.{any-filter_same}
 use Rattle.std.proofs.lemmas.Slice.Eq.{bytes_eq-Decides}
 use Rattle.url_expressions.specs.Expressions.{first_occurrences, combinations}
-use Rattle.url_expressions.specs.Parts.{with_new}
 
-abbrev differs : List ℕ → List ℕ → Bool
+-- a list with one more at its end, unless it has that already
+abbrev pub with_new : List (List ℕ) → List ℕ → List (List ℕ)
+with_new xs x = cond (list_any (λ y. bytes_eq y x) xs) xs (xs ++ x ∷ [])
+
+abbrev pub differs : List ℕ → List ℕ → Bool
 differs a y = not (bytes_eq y a)
 
-equal : (a : List ℕ) → bytes_eq a a ≡ true
+pub equal : (a : List ℕ) → bytes_eq a a ≡ true
 equal a = (bytes_eq-Decides a a).1 refl
 
 either : (b : Bool) → (b ≡ true) ⊎ (b ≡ false)
@@ -92,25 +95,3 @@ unfolding first_occurrences IsDistinct
 distinct_occurrences [] = tt
 distinct_occurrences (x ∷ xs) =
     (passing (differs x) (λ y. bytes_eq x y ≡ false) (λ y t. apart y x (not_true (bytes_eq y x) t)) (first_occurrences xs), distinct_filtered (differs x) (first_occurrences xs) (distinct_occurrences xs))
-
--- one more text of a list that is gone through
-pub occurrences_more : {A : Type 0} (text_of : A → List ℕ) (items : List A) (i : ℕ) (d : A) (texts all after : List (List ℕ)) → i < length items → all ≡ first_occurrences (texts ++ map text_of (take i items)) → after ≡ with_new all (text_of (get_or items i d)) → after ≡ first_occurrences (texts ++ map text_of (take (i + 1) items))
-occurrences_more text_of items i d texts all after within so_far grown =
-    let joined : texts ++ map text_of (take (i + 1) items) ≡ (texts ++ map text_of (take i items)) ++ text_of (get_or items i d) ∷ [] = ap (λ ys. texts ++ ys) (map_more text_of items i d within) ∙ sym (append_assoc texts (map text_of (take i items)) (text_of (get_or items i d) ∷ [])) in
-    grown ∙ ap (λ ys. with_new ys (text_of (get_or items i d))) so_far ∙ sym (first_occurrences_push (texts ++ map text_of (take i items)) (text_of (get_or items i d))) ∙ ap (λ ys. first_occurrences ys) (sym joined)
-
--- the texts of one more item of a list that is gone through
-pub occurrences_flat : {A : Type 0} (texts_of : A → List (List ℕ)) (items : List A) (i : ℕ) (d : A) (all after : List (List ℕ)) → i < length items → all ≡ first_occurrences (flat_map texts_of (take i items)) → ((texts : List (List ℕ)) → all ≡ first_occurrences texts → after ≡ first_occurrences (texts ++ texts_of (get_or items i d))) → after ≡ first_occurrences (flat_map texts_of (take (i + 1) items))
-occurrences_flat texts_of items i d all after within so_far grown =
-    grown (flat_map texts_of (take i items)) so_far ∙ ap (λ texts. first_occurrences texts) (flat_map_more texts_of [] (take i items) (get_or items i d) ∙ ap (λ xs. flat_map texts_of xs) (sym (take_more items i d within)))
-
-map-slices : (host : List ℕ) (paths : List (Bor (List ℕ))) → map (λ path. host ++ path.now) paths ≡ map (λ path. host ++ path) (map (λ path. path.now) paths)
-map-slices host [] = refl
-map-slices host (path ∷ paths) = ap (λ rest. (host ++ path.now) ∷ rest) (map-slices host paths)
-
--- each slice of one list with each of another
-pub combinations_of_slices : (hosts paths : List (Bor (List ℕ))) → flat_map (λ host. map (λ path. host.now ++ path.now) paths) hosts ≡ combinations (map (λ host. host.now) hosts) (map (λ path. path.now) paths)
-combinations_of_slices [] paths = refl
-combinations_of_slices (host ∷ hosts) paths =
-    ap (λ texts. texts ++ flat_map (λ host. map (λ path. host.now ++ path.now) paths) hosts) (map-slices host.now paths)
-    ∙ ap (λ texts. map (λ path. host.now ++ path) (map (λ path. path.now) paths) ++ texts) (combinations_of_slices hosts paths)

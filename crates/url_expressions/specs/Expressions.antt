@@ -1,13 +1,11 @@
 -- The expressions of a canonical URL: hosts and paths that it lies under (Safe Browsing v4, "URLs and Hashing",
 -- "Suffix/prefix expressions").
-use Rattle.std.specs.Prelude.{ℕ, ◌-◌, List, [], ◌∷◌, ◌++◌, ◌==◌, Bool, not, nat_le, Option, None, Some, map, filter, length, take, drop, if◌then◌else◌}
+use Rattle.std.specs.Prelude.{ℕ, ◌-◌, List, [], ◌∷◌, ◌++◌, Bool, not, nat_le, Option, None, Some, map, filter, length, take, drop, if◌then◌else◌}
 use Rattle.std.specs.List.{flat_map, join_with_byte, slice_split}
 use Rattle.std.specs.Str.{bytes_eq}
-use Rattle.url_canon.specs.Path.{path_text}
+use Rattle.url_canon.specs.Words.{is_dot}
+use Rattle.url_canon.specs.Path.{path_text, directories}
 use Rattle.url_canon.specs.Url.{Url}
-
-abbrev pub is_dot : ℕ → Bool
-is_dot byte = byte == 46
 
 -- the components of a host, which stand between its dots
 unfoldable pub components : List ℕ → List (List ℕ)
@@ -24,12 +22,6 @@ shorter_hosts host = map (λ n. last_components n host) (filter (λ n. nat_le n 
 -- the exact host, and then the shorter ones, unless it is an address
 abbrev pub hosts_of : List ℕ → Bool → List (List ℕ)
 hosts_of host is_address = host ∷ (if is_address then [] else shorter_hosts host)
-
--- all components of a path but the last
-abbrev pub directories : List (List ℕ) → List (List ℕ)
-directories [] = []
-directories (component ∷ []) = []
-directories (component ∷ next ∷ rest) = component ∷ directories (next ∷ rest)
 
 -- the fronts of a list, the empty one first, each with one member more than the one before
 abbrev pub fronts : {A : Type 0} → List A → List (List A)

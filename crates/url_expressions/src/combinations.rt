@@ -1,91 +1,49 @@
-ghost use Rattle.std.specs.Prelude.{◌≡◌, ℕ, ◌≤◌, List, ◌++◌, length, map, IfOk, OnOk};
-ghost use Rattle.std.specs.List.{IsDistinct, list_any};
+ghost use Rattle.std.specs.Prelude.{◌≡◌, ◌+◌, ◌≤◌, All, ◌++◌, length, take, map, IfOk, OnOk};
+ghost use Rattle.std.specs.List.{IsDistinct};
 ghost use Rattle.std.specs.Str.{bytes_eq};
-ghost use Rattle.url_expressions.specs.Expressions.{expressions_of, first_occurrences};
-ghost use Rattle.url_expressions.specs.Parts.{with_new};
+ghost use Rattle.url_expressions.specs.Expressions.{expressions_of};
 
-use crate::hosts::hosts;
-use crate::paths::{bytes_of, paths, with_query};
+use crate::hosts::host_places;
+use crate::paths::path_lens;
 use sb_model::{Bytes, OutOfMemory, Row};
 use std::alloc::Global;
 use url_canon::CanonicalUrl;
 
-/// How many expressions a URL has at most: five hosts with six paths each.
-const MOST: usize = 30;
-
-/// Whether a text is a host and then a path.
-fn is_joined(text: &[u8], host: &[u8], path: &[u8]) -> bool
-    ensures { result ≡ bytes_eq text.now (host.now ++ path.now) }
-{
-    if text.len() != host.len() + path.len() {
-        return false;
-    }
-    let (front, back) = text.split_at(host.len());
-    front == host && back == path
-}
-
-/// The text of a host and then a path.
-fn joined(alloc: Global, host: &[u8], path: &[u8]) -> Result<Bytes, OutOfMemory>
-    ensures { IfOk result (λ text. text ≡ host.now ++ path.now) }
-{
-    let mut text = Bytes::with_capacity(alloc, host.len() + path.len())?;
-    text.append(host)?;
-    text.append(path)?;
-    Ok(text)
-}
-
-/// Whether a host and then a path is among the texts.
-fn has_joined(all: &[Bytes], host: &[u8], path: &[u8]) -> bool
-    ensures { result ≡ list_any (λ text. bytes_eq text (host.now ++ path.now)) all.now }
-{
-    all.iter()
-        .any(|text| is_joined(text.as_slice(), host, path))
-}
-
-/// Appends a host and then a path, where it is not there yet.
-fn push_new(
+/// Appends the fronts of a text that hold a host of a length and then each path.
+fn push_fronts(
     all: &mut Row<Bytes>,
     alloc: Global,
-    host: &[u8],
-    path: &[u8],
+    text: &[u8],
+    host_len: usize,
+    path_lens: &[usize],
 ) -> Result<(), OutOfMemory>
-    ensures { OnOk result (all.new ≡ with_new all.old (host.now ++ path.now)) }
+    requires { All (λ len. host_len + len ≤ length text.now) path_lens.now }
+    ensures { OnOk result (all.new ≡ all.old
+        ++ map (λ len. take (host_len + len) text.now) path_lens.now) }
 {
-    if has_joined(all.as_slice(), host, path) {
-        return Ok(());
-    }
-    all.push(joined(alloc, host, path)?)
-}
-
-/// Appends a host with each path, where it is not there yet.
-fn push_combinations(
-    all: &mut Row<Bytes>,
-    alloc: Global,
-    host: &[u8],
-    paths: &[&[u8]],
-) -> Result<(), OutOfMemory>
-    ensures { OnOk result ((texts : List (List ℕ)) → all.old ≡ first_occurrences texts →
-        all.new ≡ first_occurrences (texts ++ map (λ path. host.now ++ path.now) paths.now)) }
-{
-    for path in paths {
-        push_new(all, alloc, host, path)?;
+    for len in path_lens {
+        all.push(Bytes::from_slice(alloc, &text[..host_len + *len])?)?;
     }
     Ok(())
 }
 
 /// The expressions of a URL: each of its hosts with each of its paths, of equal ones the first.
+///
+/// Hosts and paths are freed of repeats apart. That serves, since no host has a slash and each path
+/// begins with one: two combinations are equal only where both parts are.
 pub fn expressions(alloc: Global, url: &CanonicalUrl) -> Result<Row<Bytes>, OutOfMemory>
     ensures exact { IfOk result (λ all. all ≡ expressions_of url.now) }
     ensures distinct { IfOk result (λ all. IsDistinct bytes_eq all) }
     ensures some { IfOk result (λ all. 1 ≤ length all) }
     ensures most { IfOk result (λ all. length all ≤ 30) }
 {
-    let hosts = hosts(alloc, url.host(), url.is_address())?;
-    let with_query = with_query(alloc, url.path(), url.query())?;
-    let paths = paths(alloc, url.path(), bytes_of(&with_query))?;
-    let mut all = Row::with_capacity(alloc, MOST)?;
-    for host in &hosts {
-        push_combinations(&mut all, alloc, host, &paths)?;
+    let text = url.without_scheme();
+    let host = url.host();
+    let places = host_places(alloc, host, url.is_address())?;
+    let lens = path_lens(alloc, url.path(), &text[host.len()..])?;
+    let mut all = Row::with_capacity(alloc, places.len().saturating_mul(lens.len()))?;
+    for place in &places {
+        push_fronts(&mut all, alloc, &text[*place..], host.len() - *place, &lens)?;
     }
     Ok(all)
 }

@@ -7,3 +7,4 @@ pub use combinations::expressions;
 mod combinations;
 mod hosts;
 mod paths;
+mod places;

@@ -1,72 +1,60 @@
-ghost use Rattle.std.specs.Prelude.{◌≡◌, ◌∷◌, ◌++◌, option_to_list, take, map, option_map, IfOk, OnOk};
-ghost use Rattle.url_expressions.specs.Expressions.{path_with_query};
-ghost use Rattle.url_expressions.specs.Parts.{slash_fronts};
+ghost use Rattle.std.specs.Prelude.{◌≡◌, ℕ, List, Option, ◌<◌, ◌≤◌, ◌++◌, All, length, take, map, IfOk, OnOk};
+ghost use Rattle.url_canon.specs.Path.{path_text, IsNormalPath};
+ghost use Rattle.url_canon.specs.Url.{query_text};
+ghost use Rattle.url_expressions.specs.Expressions.{folders_of, paths_of, first_occurrences};
 
-use sb_model::{Bytes, OutOfMemory};
+use crate::places::push_new;
+use memchr::memchr;
+use sb_model::OutOfMemory;
 use std::alloc::Global;
+
+/// How many paths a URL has at most.
+const PATHS: usize = 6;
 
 /// How many folders a path has at most.
 const FOLDERS: usize = 4;
 
-/// The path with `?` and the query, where there is one.
-pub fn with_query(
-    alloc: Global,
-    path: &[u8],
-    query: Option<&[u8]>,
-) -> Result<Option<Bytes>, OutOfMemory>
-    ensures { IfOk result (λ text. option_to_list text
-        ≡ path_with_query path.now (option_map (λ q. q.now) query.entry)) }
+/// Adds how many bytes the folders of a path take, the shortest first, and four at most, each unless
+/// it is there already.
+fn push_folders(lens: &mut Vec<usize>, path: &[u8]) -> Result<(), OutOfMemory>
+    ensures within { OnOk result ((most : ℕ) → length path.now ≤ most
+        → All (λ len. len ≤ most) lens.old.items → All (λ len. len ≤ most) lens.new.items) }
+    ensures value { OnOk result ((path_components texts : List (List ℕ)) (rest : List ℕ)
+        → IsNormalPath path_components → path.now ≡ path_text path_components
+        → All (λ len. len ≤ length (path.now ++ rest)) lens.old.items
+        → map (λ len. take len (path.now ++ rest)) lens.old.items ≡ first_occurrences texts
+        → map (λ len. take len (path.now ++ rest)) lens.new.items
+            ≡ first_occurrences (texts ++ folders_of path_components)) }
 {
-    let Some(query) = query else {
-        return Ok(None);
-    };
-    let mut text = Bytes::with_capacity(alloc, path.len() + 1 + query.len())?;
-    text.append(path)?;
-    text.push(b'?')?;
-    text.append(query)?;
-    Ok(Some(text))
-}
-
-/// The bytes of a text, where there is one.
-pub fn bytes_of(text: &Option<Bytes>) -> Option<&[u8]>
-    ensures { option_map (λ bytes. bytes.now) result ≡ text.now }
-{
-    match text {
-        None => None,
-        Some(text) => Some(text.as_slice()),
-    }
-}
-
-/// The fronts of a path that end with a slash, the shortest first, and four at most.
-fn push_folders<'a>(paths: &mut Vec<&'a [u8]>, path: &'a [u8]) -> Result<(), OutOfMemory>
-    ensures { OnOk result (map (λ p. p.now) paths.new.items
-        ≡ map (λ p. p.now) paths.old.items ++ take 4 (slash_fronts path.now)) }
-{
-    let mut count = 0usize;
-    for (i, byte) in path.iter().enumerate() {
-        if *byte == b'/' && count < FOLDERS {
-            paths.push(&path[..i + 1])?;
-            count += 1;
-        }
+    let mut from = 0;
+    for _ in 0..FOLDERS {
+        let Some(slash) = memchr(b'/', &path[from..]) else {
+            return Ok(());
+        };
+        from += slash + 1;
+        push_new(lens, from)?;
     }
     Ok(())
 }
 
-/// The path with its query, the path, and then its folders.
-pub fn paths<'a>(
+/// How many bytes the paths of a URL take of its path and its query: all where there is a query, the
+/// path, and its folders, each once.
+pub fn path_lens(
     alloc: Global,
-    path: &'a [u8],
-    with_query: Option<&'a [u8]>,
-) -> Result<Vec<&'a [u8]>, OutOfMemory>
-    ensures { IfOk result (λ paths. map (λ p. p.now) paths.items
-        ≡ option_to_list (option_map (λ text. text.now) with_query.entry)
-        ++ path.now ∷ take 4 (slash_fronts path.now)) }
+    path: &[u8],
+    path_and_query: &[u8],
+) -> Result<Vec<usize>, OutOfMemory>
+    ensures within { length path.now ≤ length path_and_query.now
+        → IfOk result (λ lens. All (λ len. len ≤ length path_and_query.now) lens.items) }
+    ensures value { IfOk result (λ lens. (path_components : List (List ℕ)) (query : Option (List ℕ))
+        → IsNormalPath path_components → path.now ≡ path_text path_components
+        → path_and_query.now ≡ path.now ++ query_text query
+        → map (λ len. take len path_and_query.now) lens.items
+            ≡ first_occurrences (paths_of path_components query)) }
 {
-    let mut paths = Vec::with_capacity(alloc, 6)?;
-    if let Some(text) = with_query {
-        paths.push(text)?;
-    }
-    paths.push(path)?;
-    push_folders(&mut paths, path)?;
-    Ok(paths)
+    let mut lens = Vec::with_capacity(alloc, PATHS)?;
+    push_new(&mut lens, path_and_query.len())?;
+    push_new(&mut lens, path.len())?;
+    push_folders(&mut lens, path)?;
+    Ok(lens)
 }

@@ -1,8 +1,8 @@
 use Rattle.std.proofs.Common.{◌-◌, ◌+◌, ◌*◌, ◌∷◌, ap, sym, ◌∙◌, arith, option_copied, Some}
 use Rattle.std.specs.List.{slice_split}
-use Rattle.url_canon.specs.Words.{parts_after}
-use Rattle.url_canon.specs.Address.{is_dot, address_in}
-use Rattle.url_canon.proofs.Splits.{some-slice_split}
+use Rattle.url_canon.specs.Address.{address_in}
+use Rattle.url_canon.specs.Words.{is_dot}
+use Rattle.url_canon.proofs.Splits.{parts_after, some-slice_split}
 use Rattle.url_canon.proofs.Numbers.{address_in-last, address_in-more, address_in-more_none, addresses_most, joined_fits}
 use Rattle.url_canon.proofs.address.+address_in.Goals as goal
 

@@ -1,45 +1,48 @@
-use Rattle.std.proofs.Common.{◌≡◌, length, sym, ap, subst, ◌∙◌, arith}
-use Rattle.std.proofs.lemmas.Bool.{eqb-true, eqb-false}
-use Rattle.url_canon.specs.Cleaning.{without_fragment, trimmed}
-use Rattle.url_canon.specs.Unescaping.{HasNoEscape, unescaped}
-use Rattle.url_canon.specs.Canonical.{parts_of, escaped_parts, canonical_of_cleaned, Answers}
-use Rattle.url_canon.proofs.Unescapes.{unescaped_only}
-use Rattle.url_canon.proofs.Whole.{canonical_of-long, canonical_of-short, cleaned-none, cleaned-some, never_long}
+use Rattle.std.proofs.Common.{◌≡◌, ◌↔◌, ℕ, List, not, ◌≤◌, ◌<◌, length, Result, Err, sym, ap, subst, ◌∙◌, arith}
+use Rattle.std.specs.List.{before_first, filter, list_any}
+
+use Rattle.url_canon.specs.Cleaning.{is_hash, is_line_byte, without_fragment, trimmed}
+use Rattle.url_canon.specs.Url.{Url}
+use Rattle.url_canon.specs.Canonical.{canonical_of, canonical_of_cleaned, Answers}
+use Rattle.url_canon.specs.declared.fault.UrlFault.{UrlFault}
+use Rattle.url_canon.specs.declared.fault.UrlFault.TheVariants.{Empty, NoHost, TooLong, OutOfMemory}
+use Rattle.url_canon.proofs.Stays.{filter_all}
+use Rattle.url_canon.proofs.Whole.{canonical_of-long, canonical_of-short, empty_when, no_host_when, too_long_when, decides, told, by_steps}
 use Rattle.url_canon.proofs.canonicalize.canonical.Goals as goal
+
+from_line : (text line : List ℕ) (result : Result Url UrlFault) → length text ≤ 8192 → line ≡ filter (λ byte. not (is_line_byte byte)) text → Answers result (canonical_of_cleaned (trimmed (before_first is_hash line))) → Answers result (canonical_of text)
+unfolding without_fragment
+from_line text line result short at h =
+    subst (Answers result) (sym (canonical_of-short text short ∙ ap (λ l. canonical_of_cleaned (trimmed (before_first is_hash l))) (sym at))) h
+
+long_only : (text : List ℕ) (result : Result Url UrlFault) → length text ≤ 8192 → Answers result (canonical_of text) → result ≡ Err (TooLong (length text)) → 8192 < length text
+long_only text result short h e = (too_long_when text).0 (told result text (length text) h e)
 
 pub returns-then-text-gt-MAX_LEN-clause-exact : goal.returns-then-text-gt-MAX_LEN-clause-exact
 returns-then-text-gt-MAX_LEN-clause-exact c = canonical_of-long c.args.text.now c.if-text-gt-MAX_LEN.true
 
-pub returns-then-is_empty-clause-exact : goal.returns-then-is_empty-clause-exact
-returns-then-is_empty-clause-exact c =
-    let kept = c.trimmed-kept.ensures ∙ ap trimmed (c.as_slice.ensures.value ∙ c.in_ok-whole.ensures) in
-    canonical_of-short c.args.text.now c.if-text-gt-MAX_LEN.false
-    ∙ (sym (ap canonical_of_cleaned kept) ∙ cleaned-none c.trimmed-kept.result.now (eqb-true _ 0 (sym c.if-is_empty.ensures)))
+pub returns-then-not-has_line_byte : goal.returns-then-not-has_line_byte
+returns-then-not-has_line_byte c =
+    let text = c.args.text.now in
+    let result = c.canonical_of_line.result in
+    let exact = from_line text text result c.if-text-gt-MAX_LEN.false (sym (filter_all is_line_byte text (sym c.if-not-has_line_byte.ensures))) c.canonical_of_line.ensures in
+    record {
+      exact = exact;
+      steps = λ plain. by_steps result text plain exact;
+      too_long = (long_only text result c.if-text-gt-MAX_LEN.false exact, λ h. absurd (omega arith));
+      empty = decides result text Empty _ exact (empty_when text);
+      no_host = decides result text NoHost _ exact (no_host_when text);
+    }
 
-pub returns-then-is_empty-clause-steps : goal.returns-then-is_empty-clause-steps
-returns-then-is_empty-clause-steps c = λ plain short some h.
-    let kept = ap length (c.trimmed-kept.ensures ∙ ap trimmed (c.as_slice.ensures.value ∙ c.in_ok-whole.ensures)) in
-    let none = eqb-true (length c.trimmed-kept.result.now) 0 (sym c.if-is_empty.ensures) in
-    absurd (omega arith)
-
-pub canonical_of_plain-requires : goal.canonical_of_plain-requires
-canonical_of_plain-requires c =
-    subst HasNoEscape (sym c.as_slice-2.ensures.value) c.in_ok-plain.ensures.unescaped.finished
-
-pub returns-clause-exact : goal.returns-clause-exact
-returns-clause-exact c =
-    let kept = c.trimmed-kept.ensures ∙ ap trimmed (c.as_slice.ensures.value ∙ c.in_ok-whole.ensures) in
-    let some = eqb-false (length c.trimmed-kept.result.now) 0 (sym c.if-is_empty.ensures) in
-    let plain = c.as_slice-2.ensures.value ∙ c.in_ok-plain.ensures.value in
-    let whole = canonical_of-short c.args.text.now c.if-text-gt-MAX_LEN.false ∙ (sym (ap canonical_of_cleaned kept) ∙ (cleaned-some c.trimmed-kept.result.now (omega arith) ∙ sym (ap (λ p. escaped_parts (parts_of p)) plain))) in
-    subst (Answers c.canonical_of_plain.result) (sym whole) c.canonical_of_plain.ensures
-
-pub returns-clause-steps : goal.returns-clause-steps
-returns-clause-steps c = λ plain short some h.
-    let kept = c.trimmed-kept.ensures ∙ ap trimmed (c.as_slice.ensures.value ∙ c.in_ok-whole.ensures) in
-    let found : c.as_slice-2.result.now ≡ plain = c.as_slice-2.ensures.value ∙ (c.in_ok-plain.ensures.value ∙ (ap unescaped kept ∙ sym (unescaped_only (trimmed (without_fragment c.args.text.now)) plain h))) in
-    subst (λ p. Answers c.canonical_of_plain.result (escaped_parts (parts_of p))) found c.canonical_of_plain.ensures
-
-pub returns-clause-too_long : goal.returns-clause-too_long
-returns-clause-too_long c =
-    (λ e. absurd (never_long c.canonical_of_plain.result c.as_slice-2.result.now (length c.args.text.now) c.canonical_of_plain.ensures e), λ h. absurd (omega arith))
+pub returns : goal.returns
+returns c =
+    let text = c.args.text.now in
+    let result = c.canonical_of_line-2.result in
+    let exact = from_line text c.as_slice.result.now result c.if-text-gt-MAX_LEN.false (c.as_slice.ensures.value ∙ c.in_ok-line.ensures) c.canonical_of_line-2.ensures in
+    record {
+      exact = exact;
+      steps = λ plain. by_steps result text plain exact;
+      too_long = (long_only text result c.if-text-gt-MAX_LEN.false exact, λ h. absurd (omega arith));
+      empty = decides result text Empty _ exact (empty_when text);
+      no_host = decides result text NoHost _ exact (no_host_when text);
+    }

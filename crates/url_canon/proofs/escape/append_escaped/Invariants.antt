@@ -1,7 +1,9 @@
-use Rattle.std.proofs.Common.{◌≡◌, ◌++◌, take}
-use Rattle.std.specs.List.{flat_map}
-use Rattle.url_canon.specs.Escaping.{escape_of}
+use Rattle.std.proofs.Common.{◌≡◌, ◌++◌, length}
+use Rattle.url_canon.specs.Escaping.{escaped}
 use Rattle.url_canon.proofs.escape.append_escaped.Given as goal
 
-abbrev pub invariant-loop-byte : goal.invariant-loop-byte
-invariant-loop-byte l = l.out ≡ l.fn.out ++ flat_map escape_of (take l.byte-index l.text)
+abbrev pub invariant-loop-place : goal.invariant-loop-place
+invariant-loop-place l = l.out ++ escaped l.rest ≡ l.fn.out ++ escaped l.text
+
+abbrev pub decreases-loop-place : goal.decreases-loop-place
+decreases-loop-place l = length l.rest

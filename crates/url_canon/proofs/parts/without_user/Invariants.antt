@@ -1,8 +1,8 @@
 use Rattle.std.proofs.Common.{◌≡◌, ◌∷◌, option_copied}
 use Rattle.std.specs.List.{slice_split}
-use Rattle.url_canon.specs.Words.{last_part, parts_after}
+use Rattle.url_canon.specs.Words.{last_part}
 use Rattle.url_canon.specs.Parts.{is_at}
-use Rattle.url_canon.proofs.Splits.{size_after}
+use Rattle.url_canon.proofs.Splits.{parts_after, size_after}
 use Rattle.url_canon.proofs.parts.without_user.Given as goal
 
 abbrev pub invariant-loop-rest : goal.invariant-loop-rest

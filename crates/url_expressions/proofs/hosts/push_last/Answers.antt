@@ -1,20 +1,17 @@
-use Rattle.std.proofs.Common.{Bor, ◌≡◌, ℕ, List, [], ◌∷◌, ◌++◌, ◌-◌, true, false, nat_le, length, drop, ap, sym, ◌∙◌, arith, append-nil}
-use Rattle.std.specs.Prelude.{map}
-use Rattle.std.specs.List.{join_with_byte}
-use Rattle.std.proofs.lemmas.Bool.{le-leb, lt-leb}
-use Rattle.std.proofs.lemmas.List.{map-append}
-use Rattle.url_expressions.specs.Expressions.{components, last_components}
+use Rattle.std.proofs.Common.{◌≡◌, ◌<◌, ◌+◌, ◌-◌, length, drop, ap, sym, ◌∙◌, arith, length-drop}
+use Rattle.std.proofs.lemmas.Bool.{cond-true, cond-false, le-leb, lt-leb}
+use Rattle.std.proofs.lemmas.List.{drop-drop}
+use Rattle.url_expressions.specs.Expressions.{components}
 use Rattle.url_expressions.proofs.hosts.push_last.Goals as goal
 
-pub returns-in_ok-push : goal.returns-in_ok-push
-unfolding last_components
-returns-in_ok-push c =
-    let now : Bor (List ℕ) → List ℕ = λ s. s.now in
-    let enough : nat_le c.args.n (length (components c.args.host.now)) ≡ true = le-leb _ _ (omega arith) in
-    let last : c.without_components.result.now ≡ last_components c.args.n c.args.host.now = c.without_components.ensures ∙ ap (λ count. join_with_byte 46 (drop (count - c.args.n) (components c.args.host.now))) c.requires.counted in
-    rw enough (ap (λ xs. map now xs) c.in_ok-push.ensures.items ∙ map-append now c.args.hosts.now.items (c.without_components.result ∷ []) ∙ ap (λ t. map now c.args.hosts.now.items ++ t ∷ []) last)
-
-pub returns-else-n-count : goal.returns-else-n-count
-returns-else-n-count c =
-    let fewer : nat_le c.args.n (length (components c.args.host.now)) ≡ false = lt-leb _ _ (omega arith) in
-    rw fewer (sym (append-nil _))
+pub returns : goal.returns
+returns c =
+    let cs = components c.args.host.now in
+    let some : c.args.n < length cs + 1 = omega (arith, c.requires.counted, c.if-n-count.false) in
+    let more : 1 < length (components (drop c.args.place c.args.host.now)) = omega (arith, ap (λ ds. length ds) c.requires.there, length-drop (c.args.count - c.args.n) cs, c.requires.counted, c.requires.more) in
+    let next : c.args.count - c.args.n + 1 ≡ c.args.count - (c.args.n - 1) = omega (arith, c.requires.more, c.if-n-count.false) in
+    record {
+      within = c.after_dot.ensures.within;
+      next = c.after_dot.ensures.value more ∙ (ap (λ ds. drop 1 ds) c.requires.there ∙ (drop-drop 1 (c.args.count - c.args.n) cs ∙ ap (λ k. drop k cs) next));
+      places = c.in_ok-push_new.ensures ∙ sym (cond-true _ _ _ (le-leb c.args.n c.args.count c.if-n-count.false));
+    }

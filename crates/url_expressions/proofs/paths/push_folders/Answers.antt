@@ -1,28 +1,41 @@
-use Rattle.std.proofs.Common.{◌+◌, ◌∷◌, [], sym, arith, take, append-nil, refl, length-append}
-use Rattle.url_expressions.specs.Parts.{slash_fronts}
-use Rattle.url_expressions.proofs.Pushed.{pushed}
-use Rattle.url_expressions.proofs.Slashes.{fronts_more_slash, fronts_more_other, fronts_more_full}
+use Rattle.std.proofs.Common.{◌≡◌, ◌++◌, ◌+◌, ◌≤◌, [], ◌∷◌, List, ℕ, All, length, take, refl, sym, ap, subst, ◌∙◌, arith, length-append}
+use Rattle.std.specs.Prelude.{map}
+use Rattle.std.proofs.lemmas.List.{append-nil}
+use Rattle.url_expressions.specs.Expressions.{first_occurrences, folders_of}
+use Rattle.url_expressions.proofs.Pieces.{pushed, pushed_within}
+use Rattle.url_expressions.proofs.Slashes.{slash_fronts, next_folder, no_folder, folder_pushed, folders_all, folders_four}
 use Rattle.url_expressions.proofs.paths.push_folders.Goals as goal
-use Rattle.url_expressions.proofs.paths.push_folders.Goals.{then-byte-eq47+then-count-lt-FOLDERS+in_ok-push, else-byte-eq47, else-byte-eq47-via-then-byte-eq47+else-count-lt-FOLDERS, else-byte-eq47-via-else-byte-eq47}
 
-pub loop-i-init : goal.loop-i-init
+pub loop-init : goal.loop-init
 unfolding slash_fronts
-loop-i-init c = (refl, sym (append-nil _))
+loop-init c = record {
+  from = omega arith;
+  count = refl;
+  within = λ most fits h. h;
+  value = λ texts rest h so_far. so_far ∙ ap (λ ts. first_occurrences ts) (sym (append-nil texts));
+}
 
-pub loop-i-preserved : goal.loop-i-preserved
-loop-i-preserved c =
-    elim c.if-byte-eq47.branch [
-      | then-byte-eq47+then-count-lt-FOLDERS+in_ok-push w ↦
-          let more = fronts_more_slash c.args.path.now c.loop-i.i _ (omega arith) refl w.if-byte-eq47.true (rw (← c.loop-i.invariant.0) w.if-count-lt-FOLDERS.true) in
-          let count = length-append (take 4 (slash_fronts (take c.loop-i.i c.args.path.now))) (take (c.loop-i.i + 1) c.args.path.now ∷ []) in
-          (rw (w.count-is, more) (omega (arith, count, c.loop-i.invariant.0)), rw w.paths-is (pushed _ _ _ _ _ _ w.in_ok-push.ensures.items c.loop-i.invariant.1 more))
-      | else-byte-eq47 w ↦
-          elim w.else-byte-eq47.branch [
-            | else-byte-eq47-via-then-byte-eq47+else-count-lt-FOLDERS v ↦
-                let more = fronts_more_full c.args.path.now c.loop-i.i _ (omega arith) refl (rw (← c.loop-i.invariant.0) v.if-count-lt-FOLDERS.false) in
-                (rw (w.count-is, more) c.loop-i.invariant.0, rw (w.paths-is, more) c.loop-i.invariant.1)
-            | else-byte-eq47-via-else-byte-eq47 v ↦
-                let more = fronts_more_other c.args.path.now c.loop-i.i _ (omega arith) refl v.if-byte-eq47.false in
-                (rw (w.count-is, more) c.loop-i.invariant.0, rw (w.paths-is, more) c.loop-i.invariant.1)
-          ]
-    ]
+pub loop-preserved : goal.loop-preserved
+loop-preserved c =
+    let path = c.args.path.now in
+    let from = c.loop.from in
+    let to = from + (c.in-Some.slash + 1) in
+    let inv = c.loop.invariant in
+    let next = next_folder path from c.in-Some.slash to inv.from c.in-Some.ensures refl in
+    record {
+      from = next.0;
+      count = omega (arith, ap (λ fs. length fs) next.1, length-append (slash_fronts (take from path)) (take to path ∷ []), inv.count);
+      within = λ most fits h. subst (All (λ len. len ≤ most)) (sym c.in_ok-push_new.ensures) (pushed_within most c.loop.lens.items to (inv.within most fits h) (omega (arith, next.0)));
+      value = λ texts rest h so_far. ap (λ ls. map (λ len. take len (path ++ rest)) ls) c.in_ok-push_new.ensures
+        ∙ folder_pushed path rest from to c.loop.lens.items texts next.0 next.1 (inv.within (length (path ++ rest)) (omega (arith, length-append path rest)) h) (inv.value texts rest h so_far);
+    }
+
+pub returns-in_default-clause-value : goal.returns-in_default-clause-value
+returns-in_default-clause-value c = λ path_components texts rest normal at h so_far.
+    let path = c.args.path.now in
+    c.loop.invariant.value texts rest h so_far ∙ ap (λ fs. first_occurrences (texts ++ fs)) (folders_all path path_components c.loop.from normal at (no_folder path c.loop.from c.in_default.ensures) (omega (arith, c.loop.invariant.count)))
+
+pub returns-clause-value : goal.returns-clause-value
+returns-clause-value c = λ path_components texts rest normal at h so_far.
+    let path = c.args.path.now in
+    c.loop.invariant.value texts rest h so_far ∙ ap (λ fs. first_occurrences (texts ++ fs)) (folders_four path path_components c.loop.from normal at (omega (arith, c.loop.invariant.count)))
