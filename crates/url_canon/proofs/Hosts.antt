@@ -137,7 +137,7 @@ begins-lower p [] same = refl
 begins-lower p (x ∷ text) same = same x
 
 -- dots do not matter for what is no dot
-any-without_leading : (q : ℕ → Bool) (text : List ℕ) → q 46 ≡ false → list_any q (without_leading is_dot text) ≡ list_any q text
+pub any-without_leading : (q : ℕ → Bool) (text : List ℕ) → q 46 ≡ false → list_any q (without_leading is_dot text) ≡ list_any q text
 any-without_leading q [] e = refl
 any-without_leading q (x ∷ text) e =
     ⊎_elim

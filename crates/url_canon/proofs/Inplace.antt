@@ -1,10 +1,10 @@
 -- A text that is unescaped in its place, from its end to its front.
-use Rattle.std.proofs.Common.{◌≡◌, ℕ, ◌+◌, ◌*◌, ◌-◌, ◌<◌, ◌≤◌, List, [], ◌∷◌, ◌++◌, Bool, true, false, eqb, length, get_or, take, drop, set, refl, sym, ap, subst, ◌∙◌, arith, length-drop}
+use Rattle.std.proofs.Common.{◌≡◌, ℕ, ◌+◌, ◌*◌, ◌-◌, ◌<◌, ◌≤◌, List, [], ◌∷◌, ◌++◌, Bool, true, eqb, length, get_or, take, drop, set, refl, sym, ap, ◌∙◌, arith, length-drop}
 use Rattle.std.specs.Char.{digit_value}
 use Rattle.std.specs.List.{list_any}
 use Rattle.std.proofs.lemmas.Bool.{or_parts}
 use Rattle.std.proofs.lemmas.List.{drop_more, drop-set, drop-drop, take-set-le, take_rest, take-take, get_or-take, length-set, take_all, take-append-le}
-use Rattle.url_canon.specs.Unescaping.{is_hex, spelled, with_byte, unescaped}
+use Rattle.url_canon.specs.Unescaping.{is_hex, with_byte, unescaped}
 use Rattle.url_canon.proofs.Splits.{Lacks}
 use Rattle.url_canon.proofs.Unescapes.{with_byte-other, with_byte_escape}
 
@@ -69,10 +69,10 @@ turn text bytes place top front taken some len before few step =
       within = omega (arith, length-set bytes at front);
       front = take-set-le (place - 1) bytes at front (omega arith) ∙ same.0;
       value = drop-set bytes at front (omega arith)
-        ∙ (ap (λ k. front ∷ drop k bytes) next
-        ∙ (ap (λ r. front ∷ r) (sym (drop-drop taken top bytes))
-        ∙ (sym (ap (with_byte (get_or bytes (place - 1) 0)) (sym rest) ∙ (step ∙ ap (λ r. front ∷ drop taken r) rest))
-        ∙ (ap (λ b. with_byte b (drop top bytes)) same.1 ∙ (ap (with_byte (get_or text (place - 1) 0)) before.value ∙ sym (unescaped_more text place some (omega arith)))))));
+          ∙ (ap (λ k. front ∷ drop k bytes) next
+          ∙ (ap (λ r. front ∷ r) (sym (drop-drop taken top bytes))
+          ∙ (sym (ap (with_byte (get_or bytes (place - 1) 0)) (sym rest) ∙ (step ∙ ap (λ r. front ∷ drop taken r) rest))
+          ∙ (ap (λ b. with_byte b (drop top bytes)) same.1 ∙ (ap (with_byte (get_or text (place - 1) 0)) before.value ∙ sym (unescaped_more text place some (omega arith)))))));
     }
 
 -- a vector whose slice was written to holds what the slice holds
@@ -84,6 +84,7 @@ pub spelled_turn : (text : List ℕ) (byte front taken value : ℕ) → front �
     → 2 ≤ length (take (length text - taken) (drop taken text)) → with_byte 37 (take (length text - taken) (drop taken text)) ≡ with_byte value (drop 2 (take (length text - taken) (drop taken text)))
     → (taken + 2 ≤ length text) × (with_byte value (drop (taken + 2) text) ≡ with_byte byte text)
 spelled_turn text byte front taken value percent within so_far long step =
-    let rest = take_rest text taken in
-    (omega (arith, long, ap (λ r. length r) rest, length-drop taken text),
-    sym (ap (with_byte 37) (sym rest) ∙ (step ∙ (ap (λ r. with_byte value (drop 2 r)) rest ∙ ap (with_byte value) (drop-drop 2 taken text)))) ∙ (ap (λ b. with_byte b (drop taken text)) (sym percent) ∙ so_far))
+    let rest = take_rest text taken in (
+      omega (arith, long, ap (λ r. length r) rest, length-drop taken text),
+      sym (ap (with_byte 37) (sym rest) ∙ (step ∙ (ap (λ r. with_byte value (drop 2 r)) rest ∙ ap (with_byte value) (drop-drop 2 taken text)))) ∙ (ap (λ b. with_byte b (drop taken text)) (sym percent) ∙ so_far),
+    )

@@ -1,8 +1,8 @@
 -- The parts of a URL as pieces of its text.
-use Rattle.std.proofs.Common.{◌≡◌, ℕ, ◌+◌, ◌-◌, ◌≤◌, List, [], ◌∷◌, ◌++◌, Bool, Option, Some, None, length, take, drop, refl, sym, ap, subst, ◌∙◌, arith, length-append}
+use Rattle.std.proofs.Common.{◌≡◌, ℕ, ◌+◌, ◌-◌, ◌≤◌, List, [], ◌∷◌, ◌++◌, Option, Some, None, length, take, drop, refl, sym, ap, ◌∙◌, arith, length-append}
 use Rattle.std.proofs.lemmas.List.{append_assoc, take_at, drop_at, take_rest}
 use Rattle.url_canon.specs.Path.{path_text, components_of}
-use Rattle.url_canon.specs.Url.{Url, query_text, text_of, after_mark, url_at_places, IsLaidOut}
+use Rattle.url_canon.specs.Url.{Url, query_text, after_mark, url_at_places, IsLaidOut}
 
 abbrev mark : List ℕ
 mark = 58 ∷ 47 ∷ 47 ∷ []
@@ -80,12 +80,12 @@ laid_out url start scheme marked host path whole h p q at_start at_scheme at_mar
     let scheme_is : scheme ≡ url.scheme = at_scheme ∙ ap (λ s. s ++ url.scheme) at_start in
     record {
       whole = at_whole
-        ∙ (ap (λ p. p ++ query_text url.query) at_path
-        ∙ (append_assoc host (path_text url.path) (query_text url.query)
-        ∙ (ap (λ t. t ++ later) at_host
-        ∙ (append_assoc marked url.host later
-        ∙ (ap (λ t. t ++ (url.host ++ later)) at_marked
-        ∙ (append_assoc scheme mark (url.host ++ later) ∙ ap (λ t. t ++ (mark ++ (url.host ++ later))) scheme_is))))));
+          ∙ (ap (λ p. p ++ query_text url.query) at_path
+          ∙ (append_assoc host (path_text url.path) (query_text url.query)
+          ∙ (ap (λ t. t ++ later) at_host
+          ∙ (append_assoc marked url.host later
+          ∙ (ap (λ t. t ++ (url.host ++ later)) at_marked
+          ∙ (append_assoc scheme mark (url.host ++ later) ∙ ap (λ t. t ++ (mark ++ (url.host ++ later))) scheme_is))))));
       host = at_h ∙ (ap (λ t. length t) at_marked ∙ (length-append scheme mark ∙ ap (λ t. length t + 3) scheme_is));
       path = at_p ∙ (ap (λ t. length t) at_host ∙ (length-append marked url.host ∙ ap (λ k. k + length url.host) (sym at_h)));
       query = at_q ∙ (ap (λ t. length t) at_path ∙ (length-append host (path_text url.path) ∙ ap (λ k. k + length (path_text url.path)) (sym at_p)));

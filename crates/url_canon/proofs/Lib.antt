@@ -10,6 +10,7 @@ pub mod Paths
 pub mod Lacking
 pub mod Hosts
 pub mod Decimals
+pub mod International
 pub mod HostAgain
 pub mod Schemes
 pub mod Stays

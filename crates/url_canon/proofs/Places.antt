@@ -1,5 +1,5 @@
 -- What a search for bytes finds.
-use Rattle.std.proofs.Common.{◌≡◌, ℕ, ◌+◌, ◌<◌, ◌≤◌, List, [], ◌∷◌, ◌++◌, Bool, true, false, ◌||◌, eqb, length, get_or, get_or-drop, take, drop, Option, Some, None, unwrap_or, refl, sym, ap, subst, ◌∙◌, arith, length-drop}
+use Rattle.std.proofs.Common.{◌≡◌, ℕ, ◌+◌, ◌<◌, List, [], ◌∷◌, Bool, true, false, ◌||◌, eqb, length, get_or, get_or-drop, take, drop, Option, Some, None, unwrap_or, refl, sym, ap, ◌∙◌, arith, length-drop}
 use Rattle.std.specs.Option.{is_some}
 use Rattle.std.specs.List.{list_any, position_or_len}
 use Rattle.std.proofs.lemmas.Bool.{false_from_ne_true, lt-ltb, le-ltb}
@@ -30,7 +30,7 @@ pub lacks_before : (p : ℕ → Bool) (xs : List ℕ) (k : ℕ) → IsFirstByte 
 lacks_before p xs k h =
     ap (λ n. list_any p (take n xs)) (first_place p xs (Some k) h) ∙ none-before_first p xs
 
-lacks_from : (p : ℕ → Bool) (xs : List ℕ) → ((i : ℕ) → i < length xs → p (get_or xs i 0) ≡ false) → Lacks p xs
+pub lacks_from : (p : ℕ → Bool) (xs : List ℕ) → ((i : ℕ) → i < length xs → p (get_or xs i 0) ≡ false) → Lacks p xs
 lacks_from p xs h =
     let place = position_or_len_is p xs (length xs) 0 (omega arith) h (λ lt. absurd (omega arith)) in
     any_from_place p xs ∙ le-ltb (position_or_len p xs) (length xs) (omega arith)

@@ -1,9 +1,8 @@
 -- The parts between the elements that pass a test.
-use Rattle.std.proofs.Common.{◌≡◌, ℕ, ◌+◌, ◌<◌, ◌≢◌, List, [], ◌∷◌, Bool, false, eqb, length, drop, Option, Some, None, refl, arith}
+use Rattle.std.proofs.Common.{◌≡◌, ℕ, ◌+◌, ◌<◌, ◌≢◌, List, [], ◌∷◌, Bool, false, eqb, length, Option, Some, None, refl, arith}
 use Rattle.std.specs.List.{AllByRecursion, All, slice_split, onto_first, list_any}
 use Rattle.std.specs.Option.{option_map_or}
 use Rattle.url_canon.specs.Words.{last_part}
-use Rattle.url_canon.specs.Path.{is_slash, components_of}
 use Rattle.std.proofs.lemmas.Bool.{cond_both, eqb-false, or_from, or_parts}
 use Rattle.std.proofs.lemmas.List.Elements.{All-from_recursion, All-weaker}
 

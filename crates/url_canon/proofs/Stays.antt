@@ -1,5 +1,5 @@
 -- The text of a canonical URL has that URL again.
-use Rattle.std.proofs.Common.{◌≡◌, ℕ, ◌<◌, List, [], ◌∷◌, ◌++◌, Bool, true, false, not, ◌||◌, eqb, length, take, drop, map, reverse, Option, Some, None, Result, Ok, option_map, refl, sym, ap, subst, ◌∙◌, arith, ⊎_elim}
+use Rattle.std.proofs.Common.{◌≡◌, ℕ, ◌<◌, List, [], ◌∷◌, ◌++◌, Bool, true, false, not, ◌||◌, eqb, length, take, drop, map, reverse, Option, Some, None, Result, Ok, option_map, refl, sym, ap, ◌∙◌, arith, ⊎_elim}
 use Rattle.std.specs.List.{list_any, AllByRecursion, flat_map, filter, slice_split, before_first, after_first}
 use Rattle.std.proofs.lemmas.Bool.{cond-true, cond-false, or_from, or_parts, or_right, ne_eqb, eqb-true, lt-leb, not_from_false, cases_Bool}
 use Rattle.std.proofs.lemmas.Bool.Decides.{nat_tests}
@@ -23,7 +23,7 @@ use Rattle.url_canon.proofs.Lacking.{Lacks-append, Lacks-back, Lacks-before_firs
 use Rattle.url_canon.proofs.Paths.{normal-escaped, some-path_of, path_of-again, each-path_of}
 use Rattle.url_canon.proofs.Schemes.{IsScheme, scheme_of-is, scheme_of-again, after_scheme-again, Lacks-scheme, safe-scheme, narrow-scheme, no_percent-scheme, Lacks-after_scheme, plain-after_scheme}
 use Rattle.url_canon.proofs.HostAgain.{host_of-again, IsApart, Lacks-host_of, plain-host_of}
-use Rattle.url_canon.proofs.Whole.{canonical_of-short, cleaned-some, parts_of-none, parts_of-some}
+use Rattle.url_canon.proofs.Whole.{canonical_of-short, cleaned-some, parts_of-some}
 
 -- cleaning leaves an escaped text
 
@@ -202,6 +202,7 @@ ends_apart = record {
   dot = refl;
   close = refl;
   figures = λ x low high. or_from (eqb x 47) (eqb x 63) (ne_eqb x 47 (λ e. omega arith)) (ne_eqb x 63 (λ e. omega arith));
+  form = λ x b. or_from (eqb x 47) (eqb x 63) b.no_slash b.no_question;
 }
 
 at_apart : IsApart is_at
@@ -210,6 +211,7 @@ at_apart = record {
   dot = refl;
   close = refl;
   figures = λ x low high. ne_eqb x 64 (λ e. omega arith);
+  form = λ x b. b.no_at;
 }
 
 wide_apart : IsApart is_wide
@@ -218,6 +220,7 @@ wide_apart = record {
   dot = refl;
   close = refl;
   figures = λ x low high. lt-leb 256 x (omega arith);
+  form = λ x b. let small = b.narrow in lt-leb 256 x (omega arith);
 }
 
 Lacks-authority_of : (q : ℕ → Bool) (text : List ℕ) → Lacks q (before_first ends_authority text) → Lacks q (authority_of text)

@@ -4,8 +4,8 @@ use Rattle.std.proofs.lemmas.Bool.{cond-true, cond-false, lt-ltb, le-ltb, cases_
 use Rattle.url_canon.specs.Cleaning.{without_fragment, trimmed}
 use Rattle.url_canon.specs.Unescaping.{unescaped, IsUnescapedOf}
 use Rattle.url_canon.proofs.Unescapes.{unescaped_only}
-use Rattle.url_canon.specs.Parts.{scheme_of, after_scheme, authority_of, after_authority}
-use Rattle.url_canon.specs.Host.{HostParts, host_of}
+use Rattle.url_canon.specs.Parts.{scheme_of, after_scheme, after_authority}
+use Rattle.url_canon.specs.Host.{HostParts}
 use Rattle.url_canon.specs.Url.{Url}
 use Rattle.url_canon.specs.Canonical.{host_in, url_at, parts_of, escaped_parts, canonical_of_cleaned, canonical_of, Answers}
 use Rattle.url_canon.specs.declared.fault.UrlFault.{UrlFault}

@@ -1,5 +1,6 @@
--- The IPv4 addresses among the names of hosts, in the forms that `inet_aton` reads.
-use Rattle.std.specs.Prelude.{◌≡◌, ◌<◌, ℕ, suc, zero, ◌+◌, ◌*◌, ◌/◌, ◌%◌, ◌^◌, List, [], ◌∷◌, ◌++◌, nat_lt, nat_eq, Bool, ◌&&◌, ◌||◌, if◌then◌else◌, Option, Some, None, option_and_then, codes, length, drop, map, fold, decimal}
+-- The IPv4 addresses among the names of hosts, in the forms that `inet_aton` reads (Safe Browsing
+-- v4, "URLs and Hashing", section "Canonicalization", canonicalizing the hostname, steps 3 and 4).
+use Rattle.std.specs.Prelude.{◌≡◌, ◌<◌, ℕ, suc, zero, ◌+◌, ◌*◌, ◌/◌, ◌%◌, ◌^◌, List, [], ◌∷◌, ◌++◌, nat_lt, nat_eq, ◌&&◌, ◌||◌, if◌then◌else◌, Option, Some, None, option_and_then, codes, length, drop, map, fold, decimal}
 use Rattle.std.specs.List.{slice_split, starts_with, list_all}
 use Rattle.std.specs.Char.{digit_value}
 use Rattle.url_canon.specs.Words.{is_dot}
@@ -11,13 +12,17 @@ number_in base digits =
     then Some (fold (λ number digit. base * number + digit_value digit) 0 digits)
     else None
 
--- The number of a part: hexadecimal digits after `0x` or `0X`, octal digits after a 0, and else decimal digits. No other part is a number.
+-- The number of a part: hexadecimal digits after `0x` or `0X`, octal digits after a 0, and else
+-- decimal digits. No other part is a number.
 unfoldable pub number_of : List ℕ → Option ℕ
 number_of part =
-    if starts_with nat_eq part (codes "0x") || starts_with nat_eq part (codes "0X") then number_in 16 (drop 2 part)
-    else (if starts_with nat_eq part (codes "0") && nat_lt 1 (length part) then number_in 8 (drop 1 part) else number_in 10 part)
+    if starts_with nat_eq part (codes "0x") || starts_with nat_eq part (codes "0X")
+    then number_in 16 (drop 2 part)
+    else (if starts_with nat_eq part (codes "0") && nat_lt 1 (length part)
+    then number_in 8 (drop 1 part) else number_in 10 part)
 
--- One to four numbers stand for the four bytes of an address: each but the last is one byte, and the last fills the bytes that are left.
+-- One to four numbers stand for the four bytes of an address: each but the last is one byte, and
+-- the last fills the bytes that are left.
 abbrev pub StandFor : List ℕ → ℕ → ℕ → ℕ → ℕ → Type 0
 StandFor (n ∷ []) a b c d = n ≡ ((a * 256 + b) * 256 + c) * 256 + d
 StandFor (x ∷ n ∷ []) a b c d = (x ≡ a) × (n ≡ (b * 256 + c) * 256 + d)
@@ -40,9 +45,12 @@ abbrev pub address_in : ℕ → List (List ℕ) → Option ℕ
 address_in zero parts = None
 address_in (suc width) [] = None
 address_in (suc width) (part ∷ []) =
-    option_and_then (λ number. if nat_lt number (256 ^ suc width) then Some number else None) (number_of part)
+    option_and_then (λ number. if nat_lt number (256 ^ suc width) then Some number else None)
+    (number_of part)
 address_in (suc width) (part ∷ next ∷ parts) =
-    option_and_then (λ number. option_and_then (λ low. if nat_lt number 256 then Some (number * 256 ^ width + low) else None) (address_in width (next ∷ parts))) (number_of part)
+    option_and_then (λ number. option_and_then
+    (λ low. if nat_lt number 256 then Some (number * 256 ^ width + low) else None)
+    (address_in width (next ∷ parts))) (number_of part)
 
 -- the address that a host's name stands for, of which `IsAddressOf` says what it is
 unfoldable pub address_of : List ℕ → Option ℕ

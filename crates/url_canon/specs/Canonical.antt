@@ -1,4 +1,4 @@
--- The canonical URL of a text.
+-- The canonical URL of a text (Safe Browsing v4, "URLs and Hashing", section "Canonicalization").
 use Rattle.std.specs.Prelude.{◌≡◌, ◌≢◌, ◌≤◌, All, ℕ, List, [], ◌∷◌, nat_lt, if◌then◌else◌, Option, Some, None, Result, Ok, Err, option_map, length, map}
 use Rattle.url_canon.specs.Cleaning.{without_fragment, trimmed}
 use Rattle.url_canon.specs.Unescaping.{unescaped}
@@ -13,7 +13,13 @@ use Rattle.url_canon.specs.declared.fault.UrlFault.TheVariants.{Empty, NoHost, T
 abbrev pub url_at : List ℕ → Option HostParts → List ℕ → Result Url UrlFault
 url_at scheme None rest = Err NoHost
 url_at scheme (Some host) rest =
-    Ok (record { scheme = scheme; host = host.text; path = path_of (path_part rest); query = query_part rest; is_address = host.is_address })
+    Ok (record {
+      scheme = scheme;
+      host = host.text;
+      path = path_of (path_part rest);
+      query = query_part rest;
+      is_address = host.is_address;
+    })
 
 -- the host that an unescaped text names, where it names one
 abbrev pub host_in : List ℕ → Option HostParts
@@ -26,7 +32,11 @@ parts_of plain = url_at (scheme_of plain) (host_in plain) (after_authority (afte
 -- the host, the path and the query escaped
 abbrev pub escaped_url : Url → Url
 escaped_url url =
-    record url { host = escaped url.host; path = map escaped url.path; query = option_map escaped url.query }
+    record url {
+      host = escaped url.host;
+      path = map escaped url.path;
+      query = option_map escaped url.query;
+    }
 
 abbrev pub escaped_parts : Result Url UrlFault → Result Url UrlFault
 escaped_parts (Ok url) = Ok (escaped_url url)
@@ -40,7 +50,8 @@ canonical_of_cleaned (byte ∷ text) = escaped_parts (parts_of (unescaped (byte 
 -- the canonical URL of a text, or its fault
 unfoldable pub canonical_of : List ℕ → Result Url UrlFault
 canonical_of text =
-    if nat_lt 8192 (length text) then Err (TooLong (length text)) else canonical_of_cleaned (trimmed (without_fragment text))
+    if nat_lt 8192 (length text) then Err (TooLong (length text))
+    else canonical_of_cleaned (trimmed (without_fragment text))
 
 -- What the code answers is what the definition says, unless memory is refused.
 abbrev pub Answers : Result Url UrlFault → Result Url UrlFault → Type 0

@@ -1,4 +1,5 @@
--- Percent-encoding (RFC 3986, section 2.1), with digits in upper case.
+-- Percent-encoding (RFC 3986, section 2.1), with digits in upper case: the last step of section
+-- "Canonicalization" of Safe Browsing v4, "URLs and Hashing".
 use Rattle.std.specs.Prelude.{ℕ, ◌+◌, ◌/◌, ◌%◌, List, [], ◌∷◌, ◌==◌, nat_lt, nat_le, Bool, ◌||◌, if◌then◌else◌}
 use Rattle.std.specs.List.{flat_map}
 
@@ -11,7 +12,8 @@ abbrev pub is_unsafe : ℕ → Bool
 is_unsafe byte = (nat_le byte 32 || nat_le 127 byte) || (byte == 35 || byte == 37)
 
 abbrev pub escape_of : ℕ → List ℕ
-escape_of byte = if is_unsafe byte then (37 ∷ hex_digit (byte / 16) ∷ hex_digit (byte % 16) ∷ []) else (byte ∷ [])
+escape_of byte =
+    if is_unsafe byte then (37 ∷ hex_digit (byte / 16) ∷ hex_digit (byte % 16) ∷ []) else (byte ∷ [])
 
 -- the text with each unsafe byte as `%` and two digits
 unfoldable pub escaped : List ℕ → List ℕ

@@ -1,7 +1,11 @@
--- The host of an authority (RFC 3986, section 3.2.2).
-use Rattle.std.specs.Prelude.{ℕ, List, ◌++◌, ◌==◌, Bool, true, false, not, ◌&&◌, if◌then◌else◌, Option, Some, None, filter, codes}
+-- The host of an authority (RFC 3986, section 3.2.2; Safe Browsing v4, "URLs and Hashing", section
+-- "Canonicalization", canonicalizing the hostname). Between its lower case and its address stands the
+-- step for international names (UTS 46).
+use Rattle.std.specs.Prelude.{ℕ, nat_le, List, ◌++◌, ◌==◌, Bool, true, false, not, ◌&&◌, if◌then◌else◌, Option, Some, None, filter, codes}
 use Rattle.std.specs.List.{before_first, slice_split, list_any, join_with_byte}
 use Rattle.std.specs.Str.{str_to_ascii_lowercase}
+use Rattle.idna.specs.Uts46.{domain_to_ascii}
+use Rattle.idna.specs.declared.deny_list.TheConstants.AsciiDenyList.{URL}
 use Rattle.url_canon.specs.Words.{begins_with, is_nil, without_leading, is_dot}
 use Rattle.url_canon.specs.declared.host.Host.{Host}
 use Rattle.url_canon.specs.Address.{address_of, address_text}
@@ -27,9 +31,32 @@ bracketed_host text = str_to_ascii_lowercase (before_first is_close text ++ code
 abbrev pub labels_of : List ℕ → List (List ℕ)
 labels_of text = filter (λ label. not (is_nil label)) (slice_split is_dot text)
 
--- the name before the port in lower case, with one dot between two labels and none at the ends
+-- with one dot between two labels, and none at the ends
+abbrev pub tidied : List ℕ → List ℕ
+tidied name = join_with_byte 46 (labels_of name)
+
+-- the name before the port, tidied and in lower case
 unfoldable pub name_of : List ℕ → List ℕ
-name_of text = str_to_ascii_lowercase (join_with_byte 46 (labels_of (before_first is_colon text)))
+name_of text = str_to_ascii_lowercase (tidied (before_first is_colon text))
+
+-- no ASCII character
+abbrev pub is_high : ℕ → Bool
+is_high byte = nat_le 128 byte
+
+-- the form that ToASCII gave, tidied, or the name where it gave none
+abbrev pub form_or : List ℕ → Option (List ℕ) → List ℕ
+form_or name None = name
+form_or name (Some form) = tidied form
+
+-- A name with other characters than those of ASCII, in ASCII: ToASCII (UTS 46, section 4.2) with the
+-- flags of the URL Standard and its forbidden domain code points. A name that ToASCII refuses, as one
+-- that is not UTF-8, stays.
+unfoldable pub ascii_name : List ℕ → List ℕ
+ascii_name name = if list_any is_high name then form_or name (domain_to_ascii URL name) else name
+
+-- the name of a host that stands in no brackets
+abbrev pub host_name : List ℕ → List ℕ
+host_name text = ascii_name (name_of text)
 
 pub record HostParts : Type 0 where
   pub text : List ℕ
@@ -49,7 +76,7 @@ unfoldable pub host_of : List ℕ → Option HostParts
 host_of text =
     if is_bracketed (without_leading is_dot text)
     then Some (record { text = bracketed_host (without_leading is_dot text); is_address = true })
-    else (if is_nil (name_of text) then None else Some (named_host (name_of text)))
+    else (if is_nil (host_name text) then None else Some (named_host (host_name text)))
 
 -- a host of the code by its parts
 abbrev pub view : Host → HostParts

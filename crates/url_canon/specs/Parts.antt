@@ -11,11 +11,14 @@ is_scheme_byte byte = is_ascii_alphanumeric byte || (byte == 43 || (byte == 45 |
 
 -- a letter, then other bytes of a scheme, and then `://`
 abbrev pub has_scheme : List ℕ → Bool
-has_scheme text = begins_with is_ascii_alphabetic text && starts_with nat_eq (without_leading is_scheme_byte text) (codes "://")
+has_scheme text =
+    begins_with is_ascii_alphabetic text
+    && starts_with nat_eq (without_leading is_scheme_byte text) (codes "://")
 
 -- the scheme in lower case, which is `http` where the text has none
 unfoldable pub scheme_of : List ℕ → List ℕ
-scheme_of text = if has_scheme text then str_to_ascii_lowercase (take_while is_scheme_byte text) else codes "http"
+scheme_of text =
+    if has_scheme text then str_to_ascii_lowercase (take_while is_scheme_byte text) else codes "http"
 
 unfoldable pub after_scheme : List ℕ → List ℕ
 after_scheme text = if has_scheme text then drop 3 (without_leading is_scheme_byte text) else text

@@ -1,4 +1,6 @@
--- The path of a URL as its components (RFC 3986, section 3.3), and what `.` and `..` do (section 5.2.4).
+-- The path of a URL as its components, which RFC 3986 calls segments (section 3.3), without its dot
+-- segments (section 5.2.4) and without runs of slashes (Safe Browsing v4, "URLs and Hashing", section
+-- "Canonicalization", canonicalizing the path).
 use Rattle.std.specs.Prelude.{◌≡◌, ◌≢◌, ◌<◌, All, false, ℕ, ◌-◌, List, [], ◌∷◌, ◌++◌, ◌==◌, Bool, ◌||◌, if◌then◌else◌, codes, length, take, drop, fold, bytes_eq}
 use Rattle.std.specs.List.{flat_map, slice_split}
 use Rattle.url_canon.specs.Words.{is_nil, last_part}
@@ -28,9 +30,11 @@ is_dot_segment component = is_single_dot component || is_double_dot component
 abbrev pub with_component : List (List ℕ) → List ℕ → List (List ℕ)
 with_component before component =
     if is_single_dot component then before
-    else (if is_double_dot component then take (length before - 1) before else before ++ component ∷ [])
+    else (if is_double_dot component
+    then take (length before - 1) before else before ++ component ∷ [])
 
--- the components with `.` and `..` carried out; where the last was one of these, an empty one is last
+-- the components with `.` and `..` carried out; where the last was one of these, an empty one is
+-- last
 unfoldable pub without_dot_segments : List (List ℕ) → List (List ℕ)
 without_dot_segments components =
     fold with_component [] components
@@ -41,7 +45,8 @@ abbrev pub without_empty : List (List ℕ) → List (List ℕ)
 without_empty [] = []
 without_empty (component ∷ []) = component ∷ []
 without_empty (component ∷ next ∷ components) =
-    if is_nil component then without_empty (next ∷ components) else (component ∷ without_empty (next ∷ components))
+    if is_nil component then without_empty (next ∷ components)
+    else (component ∷ without_empty (next ∷ components))
 
 -- the components of a canonical path
 unfoldable pub path_of : List ℕ → List (List ℕ)

@@ -1,4 +1,5 @@
--- Words that several of the definitions here need: a dot, and cuts of a list that std has no word for.
+-- Words that several of the definitions here need: a dot, and cuts of a list that std has no word
+-- for.
 use Rattle.std.specs.Prelude.{ℕ, ◌==◌, List, [], ◌∷◌, Bool, true, false, drop, reverse}
 use Rattle.std.specs.List.{prefix_len, position_or_len}
 

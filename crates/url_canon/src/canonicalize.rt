@@ -88,7 +88,7 @@ fn canonical_of_line(alloc: Global, line: &[u8]) -> Result<CanonicalUrl, UrlFaul
 ///
 /// `TooLong` is looked at first. `Empty` comes where nothing is left of the text without its
 /// fragment, its tabs and line ends and the spaces around it, and `NoHost` where the authority
-/// without its user and its port has only dots.
+/// without its user and its port has only dots, also where ToASCII made them or left nothing.
 pub fn canonical(alloc: Global, text: &[u8]) -> Result<CanonicalUrl, UrlFault>
     ensures exact { Answers result (canonical_of text.now) }
     // Whichever steps unescape what is kept of the text, they lead to its URL.

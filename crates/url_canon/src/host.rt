@@ -1,11 +1,14 @@
 ghost use Rattle.std.specs.Prelude.{◌≡◌, ◌∷◌, ◌++◌, true, false, if◌then◌else◌, IfOk, OnOk, MatchOption, codes, option_map};
-ghost use Rattle.std.specs.List.{before_first, join_with_byte};
+ghost use Rattle.std.specs.List.{before_first, list_any};
+ghost use Rattle.idna.specs.Uts46.{domain_to_ascii};
+ghost use Rattle.idna.specs.declared.deny_list.TheConstants.AsciiDenyList.{URL};
 ghost use Rattle.std.specs.Str.{str_to_ascii_lowercase};
 ghost use Rattle.url_canon.specs.Words.{begins_with, is_nil};
-ghost use Rattle.url_canon.specs.Host.{is_open, is_bracketed, is_close, labels_of, name_of, named_host, host_of, view};
+ghost use Rattle.url_canon.specs.Host.{is_open, is_bracketed, is_close, tidied, name_of, is_high, ascii_name, named_host, host_of, view};
 
 use crate::address::{address_of, append_address};
 use crate::split::{place_of, split_at_byte, without_leading};
+use idna::{AsciiDenyList, Errors, domain_to_ascii_cow};
 use sb_model::{Bytes, OutOfMemory};
 use std::alloc::Global;
 
@@ -80,9 +83,9 @@ fn append_label(out: &mut Vec<u8>, label: &[u8]) -> Result<(), OutOfMemory>
     Ok(())
 }
 
-/// The labels of a name that are not empty, with one dot between two and none at the ends.
-fn joined_labels(alloc: Global, text: &[u8]) -> Result<Vec<u8>, OutOfMemory>
-    ensures { IfOk result (λ name. name.items ≡ join_with_byte 46 (labels_of text.now)) }
+/// A name with one dot between two labels, and none at the ends.
+fn tidied(alloc: Global, text: &[u8]) -> Result<Vec<u8>, OutOfMemory>
+    ensures { IfOk result (λ name. name.items ≡ tidied text.now) }
 {
     let mut name = Vec::with_capacity(alloc, text.len())?;
     let mut rest = Some(text);
@@ -100,9 +103,41 @@ fn name_of(alloc: Global, text: &[u8]) -> Result<Vec<u8>, OutOfMemory>
     ensures { IfOk result (λ name. name.items ≡ name_of text.now) }
 {
     let (before_port, _) = split_at_byte(text, b':');
-    let mut name = joined_labels(alloc, before_port)?;
+    let mut name = tidied(alloc, before_port)?;
     lower(name.as_mut_slice());
     Ok(name)
+}
+
+/// The form in ASCII that ToASCII gives a name, with its dots tidied; `None` where it refuses the name.
+fn ascii_form(alloc: Global, name: &[u8]) -> Result<Option<Vec<u8>>, OutOfMemory>
+    ensures { IfOk result (λ form. option_map (λ f. f.items) form
+        ≡ option_map tidied (domain_to_ascii URL name.now)) }
+{
+    match domain_to_ascii_cow(alloc, name, AsciiDenyList::URL) {
+        Ok(form) => Ok(Some(tidied(alloc, form.as_bytes())?)),
+        Err(Errors::Invalid) => Ok(None),
+        Err(Errors::OutOfMemory) => Err(OutOfMemory),
+    }
+}
+
+/// Whether a name has a byte that is no ASCII character.
+fn has_high(name: &[u8]) -> bool
+    ensures { result ≡ list_any is_high name.now }
+{
+    name.iter().any(|byte| *byte >= 128)
+}
+
+/// A name in ASCII, where it has other characters and ToASCII accepts it.
+fn ascii_name(alloc: Global, name: Vec<u8>) -> Result<Vec<u8>, OutOfMemory>
+    ensures { IfOk result (λ form. form.items ≡ ascii_name name.items) }
+{
+    if !has_high(name.as_slice()) {
+        return Ok(name);
+    }
+    match ascii_form(alloc, name.as_slice())? {
+        None => Ok(name),
+        Some(form) => Ok(form),
+    }
 }
 
 /// A name as a host: four decimals where it is an IPv4 address, and else the name.
@@ -139,7 +174,7 @@ pub fn host_of(alloc: Global, text: &[u8]) -> Result<Option<Host>, OutOfMemory>
             is_address: true,
         }));
     }
-    let name = name_of(alloc, text)?;
+    let name = ascii_name(alloc, name_of(alloc, text)?)?;
     if name.is_empty() {
         return Ok(None);
     }

@@ -5,6 +5,7 @@
 pub use address::address_has_four_bytes;
 pub use canonicalize::canonical;
 pub use fault::UrlFault;
+pub use path::canonical_paths_are_normal;
 pub use unescape::unescaping_has_one_end;
 pub use url::CanonicalUrl;
 

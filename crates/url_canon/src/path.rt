@@ -1,8 +1,8 @@
-ghost use Rattle.std.specs.Prelude.{◌≡◌, ◌++◌, ◌∷◌, [], ◌||◌, not, if◌then◌else◌, length, ◌≤◌, map, IfOk, OnOk};
+ghost use Rattle.std.specs.Prelude.{ℕ, List, ◌≡◌, ◌++◌, ◌∷◌, [], ◌||◌, not, if◌then◌else◌, length, ◌≤◌, map, IfOk, OnOk};
 ghost use Rattle.std.specs.List.{slice_split};
 ghost use Rattle.url_canon.specs.Words.{is_nil};
 ghost use Rattle.url_canon.specs.Escaping.{escaped};
-ghost use Rattle.url_canon.specs.Path.{is_slash, is_single_dot, is_double_dot, with_component, without_dot_segments, without_empty, path_of, path_text};
+ghost use Rattle.url_canon.specs.Path.{IsNormalPath, is_slash, is_single_dot, is_double_dot, with_component, without_dot_segments, without_empty, path_of, path_text};
 
 use crate::escape::append_escaped;
 use crate::split::split_at_byte;
@@ -111,3 +111,9 @@ pub fn append_path(out: &mut Bytes, alloc: Global, path: &[u8]) -> Result<(), Ou
     let components = without_dot_segments(alloc, after_slash)?;
     append_components(out, components.as_slice())
 }
+
+/// A canonical path has a component, none with a slash, none that is a dot segment, and none but the
+/// last that is empty.
+pub fn canonical_paths_are_normal()
+    ensures { (path : List ℕ) → IsNormalPath (path_of path) }
+{}

@@ -1,10 +1,9 @@
 -- Hosts and paths are freed of repeats apart.
-use Rattle.std.proofs.Common.{◌≡◌, ℕ, List, [], ◌∷◌, ◌++◌, Bool, true, false, not, cond, ◌||◌, ◌&&◌, refl, sym, ap, subst, ◌∙◌, append_assoc, ⊎_elim}
+use Rattle.std.proofs.Common.{◌≡◌, ℕ, List, [], ◌∷◌, ◌++◌, Bool, true, false, not, cond, ◌||◌, refl, sym, ap, subst, ◌∙◌, ⊎_elim}
 use Rattle.std.specs.Prelude.{filter, map}
-use Rattle.std.specs.List.{list_any, flat_map, AllByRecursion}
+use Rattle.std.specs.List.{list_any, AllByRecursion}
 use Rattle.std.specs.Str.{bytes_eq}
 use Rattle.std.proofs.lemmas.Bool.{false_from_ne_true, cond_both, cond-true, cond-false, or_from, or_right, cases_Bool, false≢true}
-use Rattle.std.proofs.lemmas.List.{append-nil, map-append}
 use Rattle.std.proofs.lemmas.List.Elements.{filter-append}
 use Rattle.std.proofs.lemmas.Slice.Eq.{bytes_eq-Decides}
 use Rattle.url_expressions.specs.Expressions.{first_occurrences, combinations}
@@ -133,12 +132,12 @@ filter-hosts h (g ∷ hs) ps qs k l r s i =
     filter-append (absent (map (λ p. h ++ p) ps)) (map (λ p. g ++ p) qs) (combinations hs qs)
     ∙ ap (λ t. filter (absent (map (λ p. h ++ p) ps)) (map (λ p. g ++ p) qs) ++ t) (filter-hosts h hs ps qs k l.1 r s i)
     ∙ ⊎_elim
-      (λ yes. let is = (bytes_eq-Decides g h).0 yes in
-        ap (λ t. t ++ combinations (filter (differs h) hs) qs) (subst (λ z. filter (absent (map (λ p. h ++ p) ps)) (map (λ p. z ++ p) qs) ≡ []) (sym is) (same_host h ps qs i))
-        ∙ ap (λ t. combinations t qs) (sym (cond-false (differs h g) (g ∷ filter (differs h) hs) (filter (differs h) hs) (ap not yes))))
-      (λ other. ap (λ t. t ++ combinations (filter (differs h) hs) qs) (other_host h g ps qs k l.0 other r s)
-        ∙ ap (λ t. combinations t qs) (sym (cond-true (differs h g) (g ∷ filter (differs h) hs) (filter (differs h) hs) (ap not other))))
-      (cases_Bool (bytes_eq g h))
+    (λ yes. let is = (bytes_eq-Decides g h).0 yes in
+    ap (λ t. t ++ combinations (filter (differs h) hs) qs) (subst (λ z. filter (absent (map (λ p. h ++ p) ps)) (map (λ p. z ++ p) qs) ≡ []) (sym is) (same_host h ps qs i))
+    ∙ ap (λ t. combinations t qs) (sym (cond-false (differs h g) (g ∷ filter (differs h) hs) (filter (differs h) hs) (ap not yes))))
+    (λ other. ap (λ t. t ++ combinations (filter (differs h) hs) qs) (other_host h g ps qs k l.0 other r s)
+    ∙ ap (λ t. combinations t qs) (sym (cond-true (differs h g) (g ∷ filter (differs h) hs) (filter (differs h) hs) (ap not other))))
+    (cases_Bool (bytes_eq g h))
 
 kept : (P : List ℕ → Type 0) (p : List ℕ → Bool) (xs : List (List ℕ)) → AllByRecursion P xs → AllByRecursion P (filter p xs)
 kept P p [] h = tt

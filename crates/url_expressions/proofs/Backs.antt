@@ -1,12 +1,12 @@
 -- The hosts of a URL as backs of its host, and that none has a slash.
-use Rattle.std.proofs.Common.{◌≡◌, ℕ, zero, suc, ◌+◌, ◌-◌, ◌<◌, ◌≤◌, All, List, [], ◌∷◌, ◌++◌, Bool, true, false, cond, eqb, ◌||◌, length, take, drop, get_or, refl, sym, ap, subst, ◌∙◌, arith, append_assoc}
+use Rattle.std.proofs.Common.{◌≡◌, ℕ, zero, suc, ◌+◌, ◌-◌, ◌<◌, ◌≤◌, All, List, [], ◌∷◌, ◌++◌, Bool, true, false, cond, length, take, drop, get_or, refl, sym, ap, subst, ◌∙◌, arith}
 use Rattle.std.specs.Prelude.{map, filter, nat_le}
 use Rattle.std.specs.List.{list_any, slice_split, onto_first, join_with_byte, AllByRecursion}
 use Rattle.std.proofs.lemmas.Bool.{cond_both, or_from, or_parts, ne_eqb}
 use Rattle.std.proofs.lemmas.List.{append-nil}
 use Rattle.std.proofs.lemmas.List.Elements.{All-cons, All-nil}
 use Rattle.url_canon.specs.Words.{is_dot}
-use Rattle.url_expressions.specs.Expressions.{components, last_components, shorter_hosts, hosts_of, first_occurrences}
+use Rattle.url_expressions.specs.Expressions.{components, last_components, hosts_of, first_occurrences}
 use Rattle.url_expressions.proofs.Search.{Lacks, is_slash, lacks_from}
 use Rattle.url_expressions.proofs.Components.{joined_components, hosts_more}
 use Rattle.url_expressions.proofs.Pieces.{pushed, backs_apart, pushed_piece}

@@ -1,14 +1,13 @@
 -- Expressions as pieces of a URL's text.
-use Rattle.std.proofs.Common.{◌≡◌, ◌≢◌, ℕ, ◌+◌, ◌-◌, ◌<◌, ◌≤◌, All, List, [], ◌∷◌, ◌++◌, Bool, true, false, not, cond, length, take, drop, get_or, Option, Some, None, refl, sym, ap, subst, ◌∙◌, arith, append_assoc, length-append, length-drop}
-use Rattle.std.specs.Prelude.{map, filter}
+use Rattle.std.proofs.Common.{◌≡◌, ℕ, ◌+◌, ◌-◌, ◌<◌, ◌≤◌, All, List, [], ◌∷◌, ◌++◌, not, cond, length, take, drop, get_or, Option, Some, None, refl, sym, ap, subst, ◌∙◌, arith, append_assoc, length-append, length-drop}
+use Rattle.std.specs.Prelude.{map}
 use Rattle.std.specs.List.{flat_map, AllByRecursion}
-use Rattle.std.specs.Str.{bytes_eq}
 use Rattle.std.proofs.lemmas.List.{append-nil, drop-append-le, take_all, take_rest, take_more, flat_map_more}
 use Rattle.std.proofs.lemmas.List.Elements.{recursion_from_All, All-nil}
 use Rattle.std.proofs.Math.Seq.{take-append-add, take-append_seam, drop-append_seam}
-use Rattle.url_canon.specs.Path.{path_text, IsNormalPath}
+use Rattle.url_canon.specs.Path.{path_text}
 use Rattle.url_canon.specs.Url.{query_text}
-use Rattle.url_expressions.specs.Expressions.{first_occurrences, combinations, path_with_query, paths_of, folders_of, folder_text, fronts}
+use Rattle.url_expressions.specs.Expressions.{first_occurrences, combinations, path_with_query, paths_of, folders_of, folder_text}
 use Rattle.url_expressions.proofs.Occurrences.{equal}
 use Rattle.url_expressions.proofs.Apart.{IsRooted}
 use Rattle.url_expressions.proofs.Pieces.{pushed, fronts_apart, pushed_piece, pushed_within}

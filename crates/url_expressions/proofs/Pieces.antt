@@ -1,11 +1,11 @@
 -- Texts that are pieces of one text, told apart by their places.
-use Rattle.std.proofs.Common.{◌≡◌, ℕ, ◌≤◌, List, [], ◌∷◌, ◌++◌, Bool, true, false, eqb, cond, ◌||◌, length, take, drop, refl, sym, ap, subst, ◌∙◌, arith, length-drop, length-take, ⊎_elim, All}
+use Rattle.std.proofs.Common.{◌≡◌, ℕ, ◌≤◌, List, [], ◌∷◌, ◌++◌, Bool, true, false, eqb, cond, ◌||◌, length, take, drop, refl, sym, ap, ◌∙◌, arith, length-drop, ⊎_elim, All}
 use Rattle.std.specs.Prelude.{map}
 use Rattle.std.specs.List.{list_any, AllByRecursion}
 use Rattle.std.specs.Str.{bytes_eq}
 use Rattle.std.proofs.lemmas.Bool.{false_from_ne_true, eqb-true, eqb-false, cases_Bool, cond_both}
 use Rattle.std.proofs.lemmas.List.{map-append, length-take-le}
-use Rattle.std.proofs.lemmas.List.Elements.{recursion_from_All, All-from_recursion, All-append, All-cons, All-nil}
+use Rattle.std.proofs.lemmas.List.Elements.{recursion_from_All, All-append, All-cons, All-nil}
 use Rattle.std.proofs.lemmas.Slice.Eq.{bytes_eq-Decides}
 use Rattle.url_expressions.specs.Expressions.{first_occurrences}
 use Rattle.url_expressions.proofs.Occurrences.{with_new, first_occurrences_push}

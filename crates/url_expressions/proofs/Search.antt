@@ -1,5 +1,5 @@
 -- What a search for a byte finds.
-use Rattle.std.proofs.Common.{◌≡◌, ℕ, suc, ◌<◌, ◌≤◌, List, [], ◌∷◌, Bool, true, false, eqb, cond, ltb, length, get_or, take, Option, Some, None, refl, sym, ap, ◌∙◌, arith}
+use Rattle.std.proofs.Common.{◌≡◌, ℕ, suc, ◌<◌, List, [], ◌∷◌, Bool, false, eqb, ltb, length, get_or, take, Option, Some, None, refl, ap, ◌∙◌, arith}
 use Rattle.std.specs.List.{list_any, position, position_or_len}
 use Rattle.std.proofs.lemmas.Bool.{false_from_ne_true, cond-true, cond-false, lt-ltb, le-ltb, or_from}
 use Rattle.std.proofs.lemmas.List.{length-take-le, get_or-take}

@@ -1,5 +1,5 @@
--- The expressions of a canonical URL: hosts and paths that it lies under (Safe Browsing v4, "URLs and Hashing",
--- "Suffix/prefix expressions").
+-- The expressions of a canonical URL: hosts and paths that it lies under (Safe Browsing v4, "URLs and
+-- Hashing", section "Suffix/prefix expressions").
 use Rattle.std.specs.Prelude.{ℕ, ◌-◌, List, [], ◌∷◌, ◌++◌, Bool, not, nat_le, Option, None, Some, map, filter, length, take, drop, if◌then◌else◌}
 use Rattle.std.specs.List.{flat_map, join_with_byte, slice_split}
 use Rattle.std.specs.Str.{bytes_eq}
@@ -13,11 +13,14 @@ components host = slice_split is_dot host
 
 -- the last `n` components of a host, with the dots between them
 unfoldable pub last_components : ℕ → List ℕ → List ℕ
-last_components n host = join_with_byte 46 (drop (length (components host) - n) (components host))
+last_components n host =
+    join_with_byte 46 (drop (length (components host) - n) (components host))
 
 -- its last 5, 4, 3 and 2 components, where it has so many
 abbrev pub shorter_hosts : List ℕ → List (List ℕ)
-shorter_hosts host = map (λ n. last_components n host) (filter (λ n. nat_le n (length (components host))) (5 ∷ 4 ∷ 3 ∷ 2 ∷ []))
+shorter_hosts host =
+    map (λ n. last_components n host)
+    (filter (λ n. nat_le n (length (components host))) (5 ∷ 4 ∷ 3 ∷ 2 ∷ []))
 
 -- the exact host, and then the shorter ones, unless it is an address
 abbrev pub hosts_of : List ℕ → Bool → List (List ℕ)
@@ -56,4 +59,6 @@ first_occurrences (x ∷ xs) = x ∷ filter (λ y. not (bytes_eq y x)) (first_oc
 
 -- The expressions of a URL.
 abbrev pub expressions_of : Url → List (List ℕ)
-expressions_of url = first_occurrences (combinations (hosts_of url.host url.is_address) (paths_of url.path url.query))
+expressions_of url =
+    first_occurrences
+    (combinations (hosts_of url.host url.is_address) (paths_of url.path url.query))

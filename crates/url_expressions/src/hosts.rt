@@ -73,11 +73,7 @@ fn push_last(
 
 /// The places at which the hosts of a URL begin: the exact host, and unless it is an address its last
 /// 5, 4, 3 and 2 components, where it has so many, each once.
-pub fn host_places(
-    alloc: Global,
-    host: &[u8],
-    is_address: bool,
-) -> Result<Vec<usize>, OutOfMemory>
+pub fn host_places(alloc: Global, host: &[u8], is_address: bool) -> Result<Vec<usize>, OutOfMemory>
     ensures within { IfOk result (λ places. All (λ place. place ≤ length host.now) places.items) }
     ensures value { IfOk result (λ places. map (λ place. drop place host.now) places.items
         ≡ first_occurrences (hosts_of host.now is_address)) }

@@ -24,7 +24,7 @@ fn push_folders(lens: &mut Vec<usize>, path: &[u8]) -> Result<(), OutOfMemory>
         → All (λ len. len ≤ length (path.now ++ rest)) lens.old.items
         → map (λ len. take len (path.now ++ rest)) lens.old.items ≡ first_occurrences texts
         → map (λ len. take len (path.now ++ rest)) lens.new.items
-            ≡ first_occurrences (texts ++ folders_of path_components)) }
+        ≡ first_occurrences (texts ++ folders_of path_components)) }
 {
     let mut from = 0;
     for _ in 0..FOLDERS {
@@ -50,7 +50,7 @@ pub fn path_lens(
         → IsNormalPath path_components → path.now ≡ path_text path_components
         → path_and_query.now ≡ path.now ++ query_text query
         → map (λ len. take len path_and_query.now) lens.items
-            ≡ first_occurrences (paths_of path_components query)) }
+        ≡ first_occurrences (paths_of path_components query)) }
 {
     let mut lens = Vec::with_capacity(alloc, PATHS)?;
     push_new(&mut lens, path_and_query.len())?;

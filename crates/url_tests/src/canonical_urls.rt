@@ -32,7 +32,12 @@ fn at_bar(line: &[u8]) -> Option<(&[u8], &[u8])> {
 }
 
 /// Checks each line of a table, whose hosts are all addresses or all none.
-fn check_table(rt: &impl Abort, alloc: Global, table: &str, is_address: bool) -> Result<(), Fail> {
+pub fn check_table(
+    rt: &impl Abort,
+    alloc: Global,
+    table: &str,
+    is_address: bool,
+) -> Result<(), Fail> {
     for line in table.as_bytes().split(|byte| *byte == b'\n') {
         let (text, wanted) = at_bar(line).ok_or("no bar")?;
         check(rt, alloc, text, wanted, is_address)?;
@@ -49,7 +54,7 @@ fn check_fault(rt: &impl Abort, alloc: Global, text: &[u8], wanted: UrlFault) {
 }
 
 /// Checks that each line of a table is refused.
-fn check_refused(rt: &impl Abort, alloc: Global, table: &str, wanted: UrlFault) {
+pub fn check_refused(rt: &impl Abort, alloc: Global, table: &str, wanted: UrlFault) {
     for line in table.as_bytes().split(|byte| *byte == b'\n') {
         check_fault(rt, alloc, line, wanted);
     }

@@ -6,3 +6,5 @@
 mod canonical_urls;
 #[cfg(test)]
 mod expressions;
+#[cfg(test)]
+mod international;

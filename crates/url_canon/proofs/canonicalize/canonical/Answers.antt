@@ -1,11 +1,10 @@
-use Rattle.std.proofs.Common.{◌≡◌, ◌↔◌, ℕ, List, not, ◌≤◌, ◌<◌, length, Result, Err, sym, ap, subst, ◌∙◌, arith}
-use Rattle.std.specs.List.{before_first, filter, list_any}
-
+use Rattle.std.proofs.Common.{◌≡◌, ℕ, List, not, ◌≤◌, ◌<◌, length, Result, Err, sym, ap, subst, ◌∙◌, arith}
+use Rattle.std.specs.List.{before_first, filter}
 use Rattle.url_canon.specs.Cleaning.{is_hash, is_line_byte, without_fragment, trimmed}
 use Rattle.url_canon.specs.Url.{Url}
 use Rattle.url_canon.specs.Canonical.{canonical_of, canonical_of_cleaned, Answers}
 use Rattle.url_canon.specs.declared.fault.UrlFault.{UrlFault}
-use Rattle.url_canon.specs.declared.fault.UrlFault.TheVariants.{Empty, NoHost, TooLong, OutOfMemory}
+use Rattle.url_canon.specs.declared.fault.UrlFault.TheVariants.{Empty, NoHost, TooLong}
 use Rattle.url_canon.proofs.Stays.{filter_all}
 use Rattle.url_canon.proofs.Whole.{canonical_of-long, canonical_of-short, empty_when, no_host_when, too_long_when, decides, told, by_steps}
 use Rattle.url_canon.proofs.canonicalize.canonical.Goals as goal

@@ -1,7 +1,6 @@
-use Rattle.std.proofs.Common.{◌≡◌, ap, sym, ◌∙◌, subst, arith}
-use Rattle.std.specs.List.{before_first}
+use Rattle.std.proofs.Common.{ap, sym, ◌∙◌, subst, arith}
 use Rattle.std.proofs.lemmas.Bool.{eqb-true, eqb-false}
-use Rattle.url_canon.specs.Cleaning.{is_hash, trimmed}
+use Rattle.url_canon.specs.Cleaning.{trimmed}
 use Rattle.url_canon.specs.Unescaping.{HasNoEscape}
 use Rattle.url_canon.specs.Canonical.{parts_of, escaped_parts, canonical_of_cleaned, Answers}
 use Rattle.url_canon.proofs.Unescapes.{unescaped_is}

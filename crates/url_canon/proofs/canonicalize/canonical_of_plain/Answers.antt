@@ -1,16 +1,15 @@
-use Rattle.std.proofs.Common.{◌≡◌, ℕ, ◌<◌, get_or, subst, List, ◌++◌, Option, Some, None, Bool, cond, map, Result, Ok, option_map, option_copied, sym, ap, ◌∙◌, arith}
+use Rattle.std.proofs.Common.{◌≡◌, ℕ, ◌<◌, get_or, subst, List, ◌++◌, Option, Some, None, cond, map, Result, Ok, option_map, option_copied, sym, ap, ◌∙◌, arith}
 use Rattle.std.specs.List.{before_first, after_first, slice_split, list_any}
 use Rattle.url_canon.specs.Words.{last_part}
 use Rattle.url_canon.specs.Unescaping.{HasNoEscape}
 use Rattle.url_canon.specs.Escaping.{escaped}
 use Rattle.url_canon.specs.Parts.{ends_authority, is_at, scheme_of, after_scheme, authority_of, after_authority, is_question, path_part, query_part}
 use Rattle.url_canon.specs.Host.{HostParts, host_of, view}
-use Rattle.url_canon.specs.Path.{path_text, components_of, path_of}
+use Rattle.url_canon.specs.Path.{path_text, path_of}
 use Rattle.url_canon.specs.Url.{Url, query_text, IsLaidOut, url_at_places}
 use Rattle.url_canon.specs.Canonical.{host_in, parts_of, IsCanonical, escaped_url, escaped_parts}
 use Rattle.url_canon.specs.declared.fault.UrlFault.{UrlFault}
 use Rattle.url_canon.proofs.Whole.{parts_of-none, parts_of-some}
-use Rattle.std.specs.Str.{str_to_ascii_lowercase}
 use Rattle.url_canon.proofs.Escapes.{AreBytes-from}
 use Rattle.url_canon.proofs.Stays.{canonical-read}
 use Rattle.url_canon.proofs.Laid.{laid_out, at_places}
@@ -64,13 +63,13 @@ new-requires c =
     let path_is = path_from plain rest tail c.split_at_byte.result.0.now rest_is c.split_authority.ensures.after c.split_at_byte.ensures.before in
     let query_is = query_from plain rest tail (option_copied c.split_at_byte.result.1) rest_is c.split_authority.ensures.after c.split_at_byte.ensures.after in
     let laid = laid_out (parts plain (view host)) c.in_ok-text.text c.append_lowercase.new.out c.append.new.self c.append_escaped.new.out c.append_path.new.out c.append_query.new.out c.len-host_at.result c.len-path_at.result c.len-query_at.result
-      c.in_ok-text.ensures
-      (c.in_ok-append_lowercase.ensures ∙ ap (λ s. c.in_ok-text.text ++ s) c.split_scheme.ensures.scheme)
-      c.in_ok-append.ensures.ok
-      (c.in_ok-append_escaped.ensures ∙ ap (λ t. c.append.new.self ++ escaped t) c.as_slice.ensures)
-      (c.in_ok-append_path.ensures ∙ ap (λ t. c.append_escaped.new.out ++ path_text (map escaped (path_of t))) path_is)
-      (c.in_ok-append_query.ensures ∙ ap (λ o. c.append_path.new.out ++ query_text (option_map escaped o)) query_is)
-      c.len-host_at.ensures c.len-path_at.ensures c.len-query_at.ensures in
+    c.in_ok-text.ensures
+    (c.in_ok-append_lowercase.ensures ∙ ap (λ s. c.in_ok-text.text ++ s) c.split_scheme.ensures.scheme)
+    c.in_ok-append.ensures.ok
+    (c.in_ok-append_escaped.ensures ∙ ap (λ t. c.append.new.self ++ escaped t) c.as_slice.ensures)
+    (c.in_ok-append_path.ensures ∙ ap (λ t. c.append_escaped.new.out ++ path_text (map escaped (path_of t))) path_is)
+    (c.in_ok-append_query.ensures ∙ ap (λ o. c.append_path.new.out ++ query_text (option_map escaped o)) query_is)
+    c.len-host_at.ensures c.len-path_at.ensures c.len-query_at.ensures in
     let all = built plain c.append_query.new.out c.len-host_at.result c.len-path_at.result c.len-query_at.result (view host) c.requires (λ i. omega (arith, c.type_inv.plain i)) at_host laid in
     record { places = all.0; canonical = all.1 }
 
@@ -86,12 +85,12 @@ returns c =
     let path_is = path_from plain rest tail c.split_at_byte.result.0.now rest_is c.split_authority.ensures.after c.split_at_byte.ensures.before in
     let query_is = query_from plain rest tail (option_copied c.split_at_byte.result.1) rest_is c.split_authority.ensures.after c.split_at_byte.ensures.after in
     let laid = laid_out (parts plain (view host)) c.in_ok-text.text c.append_lowercase.new.out c.append.new.self c.append_escaped.new.out c.append_path.new.out c.append_query.new.out c.len-host_at.result c.len-path_at.result c.len-query_at.result
-      c.in_ok-text.ensures
-      (c.in_ok-append_lowercase.ensures ∙ ap (λ s. c.in_ok-text.text ++ s) c.split_scheme.ensures.scheme)
-      c.in_ok-append.ensures.ok
-      (c.in_ok-append_escaped.ensures ∙ ap (λ t. c.append.new.self ++ escaped t) c.as_slice.ensures)
-      (c.in_ok-append_path.ensures ∙ ap (λ t. c.append_escaped.new.out ++ path_text (map escaped (path_of t))) path_is)
-      (c.in_ok-append_query.ensures ∙ ap (λ o. c.append_path.new.out ++ query_text (option_map escaped o)) query_is)
-      c.len-host_at.ensures c.len-path_at.ensures c.len-query_at.ensures in
+    c.in_ok-text.ensures
+    (c.in_ok-append_lowercase.ensures ∙ ap (λ s. c.in_ok-text.text ++ s) c.split_scheme.ensures.scheme)
+    c.in_ok-append.ensures.ok
+    (c.in_ok-append_escaped.ensures ∙ ap (λ t. c.append.new.self ++ escaped t) c.as_slice.ensures)
+    (c.in_ok-append_path.ensures ∙ ap (λ t. c.append_escaped.new.out ++ path_text (map escaped (path_of t))) path_is)
+    (c.in_ok-append_query.ensures ∙ ap (λ o. c.append_path.new.out ++ query_text (option_map escaped o)) query_is)
+    c.len-host_at.ensures c.len-path_at.ensures c.len-query_at.ensures in
     let all = built plain c.append_query.new.out c.len-host_at.result c.len-path_at.result c.len-query_at.result (view host) c.requires (λ i. omega (arith, c.type_inv.plain i)) at_host laid in
     all.2 ∙ ap fine (sym c.new.ensures)

@@ -1,4 +1,4 @@
-use Rattle.std.proofs.Common.{◌≡◌, ℕ, List, ◌∷◌, ◌++◌, [], map, option_copied, cond, ◌||◌, ap, sym, ◌∙◌}
+use Rattle.std.proofs.Common.{◌≡◌, ℕ, List, ◌∷◌, ◌++◌, [], map, option_copied, cond, ap, sym, ◌∙◌}
 use Rattle.std.specs.List.{fold, slice_split}
 use Rattle.url_canon.specs.Words.{last_part}
 use Rattle.url_canon.specs.Path.{is_slash, is_dot_segment, with_component, without_dot_segments}

@@ -1,4 +1,4 @@
-use Rattle.std.proofs.Common.{◌∷◌, drop, sym, ap, ◌∙◌, arith}
+use Rattle.std.proofs.Common.{◌∷◌, drop, sym, ap, ◌∙◌}
 use Rattle.std.proofs.lemmas.Bool.{ne_eqb}
 use Rattle.std.proofs.lemmas.List.{take_rest}
 use Rattle.url_canon.specs.Unescaping.{with_byte}

@@ -1,4 +1,3 @@
-use Rattle.std.proofs.Common.{arith}
 use Rattle.url_canon.proofs.Inplace.{spells}
 use Rattle.url_canon.proofs.unescape.spelled.Goals as goal
 

@@ -9,5 +9,5 @@ invariant-loop-place l = record {
   len : length l.bytes ≡ length l.fn.bytes;
   within : l.top ≤ length l.bytes;
   front : take l.place l.bytes ≡ take l.place l.fn.bytes;
-  value : drop l.top l.bytes ≡ unescaped (drop l.place l.fn.bytes)
+  value : drop l.top l.bytes ≡ unescaped (drop l.place l.fn.bytes);
 }

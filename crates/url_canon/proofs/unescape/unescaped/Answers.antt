@@ -1,4 +1,4 @@
-use Rattle.std.proofs.Common.{◌≡◌, ℕ, List, None, ◌+◌, ◌++◌, take, drop, eqb, ap, sym, subst, ◌∙◌, arith}
+use Rattle.std.proofs.Common.{◌≡◌, ℕ, List, None, ◌+◌, ◌++◌, take, drop, ap, sym, subst, ◌∙◌, arith}
 use Rattle.std.proofs.lemmas.List.{take-append-drop}
 use Rattle.memchr.specs.Find.{IsFirstByte}
 use Rattle.url_canon.specs.Unescaping.{unescaped, IsUnescapedOf}

@@ -31,13 +31,13 @@ returns c =
     let all : take c.loop-place.place-index c.deref-place-items.result.now ≡ places = take_all c.loop-place.place-index c.deref-place-items.result.now (omega arith) ∙ c.deref-place-items.ensures.value in
     let hosts : map (λ place. drop place host) places ≡ first_occurrences (hosts_of url.host url.is_address) = c.in_ok-places.ensures.value ∙ (ap (λ h. first_occurrences (hosts_of h c.is_address.result)) c.host-host.ensures.value ∙ ap (λ b. first_occurrences (hosts_of url.host b)) c.is_address.ensures) in
     let paths : map (λ len. take len rest) lens ≡ first_occurrences (paths_of url.path url.query) =
-      subst (λ t. map (λ len. take len t) lens ≡ first_occurrences (paths_of url.path url.query)) behind (c.in_ok-lens.ensures.value url.path url.query c.path.ensures.normal c.path.ensures.value (behind ∙ ap (λ p. p ++ query_text url.query) (sym c.path.ensures.value))) in
+    subst (λ t. map (λ len. take len t) lens ≡ first_occurrences (paths_of url.path url.query)) behind (c.in_ok-lens.ensures.value url.path url.query c.path.ensures.normal c.path.ensures.value (behind ∙ ap (λ p. p ++ query_text url.query) (sym c.path.ensures.value))) in
     let exact : c.loop-place.all ≡ expressions_of url = c.loop-place.invariant
-      ∙ (ap (λ ps. flat_map each ps) all
-      ∙ (pieces_are host rest text places lens at c.in_ok-places.ensures.within
-      ∙ (ap (λ hs. combinations hs (map (λ len. take len rest) lens)) hosts
-      ∙ (ap (λ ps. combinations (first_occurrences (hosts_of url.host url.is_address)) ps) paths
-      ∙ sym (apart_occurrences (hosts_of url.host url.is_address) (paths_of url.path url.query) (slashless_hosts url.host url.is_address c.host-host.ensures.no_slash) (rooted_paths url.path url.query c.path.ensures.normal.some)))))) in
+    ∙ (ap (λ ps. flat_map each ps) all
+    ∙ (pieces_are host rest text places lens at c.in_ok-places.ensures.within
+    ∙ (ap (λ hs. combinations hs (map (λ len. take len rest) lens)) hosts
+    ∙ (ap (λ ps. combinations (first_occurrences (hosts_of url.host url.is_address)) ps) paths
+    ∙ sym (apart_occurrences (hosts_of url.host url.is_address) (paths_of url.path url.query) (slashless_hosts url.host url.is_address c.host-host.ensures.no_slash) (rooted_paths url.path url.query c.path.ensures.normal.some)))))) in
     record {
       exact = exact;
       distinct = subst (IsDistinct bytes_eq) (sym exact) (distinct_occurrences (combinations (hosts_of url.host url.is_address) (paths_of url.path url.query)));

@@ -1,4 +1,4 @@
-use Rattle.std.proofs.Common.{◌≡◌, ℕ, List, ◌+◌, ◌-◌, ◌<◌, ◌≤◌, Some, None, length, take, drop, sym, ap, subst, ◌∙◌, arith, length-drop}
+use Rattle.std.proofs.Common.{◌≡◌, ℕ, List, ◌+◌, ◌-◌, ◌≤◌, Some, None, length, take, drop, sym, ap, subst, ◌∙◌, arith, length-drop}
 use Rattle.std.proofs.lemmas.List.{take_rest, drop-drop}
 use Rattle.memchr.specs.Find.{IsFirstByte}
 use Rattle.url_canon.specs.Words.{is_dot}
@@ -16,9 +16,10 @@ found_after : (host : List ℕ) (place dot : ℕ) → place ≤ length host → 
 found_after host place dot within found =
     let there = subst (λ t. IsFirstByte is_dot t (Some dot)) (take_rest host place) found in
     let high = there.0.high in
-    let at : place + dot + 1 ≡ place + (dot + 1) = omega arith in
-    (omega (arith, length-drop place host),
-    ap (λ n. components (drop n host)) at ∙ (ap components (sym (drop-drop (dot + 1) place host)) ∙ sym (ap (λ cs. drop 1 cs) (components_found (drop place host) dot (found_position is_dot (drop place host) (Some dot) there)))))
+    let at : place + dot + 1 ≡ place + (dot + 1) = omega arith in (
+      omega (arith, length-drop place host),
+      ap (λ n. components (drop n host)) at ∙ (ap components (sym (drop-drop (dot + 1) place host)) ∙ sym (ap (λ cs. drop 1 cs) (components_found (drop place host) dot (found_position is_dot (drop place host) (Some dot) there)))),
+    )
 
 pub returns-in-None : goal.returns-in-None
 returns-in-None c = record {

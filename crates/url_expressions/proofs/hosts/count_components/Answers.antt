@@ -1,4 +1,4 @@
-use Rattle.std.proofs.Common.{arith, rules}
+use Rattle.std.proofs.Common.{rules}
 use Rattle.url_expressions.proofs.Components.{length-components}
 use Rattle.url_expressions.proofs.hosts.count_components.Goals as goal
 

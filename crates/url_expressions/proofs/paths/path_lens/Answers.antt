@@ -18,9 +18,9 @@ returns c =
     record {
       within = λ small. c.in_ok-push_folders.ensures.within (length whole) small (within small);
       value = λ cs query normal at all.
-        let texts = path_with_query (path_text cs) query ++ path_text cs ∷ [] in
-        let small : length path ≤ length whole = omega (arith, ap (λ t. length t) all, length-append path (query_text query)) in
-        let so_far : map (λ len. take len whole) two ≡ first_occurrences texts = ap (λ ls. map (λ len. take len whole) ls) two_is ∙ two_lens cs query path whole at all in
-        let folders = c.in_ok-push_folders.ensures.value cs texts (query_text query) normal at (subst (λ w. All (λ len. len ≤ length w) two) all (within small)) (subst (λ w. map (λ len. take len w) two ≡ first_occurrences texts) all so_far) in
-        subst (λ w. map (λ len. take len w) c.push_folders.new.lens.items ≡ first_occurrences (texts ++ folders_of cs)) (sym all) folders ∙ ap (λ ts. first_occurrences ts) (with_folders cs query);
+          let texts = path_with_query (path_text cs) query ++ path_text cs ∷ [] in
+          let small : length path ≤ length whole = omega (arith, ap (λ t. length t) all, length-append path (query_text query)) in
+          let so_far : map (λ len. take len whole) two ≡ first_occurrences texts = ap (λ ls. map (λ len. take len whole) ls) two_is ∙ two_lens cs query path whole at all in
+          let folders = c.in_ok-push_folders.ensures.value cs texts (query_text query) normal at (subst (λ w. All (λ len. len ≤ length w) two) all (within small)) (subst (λ w. map (λ len. take len w) two ≡ first_occurrences texts) all so_far) in
+          subst (λ w. map (λ len. take len w) c.push_folders.new.lens.items ≡ first_occurrences (texts ++ folders_of cs)) (sym all) folders ∙ ap (λ ts. first_occurrences ts) (with_folders cs query);
     }

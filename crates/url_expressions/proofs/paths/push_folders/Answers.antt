@@ -1,8 +1,8 @@
-use Rattle.std.proofs.Common.{◌≡◌, ◌++◌, ◌+◌, ◌≤◌, [], ◌∷◌, List, ℕ, All, length, take, refl, sym, ap, subst, ◌∙◌, arith, length-append}
+use Rattle.std.proofs.Common.{◌++◌, ◌+◌, ◌≤◌, [], ◌∷◌, All, length, take, refl, sym, ap, subst, ◌∙◌, arith, length-append}
 use Rattle.std.specs.Prelude.{map}
 use Rattle.std.proofs.lemmas.List.{append-nil}
-use Rattle.url_expressions.specs.Expressions.{first_occurrences, folders_of}
-use Rattle.url_expressions.proofs.Pieces.{pushed, pushed_within}
+use Rattle.url_expressions.specs.Expressions.{first_occurrences}
+use Rattle.url_expressions.proofs.Pieces.{pushed_within}
 use Rattle.url_expressions.proofs.Slashes.{slash_fronts, next_folder, no_folder, folder_pushed, folders_all, folders_four}
 use Rattle.url_expressions.proofs.paths.push_folders.Goals as goal
 
@@ -27,7 +27,7 @@ loop-preserved c =
       count = omega (arith, ap (λ fs. length fs) next.1, length-append (slash_fronts (take from path)) (take to path ∷ []), inv.count);
       within = λ most fits h. subst (All (λ len. len ≤ most)) (sym c.in_ok-push_new.ensures) (pushed_within most c.loop.lens.items to (inv.within most fits h) (omega (arith, next.0)));
       value = λ texts rest h so_far. ap (λ ls. map (λ len. take len (path ++ rest)) ls) c.in_ok-push_new.ensures
-        ∙ folder_pushed path rest from to c.loop.lens.items texts next.0 next.1 (inv.within (length (path ++ rest)) (omega (arith, length-append path rest)) h) (inv.value texts rest h so_far);
+          ∙ folder_pushed path rest from to c.loop.lens.items texts next.0 next.1 (inv.within (length (path ++ rest)) (omega (arith, length-append path rest)) h) (inv.value texts rest h so_far);
     }
 
 pub returns-in_default-clause-value : goal.returns-in_default-clause-value

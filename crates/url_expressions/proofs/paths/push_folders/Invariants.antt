@@ -10,6 +10,6 @@ invariant-loop l = record {
   count : length (slash_fronts (take l.from l.path)) ≡ l.counter;
   within : (most : ℕ) → length l.path ≤ most → All (λ len. len ≤ most) l.fn.lens.items → All (λ len. len ≤ most) l.lens.items;
   value : (texts : List (List ℕ)) (rest : List ℕ) → All (λ len. len ≤ length (l.path ++ rest)) l.fn.lens.items
-    → map (λ len. take len (l.path ++ rest)) l.fn.lens.items ≡ first_occurrences texts
-    → map (λ len. take len (l.path ++ rest)) l.lens.items ≡ first_occurrences (texts ++ slash_fronts (take l.from l.path))
+      → map (λ len. take len (l.path ++ rest)) l.fn.lens.items ≡ first_occurrences texts
+      → map (λ len. take len (l.path ++ rest)) l.lens.items ≡ first_occurrences (texts ++ slash_fronts (take l.from l.path));
 }

@@ -1,5 +1,5 @@
-use Rattle.std.proofs.Common.{◌≡◌, ◌≤◌, Ok, length, ap, sym, ◌∙◌, subst}
-use Rattle.url_canon.specs.Url.{Url, text_of, IsLaidOut}
+use Rattle.std.proofs.Common.{◌≡◌, ◌≤◌, Ok, length, sym, ◌∙◌, subst}
+use Rattle.url_canon.specs.Url.{text_of, IsLaidOut}
 use Rattle.url_canon.specs.Canonical.{canonical_of, IsCanonical}
 use Rattle.url_canon.proofs.url.CanonicalUrl.as_bytes.Goals as goal
 

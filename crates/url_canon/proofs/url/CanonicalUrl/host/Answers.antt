@@ -1,4 +1,4 @@
-use Rattle.std.proofs.Common.{◌-◌, take, drop, arith, ap, ◌∙◌, subst}
+use Rattle.std.proofs.Common.{◌-◌, take, drop, ap, ◌∙◌, subst}
 use Rattle.url_canon.specs.Url.{Url, url_at_places}
 use Rattle.url_canon.specs.Canonical.{IsCanonical}
 use Rattle.url_canon.proofs.url.CanonicalUrl.host.Goals as goal
