@@ -1,0 +1,7 @@
+//! The tests of `delta_server`. They stand apart, so that they are proved once and not with the crate.
+#![tactic(auto)]
+
+#[cfg(test)]
+mod sets;
+#[cfg(test)]
+mod tokens;
