@@ -1,0 +1,58 @@
+-- Texts of hexadecimal digits.
+use Rattle.std.proofs.Common.{◌≡◌, ℕ, ◌*◌, List, Bool, true, false, nat_eq, length, refl, sym, ◌∙◌, eq-eqb, Option, Some, None, Result, Ok, Err, if◌then◌else◌, arith, rules}
+use Rattle.std.specs.Int.{w64, from_be_bytes}
+use Rattle.std.specs.Option.{option_map}
+use Rattle.std.specs.Result.{result_ok, MatchResult}
+use Rattle.std.proofs.lemmas.Bool.Decides.{nat_tests}
+use Rattle.hex.specs.Hex.{decode_of, decode_sized}
+use Rattle.hex.specs.declared.FromHexError.{FromHexError}
+use Rattle.list_versions.specs.Lines.{bytes_of, hash_of}
+
+found : (b : Bool) (r : Result (List ℕ) FromHexError) (bytes : List ℕ) → b ≡ true → r ≡ Ok bytes → (if b then result_ok r else None) ≡ Some bytes
+found b r bytes e d = rw (e, d) refl
+
+missed : (b : Bool) (r : Result (List ℕ) FromHexError) (fault : FromHexError) → r ≡ Err fault → (if b then result_ok r else None) ≡ None
+missed true r fault d = rw d refl
+missed false r fault d = refl
+
+pub hash_found : (digits bytes : List ℕ) → length digits ≡ 64 → decode_of digits ≡ Ok bytes → Some bytes ≡ hash_of digits
+unfolding bytes_of
+hash_found digits bytes h d = sym (found (nat_eq (length digits) 64) (decode_of digits) bytes (eq-eqb _ _ h) d)
+
+lost : (b : Bool) (r : Result (List ℕ) FromHexError) → ((bytes : List ℕ) → b ≡ true → r ≡ Ok bytes → ⊥) → None ≡ (if b then result_ok r else None)
+lost false r h = refl
+lost true (Err e) h = refl
+lost true (Ok bytes) h = absurd (h bytes refl refl)
+
+same_from_test : (m n : ℕ) → nat_eq m n ≡ true → m ≡ n
+same_from_test m n h = grind (arith, nat_tests)
+
+pub hash_lost : (digits : List ℕ) → ((bytes : List ℕ) → length digits ≡ 64 → decode_of digits ≡ Ok bytes → ⊥) → None ≡ hash_of digits
+unfolding bytes_of
+hash_lost digits h = lost (nat_eq (length digits) 64) (decode_of digits) (λ bytes e d. h bytes (same_from_test _ _ e) d)
+
+pub bytes_short : (digits : List ℕ) → (length digits ≡ 16 → ⊥) → None ≡ option_map (from_be_bytes w64) (bytes_of 8 digits)
+unfolding bytes_of
+bytes_short digits h = grind (arith, nat_tests)
+
+sized_is : (digits : List ℕ) → length digits ≡ 16 → decode_sized digits 8 ≡ decode_of digits
+sized_is digits h = rw h refl
+
+pub bytes_found : (digits bytes : List ℕ) → length digits ≡ 16 → decode_sized digits 8 ≡ Ok bytes → bytes_of 8 digits ≡ Some bytes
+unfolding bytes_of
+bytes_found digits bytes h d =
+    found (nat_eq (length digits) 16) (decode_of digits) bytes (eq-eqb _ _ h) (sym (sized_is digits h) ∙ d)
+
+pub bytes_lost : (digits : List ℕ) (fault : FromHexError) → length digits ≡ 16 → decode_sized digits 8 ≡ Err fault → bytes_of 8 digits ≡ None
+unfolding bytes_of
+bytes_lost digits fault h d =
+    missed (nat_eq (length digits) 16) (decode_of digits) fault (sym (sized_is digits h) ∙ d)
+
+-- what decoding answered
+pub decoded : {A : Type 0} (r : Result (List ℕ) FromHexError) (out : List ℕ) (result : Result A FromHexError) (a : A) → MatchResult r (λ bytes. (result ≡ Ok a) × (out ≡ bytes)) (λ e. result ≡ Err e) → result ≡ Ok a → r ≡ Ok out
+decoded (Ok bytes) out result a h is = let e : out ≡ bytes = h.1 in cc
+decoded (Err e) out result a h is = absurd (cc)
+
+pub refused : {A : Type 0} (r : Result (List ℕ) FromHexError) (out : List ℕ) (result : Result A FromHexError) (a : A) (fault : FromHexError) → MatchResult r (λ bytes. (result ≡ Ok a) × (out ≡ bytes)) (λ e. result ≡ Err e) → result ≡ Err fault → r ≡ Err fault
+refused (Ok bytes) out result a fault h is = let e : result ≡ Ok a = h.0 in absurd (cc)
+refused (Err e) out result a fault h is = cc

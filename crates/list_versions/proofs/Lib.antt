@@ -1,0 +1,4 @@
+pub mod Digits
+pub mod Hexes
+pub mod Parts
+pub mod Words
