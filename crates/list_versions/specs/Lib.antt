@@ -1,3 +1,4 @@
 pub mod Journal
 pub mod Limits
 pub mod Lines
+pub mod Live

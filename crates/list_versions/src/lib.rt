@@ -7,3 +7,5 @@ pub use fault::JournalFault;
 mod fault;
 mod heads;
 mod lines;
+mod live;
+mod table;

@@ -15,3 +15,6 @@ returns c =
     let two : words_of c.args.text.now ≡ c.in-Some.digits.now ∷ c.in-Some.size.now ∷ [] =
       c.in-Some.ensures ∙ ap (λ ws. c.in-Some.digits.now ∷ ws) (words_unspaced c.in-Some.size.now (sym c.has_space.ensures ∙ c.if-has_space.false)) in
     rw (two, c.if-not-sized.false) c.sized_add.ensures
+
+pub returns-in_default : goal.returns-in_default
+returns-in_default c = rw c.in_default.ensures (c.plain_add.ensures c.args.sized)

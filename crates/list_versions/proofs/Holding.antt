@@ -1,0 +1,128 @@
+-- What is held where a bucket takes the place of another.
+use Rattle.std.proofs.Common.{◌≡◌, ℕ, ◌+◌, ◌-◌, ◌*◌, ◌^◌, ◌<◌, ◌≤◌, List, [], ◌∷◌, ◌++◌, Bool, true, false, not, ◌||◌, cond, length, take, drop, map, refl, sym, ap, ◌∙◌, subst, arith, rules, get_or, add-one, length-append}
+use Rattle.std.specs.List.{list_any, filter}
+use Rattle.std.specs.Str.{bytes_eq}
+use Rattle.std.specs.Prelude.{All, fold, OnOk, Result, Ok, Err}
+use Rattle.std.proofs.lemmas.Grind.{common_steps}
+use Rattle.std.proofs.lemmas.List.Elements.{All-filter, All-push}
+use Rattle.std.proofs.lemmas.List.Filters.{length-filter_both}
+use Rattle.sb_model.specs.declared.history.Added.{Added}
+use Rattle.sb_model.specs.History.{prefix_of, without_hash, with_added}
+use Rattle.list_versions.specs.Limits.{prefix_bytes, has_head}
+use Rattle.list_versions.specs.Live.{IsPublishable, Holds, Held, Replaces, bucket_in, KeepsSaved, AreThere}
+use Rattle.list_versions.specs.declared.live.Live.{Live}
+use Rattle.list_versions.specs.declared.table.Table.{Table}
+use Rattle.list_versions.proofs.Finding.{same_bytes, bytes_are_same}
+use Rattle.list_versions.proofs.PrefixBytes.{prefix_bytes-le, prefix_bytes-cons, is_published_in}
+use Rattle.std.proofs.lemmas.List.{length-drop, take_all}
+use Rattle.std.proofs.Math.Seq.{drop-cons}
+use Rattle.list_versions.proofs.Splitting.{lacks_head, length-split, prefix_bytes-split, without-other, without-same, without-lacking, with-other, with-same, with-lacking}
+
+length-filter-le : (p : Added → Bool) (entries : List Added) → length (filter p entries) ≤ length entries
+length-filter-le p entries = omega (arith, length-filter_both p (λ entry. not (p entry)) (λ _. refl) entries)
+
+pub held_kept : (before after : Live) → KeepsSaved before.table after.table → (AreThere before.table.saved.entries before.table.current.entries → AreThere after.table.saved.entries after.table.current.entries)
+  → after.saved_count ≡ before.saved_count → after.saved_bytes ≡ before.saved_bytes → (entries : List Added) → Held before entries → Held after entries
+held_kept before after was there count bytes entries held = record {
+  buckets = λ head. was head ∙ held.buckets head;
+  count = count ∙ held.count;
+  bytes = bytes ∙ held.bytes;
+  sizes = held.sizes;
+  there = there held.there;
+}
+
+cond_same : (b : Bool) (next bucket : List Added) → b ≡ true → cond b next bucket ≡ next
+cond_same true next bucket h = refl
+cond_same false next bucket h = absurd (cc)
+
+buckets_at : (b : Bool) (next before after bucket : List Added) → bucket ≡ cond b next before → (b ≡ true → next ≡ after) → (b ≡ false → before ≡ after) → bucket ≡ after
+buckets_at true next before after bucket h here there = h ∙ here refl
+buckets_at false next before after bucket h here there = h ∙ there refl
+
+-- The full hashes change in one bucket alone.
+pub record ChangesBucket (entries after next : List Added) (head : List ℕ) : Type 0 where
+  pub here : next ≡ filter (has_head head) after
+  pub elsewhere : (other : List ℕ) → bytes_eq head other ≡ false → filter (has_head other) entries ≡ filter (has_head other) after
+  pub lacking : filter (lacks_head head) after ≡ filter (lacks_head head) entries
+  pub sizes : All IsPublishable after
+  pub small : length after < 2 ^ 50
+
+pub holds_replaced : (before after : Live) (entries more next : List Added) (head : List ℕ) → length entries < 2 ^ 50 → Holds before entries → Replaces before after head next → ChangesBucket entries more next head → Holds after more
+holds_replaced before after entries more next head small holds replaces changes =
+    let old : bucket_in before.table.current.entries head ≡ filter (has_head head) entries = holds.buckets head in
+    let count_old = length-split head entries in
+    let count_new : length next + length (filter (lacks_head head) more) ≡ length more = rw changes.here (length-split head more) in
+    let lacking : length (filter (lacks_head head) more) ≡ length (filter (lacks_head head) entries) = ap length changes.lacking in
+    let bytes_old = prefix_bytes-split head entries holds.sizes in
+    let bytes_new : prefix_bytes next + prefix_bytes (filter (lacks_head head) more) ≡ prefix_bytes more = rw changes.here (prefix_bytes-split head more changes.sizes) in
+    let bytes_lacking : prefix_bytes (filter (lacks_head head) more) ≡ prefix_bytes (filter (lacks_head head) entries) = ap prefix_bytes changes.lacking in
+    let bound_old = prefix_bytes-le entries holds.sizes in
+    let bound_new = prefix_bytes-le more changes.sizes in
+    let length_old : length (bucket_in before.table.current.entries head) ≡ length (filter (has_head head) entries) = ap length old in
+    let bytes_bucket : prefix_bytes (bucket_in before.table.current.entries head) ≡ prefix_bytes (filter (has_head head) entries) = ap prefix_bytes old in
+    let holds_count : before.count ≡ length entries = holds.count in
+    let holds_bytes : before.bytes ≡ prefix_bytes entries = holds.bytes in
+    let new_small : length more < 2 ^ 50 = changes.small in
+    let fits : before.count + length next < 2 ^ 64 = omega arith in
+    let fits_bucket : prefix_bytes (bucket_in before.table.current.entries head) < 2 ^ 64 = omega arith in
+    let fits_bytes : before.bytes + prefix_bytes next < 2 ^ 64 = omega arith in
+    let count_is = replaces.count fits in
+    let bytes_is = replaces.bytes fits_bucket fits_bytes in
+    record {
+      buckets = λ other. buckets_at (bytes_eq head other) next (bucket_in before.table.current.entries other) (filter (has_head other) more) (bucket_in after.table.current.entries other)
+        (replaces.buckets other)
+        (λ e. changes.here ∙ ap (λ h. filter (has_head h) more) (same_bytes head other e))
+        (λ e. holds.buckets other ∙ changes.elsewhere other e);
+      count = omega arith;
+      bytes = omega arith;
+      sizes = changes.sizes;
+    }
+
+-- a hash that is taken out
+pub changes_without : (entries next : List Added) (hash head : List ℕ) → head ≡ take 4 hash → length entries < 2 ^ 40 → All IsPublishable entries → next ≡ without_hash (filter (has_head head) entries) hash → ChangesBucket entries (without_hash entries hash) next head
+changes_without entries next hash head h small sizes is = record {
+  here = is ∙ sym (without-same head hash entries);
+  elsewhere = λ other e. sym (without-other other hash entries (ap (λ f. bytes_eq f other) (sym h) ∙ e));
+  lacking = without-lacking head hash entries (ap (λ f. bytes_eq f head) (sym h) ∙ bytes_are_same head);
+  sizes = All-filter (λ entry. not (bytes_eq entry.hash hash)) IsPublishable entries sizes;
+  small = omega (arith, length-filter-le (λ entry. not (bytes_eq entry.hash hash)) entries);
+}
+
+pub length-with_added : (entries : List Added) (added : Added) → length (with_added entries added) ≤ length entries + 1
+length-with_added entries added = omega (arith, length-append (without_hash entries added.hash) (added ∷ []), length-filter-le (λ entry. not (bytes_eq entry.hash added.hash)) entries)
+
+-- a hash that is put in
+pub changes_with : (entries next : List Added) (added : Added) (head : List ℕ) → head ≡ take 4 added.hash → length entries < 2 ^ 40 → All IsPublishable entries → IsPublishable added → next ≡ with_added (filter (has_head head) entries) added → ChangesBucket entries (with_added entries added) next head
+changes_with entries next added head h small sizes own is = record {
+  here = is ∙ sym (with-same head added entries (ap (λ f. bytes_eq f head) (sym h) ∙ bytes_are_same head));
+  elsewhere = λ other e. sym (with-other other added entries (ap (λ f. bytes_eq f other) (sym h) ∙ e));
+  lacking = with-lacking head added entries (ap (λ f. bytes_eq f head) (sym h) ∙ bytes_are_same head);
+  sizes = All-push IsPublishable (without_hash entries added.hash) added (All-filter (λ entry. not (bytes_eq entry.hash added.hash)) IsPublishable entries sizes) own;
+  small = omega (arith, length-with_added entries added);
+}
+
+pub mapped_ok : {T E : Type 0} (P Q : Type 0) (r : Result T E) → (P → Q) → OnOk r P → OnOk r Q
+mapped_ok P Q (Ok x) f h = f h
+mapped_ok P Q (Err e) f h = tt
+
+length-take-all : (n : ℕ) (xs : List ℕ) → length (take n xs) ≤ length xs
+length-take-all n xs = grind (arith, common_steps)
+
+pub publishable : (added : Added) → 4 ≤ added.size → length added.hash ≡ 32 → IsPublishable added
+publishable added low whole = record { low = low; short = omega (arith, whole, length-take-all added.size added.hash) }
+
+pub length-fold_added : (adds entries : List Added) → length (fold with_added entries adds) ≤ length entries + length adds
+length-fold_added [] entries = omega arith
+length-fold_added (added ∷ adds) entries = omega (arith, length-with_added entries added, length-fold_added adds (with_added entries added))
+
+pub length-fold_removed : (removes : List (List ℕ)) (entries : List Added) → length (fold without_hash entries removes) ≤ length entries
+length-fold_removed [] entries = omega arith
+length-fold_removed (hash ∷ removes) entries = omega (arith, length-filter-le (λ entry. not (bytes_eq entry.hash hash)) entries, length-fold_removed removes (without_hash entries hash))
+
+-- the next of a bucket
+pub bytes_more : (bucket : List Added) (i : ℕ) (d : Added) → i < length bucket
+  → prefix_bytes (drop i bucket) ≡ cond (is_published_in (take (length bucket - (i + 1)) (drop (i + 1) bucket)) (prefix_of (get_or bucket i d))) 0 (length (prefix_of (get_or bucket i d))) + prefix_bytes (drop (i + 1) bucket)
+bytes_more bucket i d lt =
+    let whole : take (length bucket - (i + 1)) (drop (i + 1) bucket) ≡ drop (i + 1) bucket = take_all _ (drop (i + 1) bucket) (omega (arith, length-drop (i + 1) bucket)) in
+    let cons : drop i bucket ≡ get_or bucket i d ∷ drop (i + 1) bucket = rw (add-one, drop-cons bucket i d lt) refl in
+    rw (whole, cons) (prefix_bytes-cons (get_or bucket i d) (drop (i + 1) bucket))
