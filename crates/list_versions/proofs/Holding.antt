@@ -9,27 +9,16 @@ use Rattle.std.proofs.lemmas.List.Filters.{length-filter_both}
 use Rattle.sb_model.specs.declared.history.Added.{Added}
 use Rattle.sb_model.specs.History.{prefix_of, without_hash, with_added}
 use Rattle.list_versions.specs.Limits.{prefix_bytes, has_head}
-use Rattle.list_versions.specs.Live.{IsPublishable, Holds, Held, Replaces, bucket_in, KeepsSaved, AreThere}
+use Rattle.list_versions.specs.Live.{IsPublishable, Holds, Replaces, bucket_in}
 use Rattle.list_versions.specs.declared.live.Live.{Live}
-use Rattle.list_versions.specs.declared.table.Table.{Table}
 use Rattle.list_versions.proofs.Finding.{same_bytes, bytes_are_same}
 use Rattle.list_versions.proofs.PrefixBytes.{prefix_bytes-le, prefix_bytes-cons, is_published_in}
 use Rattle.std.proofs.lemmas.List.{length-drop, take_all}
 use Rattle.std.proofs.Math.Seq.{drop-cons}
 use Rattle.list_versions.proofs.Splitting.{lacks_head, length-split, prefix_bytes-split, without-other, without-same, without-lacking, with-other, with-same, with-lacking}
 
-length-filter-le : (p : Added → Bool) (entries : List Added) → length (filter p entries) ≤ length entries
+pub length-filter-le : (p : Added → Bool) (entries : List Added) → length (filter p entries) ≤ length entries
 length-filter-le p entries = omega (arith, length-filter_both p (λ entry. not (p entry)) (λ _. refl) entries)
-
-pub held_kept : (before after : Live) → KeepsSaved before.table after.table → (AreThere before.table.saved.entries before.table.current.entries → AreThere after.table.saved.entries after.table.current.entries)
-  → after.saved_count ≡ before.saved_count → after.saved_bytes ≡ before.saved_bytes → (entries : List Added) → Held before entries → Held after entries
-held_kept before after was there count bytes entries held = record {
-  buckets = λ head. was head ∙ held.buckets head;
-  count = count ∙ held.count;
-  bytes = bytes ∙ held.bytes;
-  sizes = held.sizes;
-  there = there held.there;
-}
 
 cond_same : (b : Bool) (next bucket : List Added) → b ≡ true → cond b next bucket ≡ next
 cond_same true next bucket h = refl
@@ -49,7 +38,7 @@ pub record ChangesBucket (entries after next : List Added) (head : List ℕ) : T
 
 pub holds_replaced : (before after : Live) (entries more next : List Added) (head : List ℕ) → length entries < 2 ^ 50 → Holds before entries → Replaces before after head next → ChangesBucket entries more next head → Holds after more
 holds_replaced before after entries more next head small holds replaces changes =
-    let old : bucket_in before.table.current.entries head ≡ filter (has_head head) entries = holds.buckets head in
+    let old : bucket_in before.buckets.entries head ≡ filter (has_head head) entries = holds.buckets head in
     let count_old = length-split head entries in
     let count_new : length next + length (filter (lacks_head head) more) ≡ length more = rw changes.here (length-split head more) in
     let lacking : length (filter (lacks_head head) more) ≡ length (filter (lacks_head head) entries) = ap length changes.lacking in
@@ -58,18 +47,18 @@ holds_replaced before after entries more next head small holds replaces changes 
     let bytes_lacking : prefix_bytes (filter (lacks_head head) more) ≡ prefix_bytes (filter (lacks_head head) entries) = ap prefix_bytes changes.lacking in
     let bound_old = prefix_bytes-le entries holds.sizes in
     let bound_new = prefix_bytes-le more changes.sizes in
-    let length_old : length (bucket_in before.table.current.entries head) ≡ length (filter (has_head head) entries) = ap length old in
-    let bytes_bucket : prefix_bytes (bucket_in before.table.current.entries head) ≡ prefix_bytes (filter (has_head head) entries) = ap prefix_bytes old in
+    let length_old : length (bucket_in before.buckets.entries head) ≡ length (filter (has_head head) entries) = ap length old in
+    let bytes_bucket : prefix_bytes (bucket_in before.buckets.entries head) ≡ prefix_bytes (filter (has_head head) entries) = ap prefix_bytes old in
     let holds_count : before.count ≡ length entries = holds.count in
     let holds_bytes : before.bytes ≡ prefix_bytes entries = holds.bytes in
     let new_small : length more < 2 ^ 50 = changes.small in
     let fits : before.count + length next < 2 ^ 64 = omega arith in
-    let fits_bucket : prefix_bytes (bucket_in before.table.current.entries head) < 2 ^ 64 = omega arith in
+    let fits_bucket : prefix_bytes (bucket_in before.buckets.entries head) < 2 ^ 64 = omega arith in
     let fits_bytes : before.bytes + prefix_bytes next < 2 ^ 64 = omega arith in
     let count_is = replaces.count fits in
     let bytes_is = replaces.bytes fits_bucket fits_bytes in
     record {
-      buckets = λ other. buckets_at (bytes_eq head other) next (bucket_in before.table.current.entries other) (filter (has_head other) more) (bucket_in after.table.current.entries other)
+      buckets = λ other. buckets_at (bytes_eq head other) next (bucket_in before.buckets.entries other) (filter (has_head other) more) (bucket_in after.buckets.entries other)
         (replaces.buckets other)
         (λ e. changes.here ∙ ap (λ h. filter (has_head h) more) (same_bytes head other e))
         (λ e. holds.buckets other ∙ changes.elsewhere other e);

@@ -1,3 +1,4 @@
+pub mod Crowds
 pub mod Digits
 pub mod Finding
 pub mod Hexes

@@ -4,8 +4,8 @@
 
 pub use fault::JournalFault;
 
+mod buckets;
 mod fault;
 mod heads;
 mod lines;
 mod live;
-mod table;

@@ -5,21 +5,26 @@ ghost use Rattle.std.specs.Str.{bytes_eq};
 ghost use Rattle.sb_model.specs.History.{prefix_of, with_added, without_hash};
 ghost use Rattle.sb_model.specs.Prefixes.{bytes_cmp};
 ghost use Rattle.sb_model.specs.declared.history.Added.{Added as Entry};
-ghost use Rattle.list_versions.specs.Limits.{has_head, prefix_bytes};
-ghost use Rattle.list_versions.specs.Live.{bucket_in, KeepsBuckets, Replaces, Holds, Held};
+ghost use Rattle.list_versions.specs.Limits.{has_head, prefix_bytes, limit_fault, most_alike};
+ghost use Rattle.list_versions.specs.Live.{bucket_in, Replaces, Holds, IsUncrowded};
 
-use crate::table::{HashHead, Table};
+use crate::JournalFault;
+use crate::buckets::{Buckets, HashHead, bucket, put_bucket};
 use sb_model::{Added, OutOfMemory, Row};
 use std::alloc::Global;
+use std::collections::BTreeMap;
 
-/// The newest full hashes of a list with their sizes, and what they were before a growth.
+// The most full hashes of a list, the most of them that share their first four bytes, and the most bytes of prefixes.
+const MOST_HASHES: u64 = 1_048_576;
+const MOST_ALIKE: usize = 16;
+const MOST_PREFIX_BYTES: u64 = 8_388_608;
+
+/// The newest full hashes of a list with their sizes, by their first four bytes.
 #[derive(Debug, Drop)]
 pub struct Live {
-    pub table: Table,
+    pub buckets: Buckets,
     pub count: u64,
     pub bytes: u64,
-    pub saved_count: u64,
-    pub saved_bytes: u64,
 }
 
 fn head_of(hash: &[u8; 32]) -> HashHead
@@ -84,33 +89,26 @@ fn with(alloc: Global, bucket: &[Added], added: Added) -> Result<Vec<Added>, Out
 impl Live {
     pub fn new(alloc: Global) -> Live
         ensures holds { Holds result [] }
-        ensures held { Held result [] }
         ensures count { result.count ≡ 0 }
         ensures bytes { result.bytes ≡ 0 }
     {
         Live {
-            table: Table::new(alloc),
+            buckets: BTreeMap::new(alloc),
             count: 0,
             bytes: 0,
-            saved_count: 0,
-            saved_bytes: 0,
         }
     }
 
     // Puts a bucket in place of the one with these four bytes.
-    fn replace(&mut self, alloc: Global, head: HashHead, next: Row<Added>) -> Result<(), OutOfMemory>
-        ensures ok { OnOk result (Replaces self.old self.new head next) }
-        ensures err { OnErr result (KeepsBuckets self.old.table.current.entries self.new.table.current.entries) }
-        ensures err_count { OnErr result (self.new.count ≡ self.old.count) }
-        ensures err_bytes { OnErr result (self.new.bytes ≡ self.old.bytes) }
-        ensures held { (entries : List Entry) → Held self.old entries → Held self.new entries }
+    fn replace(&mut self, head: HashHead, next: Row<Added>) -> Result<(), OutOfMemory>
+        ensures { OnOk result (Replaces self.old self.new head next) }
     {
-        let bucket = self.table.bucket(&head);
-        let count_before = bucket.len() as u64;
-        let bytes_before = bytes_in(bucket);
+        let before = bucket(&self.buckets, &head);
+        let count_before = before.len() as u64;
+        let bytes_before = bytes_in(before);
         let count_after = next.len() as u64;
         let bytes_after = bytes_in(next.as_slice());
-        self.table.replace(alloc, head, next)?;
+        put_bucket(&mut self.buckets, head, next)?;
         self.count = self.count.saturating_add(count_after).saturating_sub(count_before);
         self.bytes = self.bytes.saturating_add(bytes_after).saturating_sub(bytes_before);
         Ok(())
@@ -118,30 +116,27 @@ impl Live {
 
     // Takes a hash out.
     fn remove(&mut self, alloc: Global, hash: &[u8; 32]) -> Result<(), OutOfMemory>
-        ensures ok { OnOk result ((entries : List Entry) → length entries < 2 ^ 40 → Holds self.old entries → Holds self.new (without_hash entries hash.now)) }
-        ensures held { (entries : List Entry) → Held self.old entries → Held self.new entries }
+        ensures { OnOk result ((entries : List Entry) → length entries < 2 ^ 40 → Holds self.old entries → Holds self.new (without_hash entries hash.now)) }
     {
         let head = head_of(hash);
-        let next = without(alloc, self.table.bucket(&head), hash)?;
-        self.replace(alloc, head, Row::from_vec(next))
+        let next = without(alloc, bucket(&self.buckets, &head), hash)?;
+        self.replace(head, Row::from_vec(next))
     }
 
     // Puts a hash in, in place of the entry that it had.
     fn add(&mut self, alloc: Global, added: Added) -> Result<(), OutOfMemory>
         requires { 4 ≤ added.size }
-        ensures ok { OnOk result ((entries : List Entry) → length entries < 2 ^ 40 → Holds self.old entries → Holds self.new (with_added entries added)) }
-        ensures held { (entries : List Entry) → Held self.old entries → Held self.new entries }
+        ensures { OnOk result ((entries : List Entry) → length entries < 2 ^ 40 → Holds self.old entries → Holds self.new (with_added entries added)) }
     {
         let head = head_of(&added.hash);
-        let next = with(alloc, self.table.bucket(&head), added)?;
-        self.replace(alloc, head, Row::from_vec(next))
+        let next = with(alloc, bucket(&self.buckets, &head), added)?;
+        self.replace(head, Row::from_vec(next))
     }
 
     // Takes out what a change removes.
     fn remove_each(&mut self, alloc: Global, removes: &[[u8; 32]]) -> Result<(), OutOfMemory>
-        ensures ok { OnOk result ((entries : List Entry) → length entries < 2 ^ 32 → Holds self.old entries
+        ensures { OnOk result ((entries : List Entry) → length entries < 2 ^ 32 → Holds self.old entries
             → Holds self.new (fold without_hash entries removes.now)) }
-        ensures held { (entries : List Entry) → Held self.old entries → Held self.new entries }
     {
         for hash in removes {
             self.remove(alloc, hash)?;
@@ -152,13 +147,51 @@ impl Live {
     // Puts in what a change adds.
     fn add_each(&mut self, alloc: Global, adds: &[Added]) -> Result<(), OutOfMemory>
         requires { All (λ added. 4 ≤ added.size) adds.now }
-        ensures ok { OnOk result ((entries : List Entry) → length entries < 2 ^ 32 → length adds.now < 2 ^ 32 → Holds self.old entries
+        ensures { OnOk result ((entries : List Entry) → length entries < 2 ^ 32 → length adds.now < 2 ^ 32 → Holds self.old entries
             → Holds self.new (fold with_added entries adds.now)) }
-        ensures held { (entries : List Entry) → Held self.old entries → Held self.new entries }
     {
         for added in adds {
             self.add(alloc, *added)?;
         }
         Ok(())
+    }
+
+    /// Takes out what a change removes, and then puts in what it adds.
+    pub fn apply(&mut self, alloc: Global, removes: &[[u8; 32]], adds: &[Added]) -> Result<(), OutOfMemory>
+        requires { All (λ added. 4 ≤ added.size) adds.now }
+        ensures { OnOk result ((entries : List Entry) → length entries < 2 ^ 32 → length adds.now < 2 ^ 32 → Holds self.old entries
+            → Holds self.new (fold with_added (fold without_hash entries removes.now) adds.now)) }
+    {
+        self.remove_each(alloc, removes)?;
+        self.add_each(alloc, adds)
+    }
+
+    // Whether more than 16 full hashes begin as one does.
+    fn is_crowded_at(&self, hash: &[u8; 32]) -> bool
+        ensures { result ≡ nat_lt most_alike (length (bucket_in self.now.buckets.entries (take 4 hash.now))) }
+    {
+        bucket(&self.buckets, &head_of(hash)).len() > MOST_ALIKE
+    }
+
+    // Whether more than 16 full hashes begin as one of these does.
+    fn is_crowded(&self, adds: &[Added]) -> bool
+        ensures { result ≡ list_any (λ added. nat_lt most_alike (length (bucket_in self.now.buckets.entries (take 4 added.hash)))) adds.now }
+    {
+        adds.iter().any(|added| self.is_crowded_at(&added.hash))
+    }
+
+    /// The fault of a line that ends a change which adds these.
+    pub fn limit(&self, adds: &[Added], line: u64) -> Option<JournalFault>
+        ensures { (before : List Entry) (removes : List (List ℕ)) → IsUncrowded before
+            → Holds self.now (fold with_added (fold without_hash before removes) adds.now)
+            → result ≡ limit_fault line (fold with_added (fold without_hash before removes) adds.now) }
+    {
+        if self.count > MOST_HASHES || self.is_crowded(adds) {
+            return Some(JournalFault::TooMany(line));
+        }
+        if self.bytes > MOST_PREFIX_BYTES {
+            return Some(JournalFault::TooLarge(line));
+        }
+        None
     }
 }

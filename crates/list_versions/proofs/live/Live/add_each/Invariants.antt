@@ -1,11 +1,8 @@
 use Rattle.std.proofs.Common.{ℕ, ◌+◌, ◌^◌, ◌<◌, ◌≤◌, List, length, take, fold}
 use Rattle.sb_model.specs.declared.history.Added.{Added}
 use Rattle.sb_model.specs.History.{with_added}
-use Rattle.list_versions.specs.Live.{Holds, Held}
+use Rattle.list_versions.specs.Live.{Holds}
 use Rattle.list_versions.proofs.live.Live.add_each.Given as goal
 
 abbrev pub invariant-loop-added : goal.invariant-loop-added
-invariant-loop-added l = record {
-  holds : (entries : List Added) → length entries < 2 ^ 32 → length l.adds < 2 ^ 32 → Holds l.initial.self entries → Holds l.self (fold with_added entries (take l.added-index l.adds));
-  held : (entries : List Added) → Held l.initial.self entries → Held l.self entries;
-}
+invariant-loop-added l = (entries : List Added) → length entries < 2 ^ 32 → length l.adds < 2 ^ 32 → Holds l.initial.self entries → Holds l.self (fold with_added entries (take l.added-index l.adds))
