@@ -10,8 +10,8 @@ use Rattle.sb_model.specs.History.{without_hash, with_added}
 use Rattle.std.specs.Prelude.{Option, Some, None, if◌then◌else◌}
 use Rattle.list_versions.specs.declared.fault.JournalFault.{JournalFault}
 use Rattle.list_versions.specs.declared.fault.JournalFault.TheVariants as fault
-use Rattle.list_versions.specs.Limits.{has_head, is_crowded, most_alike, most_hashes, most_prefix_bytes, limit_fault}
-use Rattle.list_versions.specs.Live.{IsUncrowded, Holds, bucket_in}
+use Rattle.list_versions.specs.Limits.{has_head, is_crowded, most_alike, most_hashes, most_prefix_bytes, limit_fault, IsUncrowded}
+use Rattle.list_versions.specs.Live.{Holds, bucket_in}
 use Rattle.list_versions.specs.declared.live.Live.{Live}
 use Rattle.list_versions.proofs.Finding.{same_bytes}
 use Rattle.list_versions.proofs.Splitting.{without-same, with-other}

@@ -3,7 +3,10 @@ pub mod Digits
 pub mod Finding
 pub mod Hexes
 pub mod Holding
+pub mod LineEnds
+pub mod NameCodes
 pub mod Parts
 pub mod PrefixBytes
+pub mod Reading
 pub mod Splitting
 pub mod Words

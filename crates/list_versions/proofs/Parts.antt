@@ -18,7 +18,7 @@ module _ (p : ℕ → Bool) where
       let lt : position_or_len p xs < length xs = rw place found.0 in
       subst (λ n. slice_split p xs ≡ take n xs ∷ slice_split p (drop (n + 1) xs)) place (slice_split_first p xs 0 lt)
 
-  none_at : (xs : List ℕ) (b : Bool) → nat_lt (position_or_len p xs) (length xs) ≡ b → cond b (Some (position_or_len p xs)) None ≡ None → length xs ≤ position_or_len p xs
+  pub none_at : (xs : List ℕ) (b : Bool) → nat_lt (position_or_len p xs) (length xs) ≡ b → cond b (Some (position_or_len p xs)) None ≡ None → length xs ≤ position_or_len p xs
   none_at xs true e h = absurd (cc)
   none_at xs false e h = ltb-false _ _ e
 

@@ -1,4 +1,6 @@
+pub mod Draft
 pub mod Journal
 pub mod Limits
 pub mod Lines
 pub mod Live
+pub mod Split

@@ -4,7 +4,8 @@ use Rattle.std.specs.List.{list_any}
 use Rattle.std.specs.Str.{bytes_eq}
 use Rattle.sb_model.specs.declared.history.Added.{Added}
 use Rattle.sb_model.specs.declared.history.Change.{Change}
-use Rattle.sb_model.specs.History.{History, prefix_of, sizes_at, version_count, IsWellFormed}
+use Rattle.sb_model.specs.declared.names.ListName.{ListName}
+use Rattle.sb_model.specs.History.{History, prefix_of, sizes_at, version_count}
 use Rattle.sb_model.specs.Prefixes.{set_of, concatenation}
 use Rattle.list_versions.specs.declared.fault.JournalFault.{JournalFault}
 use Rattle.list_versions.specs.declared.fault.JournalFault.TheVariants as fault
@@ -51,3 +52,17 @@ limit_fault n entries =
     if nat_lt most_hashes (length entries) || is_crowded entries then Some (fault.TooMany n)
     else if nat_lt most_prefix_bytes (prefix_bytes entries) then Some (fault.TooLarge n)
     else None
+
+-- no 17 of these full hashes share their first four bytes
+abbrev pub IsUncrowded : List Added → Type 0
+IsUncrowded entries = (head : List ℕ) → length (filter (has_head head) entries) ≤ most_alike
+
+-- what the full hashes of a list keep to
+pub record IsWithin (entries : List Added) : Type 0 where
+  pub count : length entries ≤ most_hashes
+  pub uncrowded : IsUncrowded entries
+  pub bytes : prefix_bytes entries ≤ most_prefix_bytes
+
+-- each version of each list keeps to it
+abbrev pub WithinLimits : History → Type 0
+WithinLimits history = (list : ListName) (version : ℕ) → version ≤ version_count history → IsWithin (sizes_at history list version)

@@ -1,5 +1,5 @@
 -- The lines of a journal, each without the newline that ends it.
-use Rattle.std.specs.Prelude.{ℕ, ◌+◌, ◌*◌, ◌==◌, Bool, true, false, ◌&&◌, ◌||◌, not, nat_le, nat_lt, if◌then◌else◌, List, [], ◌∷◌, length, slice_index, Option, Some, None, option_and_then, codes}
+use Rattle.std.specs.Prelude.{◌≡◌, ℕ, ◌+◌, ◌*◌, ◌==◌, Bool, true, false, ◌&&◌, ◌||◌, not, nat_le, nat_lt, if◌then◌else◌, List, [], ◌∷◌, length, slice_index, Option, Some, None, option_and_then, codes}
 use Rattle.std.specs.Char.{is_ascii_digit}
 use Rattle.std.specs.Int.{w64, from_be_bytes}
 use Rattle.std.specs.List.{list_all, slice_split}
@@ -11,6 +11,7 @@ use Rattle.hex.specs.Hex.{decode_of}
 use Rattle.sb_model.specs.declared.history.Added.{Added}
 use Rattle.sb_model.specs.declared.names.ListName.{ListName}
 use Rattle.sb_model.specs.Names.{name_of}
+use Rattle.sb_model.specs.History.{IsPrefixSize}
 use Rattle.list_versions.specs.declared.heads.Head.{Head}
 use Rattle.list_versions.specs.declared.heads.Head.TheVariants as head
 use Rattle.list_versions.specs.declared.heads.Header.{Header}
@@ -118,3 +119,8 @@ added_of sized declared line = option_and_then (λ text. added_of_words sized de
 -- `-` and a hash
 abbrev pub removed_of : List ℕ → Option (List ℕ)
 removed_of line = option_and_then hash_of (after_sign 45 line)
+
+-- a hash that a line adds is well formed
+pub record IsAdded (added : Added) : Type 0 where
+  pub hash : length added.hash ≡ 32
+  pub size : IsPrefixSize added.size

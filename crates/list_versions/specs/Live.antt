@@ -37,10 +37,6 @@ pub record Holds (live : Live) (entries : List Added) : Type 0 where
   pub bytes : live.bytes ≡ prefix_bytes entries
   pub sizes : All IsPublishable entries
 
--- no 17 of them share their first four bytes
-abbrev pub IsUncrowded : List Added → Type 0
-IsUncrowded entries = (head : List ℕ) → length (filter (has_head head) entries) ≤ most_alike
-
 -- a bucket took the place of another
 pub record Replaces (before after : Live) (head : List ℕ) (next : List Added) : Type 0 where
   pub buckets : (other : List ℕ) → bucket_in after.buckets.entries other ≡ cond (bytes_eq head other) next (bucket_in before.buckets.entries other)

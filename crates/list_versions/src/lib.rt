@@ -5,7 +5,10 @@
 pub use fault::JournalFault;
 
 mod buckets;
+mod draft;
 mod fault;
 mod heads;
 mod lines;
+mod lists;
 mod live;
+mod split;

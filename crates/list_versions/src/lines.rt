@@ -2,11 +2,12 @@ ghost use Rattle.std.specs.Prelude.{◌≡◌, ◌≤◌, ◌<◌, ◌*◌, ◌+
 ghost use Rattle.std.specs.Int.{w64, from_be_bytes};
 ghost use Rattle.std.specs.Result.{result_ok};
 ghost use Rattle.sb_model.specs.Names.{name_of};
+ghost use Rattle.sb_model.specs.History.{IsPrefixSize};
 ghost use Rattle.std.specs.Str.Parse.{digits_value as value_of_digits};
 ghost use Rattle.std.specs.Char.{is_ascii_digit};
 ghost use Rattle.std.specs.List.{list_all};
 ghost use Rattle.hash_prefixes.specs.declared.hashes.FullHash.{FullHash as Hash};
-ghost use Rattle.list_versions.specs.Lines.{is_space, words_of, is_numeral as is_numeral_text, within, number_of, size_of, bytes_of, hash_of, form_of, header_of, header_of_words, head_of, head_of_words, list_head as list_head_of, change_head as change_head_of, added_of, added_of_words, removed_of};
+ghost use Rattle.list_versions.specs.Lines.{IsAdded, is_space, words_of, is_numeral as is_numeral_text, within, number_of, size_of, bytes_of, hash_of, form_of, header_of, header_of_words, head_of, head_of_words, list_head as list_head_of, change_head as change_head_of, added_of, added_of_words, removed_of};
 
 use crate::heads::{Head, Header};
 use hash_prefixes::read_hex;
@@ -99,7 +100,8 @@ fn prefix_size(text: &[u8]) -> Option<u8>
 
 // A full hash, in 64 digits.
 fn hash(digits: &[u8]) -> Option<[u8; 32]>
-    ensures { result ≡ hash_of digits.now }
+    ensures value { result ≡ hash_of digits.now }
+    ensures whole { IfSome result (λ hash. length hash ≡ 32) }
 {
     match read_hex(digits) {
         Ok(hash) => Some(hash.bytes),
@@ -219,7 +221,8 @@ pub fn read_head(line: &[u8]) -> Option<Head>
 // ---- hash lines
 
 fn plain_add(digits: &[u8], declared: u8) -> Option<Added>
-    ensures { (sized : Bool) → result ≡ added_of_words sized declared (digits.now ∷ []) }
+    ensures value { (sized : Bool) → result ≡ added_of_words sized declared (digits.now ∷ []) }
+    ensures well { IsPrefixSize declared → IfSome result IsAdded }
 {
     let hash = hash(digits)?;
     Some(Added {
@@ -229,7 +232,8 @@ fn plain_add(digits: &[u8], declared: u8) -> Option<Added>
 }
 
 fn sized_add(digits: &[u8], size: &[u8], declared: u8) -> Option<Added>
-    ensures { result ≡ added_of_words true declared (digits.now ∷ size.now ∷ []) }
+    ensures value { result ≡ added_of_words true declared (digits.now ∷ size.now ∷ []) }
+    ensures well { IfSome result IsAdded }
 {
     let hash = hash(digits)?;
     let size = prefix_size(size)?;
@@ -237,7 +241,8 @@ fn sized_add(digits: &[u8], size: &[u8], declared: u8) -> Option<Added>
 }
 
 fn added_of_text(text: &[u8], sized: bool, declared: u8) -> Option<Added>
-    ensures { result ≡ added_of_words sized declared (words_of text.now) }
+    ensures value { result ≡ added_of_words sized declared (words_of text.now) }
+    ensures well { IsPrefixSize declared → IfSome result IsAdded }
 {
     let Some((digits, size)) = split_word(text) else {
         return plain_add(text, declared);
@@ -250,7 +255,8 @@ fn added_of_text(text: &[u8], sized: bool, declared: u8) -> Option<Added>
 
 /// Reads a line that adds. Without a size of its own the hash has the declared one.
 pub fn read_add(line: &[u8], sized: bool, declared: u8) -> Option<Added>
-    ensures { result ≡ added_of sized declared line.now }
+    ensures value { result ≡ added_of sized declared line.now }
+    ensures well { IsPrefixSize declared → IfSome result IsAdded }
 {
     match line {
         [b'+', text @ ..] => added_of_text(text, sized, declared),
@@ -260,7 +266,8 @@ pub fn read_add(line: &[u8], sized: bool, declared: u8) -> Option<Added>
 
 /// Reads a line that removes.
 pub fn read_remove(line: &[u8]) -> Option<[u8; 32]>
-    ensures { result ≡ removed_of line.now }
+    ensures value { result ≡ removed_of line.now }
+    ensures whole { IfSome result (λ hash. length hash ≡ 32) }
 {
     match line {
         [b'-', text @ ..] => hash(text),

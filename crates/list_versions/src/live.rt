@@ -5,8 +5,8 @@ ghost use Rattle.std.specs.Str.{bytes_eq};
 ghost use Rattle.sb_model.specs.History.{prefix_of, with_added, without_hash};
 ghost use Rattle.sb_model.specs.Prefixes.{bytes_cmp};
 ghost use Rattle.sb_model.specs.declared.history.Added.{Added as Entry};
-ghost use Rattle.list_versions.specs.Limits.{has_head, prefix_bytes, limit_fault, most_alike};
-ghost use Rattle.list_versions.specs.Live.{bucket_in, Replaces, Holds, IsUncrowded};
+ghost use Rattle.list_versions.specs.Limits.{has_head, prefix_bytes, limit_fault, most_alike, IsUncrowded};
+ghost use Rattle.list_versions.specs.Live.{bucket_in, Replaces, Holds};
 
 use crate::JournalFault;
 use crate::buckets::{Buckets, HashHead, bucket, put_bucket};

@@ -1,0 +1,18 @@
+use Rattle.std.proofs.Common.{◌≡◌, ◌+◌, ◌*◌, [], length, arith}
+use Rattle.list_versions.proofs.Reading.{moves_then, waits_then, fails_then}
+use Rattle.list_versions.proofs.draft.Draft.read_removes.Goals as goal
+
+pub loop-removes-preserved : goal.loop-removes-preserved
+loop-removes-preserved c =
+    let moves = rw c.in-Ok-Some.field-0-is at c.in-Ok-Some.ensures.moves in
+    let one = rw c.in-Ok-Some.field-0-is at c.in-Ok-Some.ensures.length in
+    let count = rw c.in-Ok-Some.field-0-is at c.in-Ok-Some.ensures.count in
+    record {
+      moves = moves_then (129 * length c.take_remove.new.removes) c.loop-removes.invariant.moves moves (omega (arith, one));
+      most = omega (arith, one, c.loop-removes-test.true, c.len.ensures);
+      count = count;
+      sizes = c.in-Ok-Some.ensures.sizes c.loop-removes.invariant.sizes;
+    }
+
+pub returns-in-Ok-None-clause-waits : goal.returns-in-Ok-None-clause-waits
+returns-in-Ok-None-clause-waits c = waits_then c.args.self.now c.loop-removes.invariant.moves (rw c.in-Ok-None.field-0-is at c.in-Ok-None.ensures.waits)

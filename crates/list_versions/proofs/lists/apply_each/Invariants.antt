@@ -1,0 +1,18 @@
+use Rattle.std.proofs.Common.{◌≡◌, ℕ, ◌^◌, ◌<◌, ◌≤◌, List, length, get_or}
+use Rattle.std.specs.Prelude.{All}
+use Rattle.sb_model.specs.declared.history.Added.{Added}
+use Rattle.sb_model.specs.declared.names.ListName.{ListName}
+use Rattle.sb_model.specs.History.{after_change}
+use Rattle.list_versions.specs.declared.draft.Listed.{Listed}
+use Rattle.list_versions.specs.Draft.{declared_of}
+use Rattle.list_versions.specs.Live.{Holds}
+use Rattle.list_versions.proofs.lists.apply_each.Given as goal
+
+abbrev pub invariant-loop-listed : goal.invariant-loop-listed
+invariant-loop-listed l = record {
+  names : declared_of l.lists ≡ declared_of l.initial.lists;
+  same : (k : ℕ) (d : Listed) → l.listed-index ≤ k → get_or l.lists k d ≡ get_or l.initial.lists k d;
+  ok : (sizes : ListName → List Added) → ((name : ListName) → length (sizes name) < 2 ^ 32) → length l.change.adds < 2 ^ 32
+    → All (λ (list : Listed). Holds list.live (sizes list.name)) l.initial.lists
+    → (k : ℕ) (d : Listed) → k < l.listed-index → let list = get_or l.lists k d in Holds list.live (after_change list.name (sizes list.name) l.change);
+}

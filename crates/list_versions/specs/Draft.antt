@@ -1,0 +1,59 @@
+-- A history that is being read.
+use Rattle.std.specs.Prelude.{◌≡◌, ℕ, ◌+◌, ◌≤◌, true, List, [], ◌++◌, length, map, All, Option, Some, None, Result, Ok, Err}
+use Rattle.sb_model.specs.declared.history.Added.{Added}
+use Rattle.sb_model.specs.declared.names.ListName.{ListName}
+use Rattle.sb_model.specs.History.{History, declares, sizes_at, version_count, IsWellFormed, IsPrefixSize}
+use Rattle.list_versions.specs.declared.fault.JournalFault.{JournalFault}
+use Rattle.list_versions.specs.declared.draft.Begin.{Begin}
+use Rattle.list_versions.specs.declared.draft.Draft.{Draft}
+use Rattle.list_versions.specs.declared.draft.Listed.{Listed}
+use Rattle.list_versions.specs.Journal.{Kept, Begun, Reading, after_bytes, settled, ◌>>=◌}
+use Rattle.list_versions.specs.Limits.{most_lists, most_changes, most_hash_lines, hash_lines, WithinLimits}
+use Rattle.list_versions.specs.Live.{Holds}
+
+-- the declared lists, and the history
+abbrev pub declared_of : List Listed → List (ListName × ℕ)
+declared_of lists = map (λ list. (list.name, list.size)) lists
+
+abbrev pub history_of : Draft → History
+history_of draft = record { epoch = draft.epoch; declared = declared_of draft.lists.items; changes = draft.changes.items }
+
+abbrev pub kept_of_draft : Draft → List ℕ → Kept
+kept_of_draft draft rest = record { sized = draft.sized; versions = history_of draft; rest = rest }
+
+-- what a history that is read keeps to
+pub record IsDraft (draft : Draft) : Type 0 where
+  pub hashes : draft.hashes ≡ hash_lines draft.changes.items
+  pub few_lists : length draft.lists.items ≤ most_lists
+  pub few_changes : length draft.changes.items ≤ most_changes
+  pub few_hashes : draft.hashes ≤ most_hash_lines
+  pub live : All (λ list. Holds list.live (sizes_at (history_of draft) list.name (length draft.changes.items))) draft.lists.items
+  pub declared : All (λ change. declares (history_of draft) change.list ≡ true) draft.changes.items
+  pub within : WithinLimits (history_of draft)
+  pub well_formed : IsWellFormed (history_of draft)
+
+-- a change of which these hashes have come
+abbrev pub begun_of : Begin → List Added → List (List ℕ) → Begun
+begun_of begin adds removes = record { list = begin.list; declared_size = begin.size; to_add = begin.to_add; to_remove = begin.to_remove; adds = adds; removes = removes }
+
+-- what bytes become before a record, and within a change. Some bytes of the record were seen before.
+abbrev pub before_record : Draft → List ℕ → List ℕ → Result Kept JournalFault
+before_record draft seen bytes = after_bytes (record { kept = kept_of_draft draft seen; begun = None }) bytes
+
+abbrev pub within_change : Draft → Begin → List Added → List (List ℕ) → List ℕ → List ℕ → Result Kept JournalFault
+within_change draft begin adds removes seen bytes = settled (kept_of_draft draft seen) (begun_of begin adds removes) >>= λ reading. after_bytes reading bytes
+
+-- Some bytes are taken, and what is known goes from one to the other.
+pub record Moves (before after : List ℕ → List ℕ → Result Kept JournalFault) (bytes rest : List ℕ) (most : ℕ) : Type 0 where
+  pub taken : List ℕ
+  pub whole : bytes ≡ taken ++ rest
+  pub few : length taken ≤ most
+  pub same : (seen more : List ℕ) → before seen (bytes ++ more) ≡ after (seen ++ taken) (rest ++ more)
+
+-- the record has not ended
+abbrev pub Waits : Draft → (List ℕ → List ℕ → Result Kept JournalFault) → List ℕ → Type 0
+Waits draft before bytes = (seen : List ℕ) → before seen bytes ≡ Ok (kept_of_draft draft (seen ++ bytes))
+
+-- a line is bad
+abbrev pub Fails : (List ℕ → List ℕ → Result Kept JournalFault) → List ℕ → JournalFault → Type 0
+Fails before bytes fault = (seen more : List ℕ) → before seen (bytes ++ more) ≡ Err fault

@@ -1,0 +1,82 @@
+ghost use Rattle.std.specs.Prelude.{◌≡◌, ℕ, ◌^◌, ◌<◌, ◌≤◌, List, true, length, All, Option, position, map, OnOk, IfSome};
+ghost use Rattle.sb_model.specs.Names.{same_name, name_cmp};
+ghost use Rattle.sb_model.specs.History.{after_change};
+ghost use Rattle.sb_model.specs.declared.history.Added.{Added as Entry};
+ghost use Rattle.sb_model.specs.declared.names.ListName.{ListName as Name};
+ghost use Rattle.list_versions.specs.Draft.{declared_of};
+ghost use Rattle.std.specs.List.{list_any};
+ghost use Rattle.list_versions.specs.Limits.{IsUncrowded, limit_fault};
+ghost use Rattle.list_versions.specs.Live.{Holds};
+
+use crate::JournalFault;
+use crate::draft::Listed;
+use sb_model::{Change, ListName, OutOfMemory};
+use std::alloc::Global;
+use std::cmp::Ordering;
+
+/// Whether two names are the same.
+pub fn same(first: ListName, second: ListName) -> bool
+    ensures { result ≡ same_name first second }
+{
+    first.threat.code() == second.threat.code()
+        && first.platform.code() == second.platform.code()
+        && first.entry.code() == second.entry.code()
+}
+
+/// The order of two names.
+pub fn compare(first: ListName, second: ListName) -> Ordering
+    ensures { result ≡ name_cmp first second }
+{
+    let threats = first.threat.code().cmp(&second.threat.code());
+    let platforms = first.platform.code().cmp(&second.platform.code());
+    let entries = first.entry.code().cmp(&second.entry.code());
+    threats.then(platforms.then(entries))
+}
+
+/// The place of a list.
+pub fn find(lists: &[Listed], name: ListName) -> Option<usize>
+    ensures { result ≡ position (λ list. same_name list.name name) lists.now }
+{
+    lists.iter().position(|list| same(list.name, name))
+}
+
+// Applies a change to a list, where it is one of the list.
+fn apply_to(alloc: Global, listed: &mut Listed, change: &Change) -> Result<(), OutOfMemory>
+    requires { All (λ added. 4 ≤ added.size) change.now.adds }
+    ensures name { listed.new.name ≡ listed.old.name }
+    ensures size { listed.new.size ≡ listed.old.size }
+    ensures ok { OnOk result ((entries : List Entry) → length entries < 2 ^ 32 → length change.now.adds < 2 ^ 32
+        → Holds listed.old.live entries → Holds listed.new.live (after_change listed.old.name entries change.now)) }
+{
+    if same(change.list, listed.name) {
+        listed.live.apply(alloc, change.removes.as_slice(), change.adds.as_slice())?;
+    }
+    Ok(())
+}
+
+/// Applies a change to the list that it is of.
+pub fn apply_each(alloc: Global, lists: &mut [Listed], change: &Change) -> Result<(), OutOfMemory>
+    requires { All (λ added. 4 ≤ added.size) change.now.adds }
+    ensures names { declared_of lists.new ≡ declared_of lists.old }
+    ensures ok { OnOk result ((sizes : Name → List Entry) → ((name : Name) → length (sizes name) < 2 ^ 32) → length change.now.adds < 2 ^ 32
+        → All (λ list. Holds list.live (sizes list.name)) lists.old
+        → All (λ list. Holds list.live (after_change list.name (sizes list.name) change.now)) lists.new) }
+{
+    for listed in lists.iter_mut() {
+        apply_to(alloc, listed, change)?;
+    }
+    Ok(())
+}
+
+/// The fault of a line that ends a change, once the change is applied.
+pub fn limit_of(lists: &[Listed], change: &Change, line: u64) -> Option<JournalFault>
+    requires { list_any (λ list. same_name list.name change.now.list) lists.now ≡ true }
+    ensures { (sizes : Name → List Entry) → ((name : Name) → IsUncrowded (sizes name))
+        → All (λ list. Holds list.live (after_change list.name (sizes list.name) change.now)) lists.now
+        → result ≡ limit_fault line (after_change change.now.list (sizes change.now.list) change.now) }
+{
+    match find(lists, change.list) {
+        Some(i) => lists[i].live.limit(change.adds.as_slice(), line),
+        None => None,
+    }
+}
