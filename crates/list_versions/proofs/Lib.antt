@@ -1,3 +1,5 @@
+pub mod Applying
+pub mod Completing
 pub mod Crowds
 pub mod Digits
 pub mod Finding
@@ -8,5 +10,6 @@ pub mod NameCodes
 pub mod Parts
 pub mod PrefixBytes
 pub mod Reading
+pub mod Records
 pub mod Splitting
 pub mod Words

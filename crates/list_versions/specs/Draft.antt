@@ -1,5 +1,5 @@
 -- A history that is being read.
-use Rattle.std.specs.Prelude.{◌≡◌, ℕ, ◌+◌, ◌≤◌, true, List, [], ◌++◌, length, map, All, Option, Some, None, Result, Ok, Err}
+use Rattle.std.specs.Prelude.{◌≡◌, ℕ, ◌+◌, ◌≤◌, true, List, [], ◌++◌, length, map, take, All, Option, Some, None, Result, Ok, Err}
 use Rattle.sb_model.specs.declared.history.Added.{Added}
 use Rattle.sb_model.specs.declared.names.ListName.{ListName}
 use Rattle.sb_model.specs.History.{History, declares, sizes_at, version_count, IsWellFormed, IsPrefixSize}
@@ -7,7 +7,7 @@ use Rattle.list_versions.specs.declared.fault.JournalFault.{JournalFault}
 use Rattle.list_versions.specs.declared.draft.Begin.{Begin}
 use Rattle.list_versions.specs.declared.draft.Draft.{Draft}
 use Rattle.list_versions.specs.declared.draft.Listed.{Listed}
-use Rattle.list_versions.specs.Journal.{Kept, Begun, Reading, after_bytes, settled, ◌>>=◌}
+use Rattle.list_versions.specs.Journal.{Kept, Begun, Reading, after_bytes, settled, ◌>>=◌, after_change_line, declared_size_of}
 use Rattle.list_versions.specs.Limits.{most_lists, most_changes, most_hash_lines, hash_lines, WithinLimits}
 use Rattle.list_versions.specs.Live.{Holds}
 
@@ -57,3 +57,17 @@ Waits draft before bytes = (seen : List ℕ) → before seen bytes ≡ Ok (kept_
 -- a line is bad
 abbrev pub Fails : (List ℕ → List ℕ → Result Kept JournalFault) → List ℕ → JournalFault → Type 0
 Fails before bytes fault = (seen more : List ℕ) → before seen (bytes ++ more) ≡ Err fault
+
+-- what stays also where a record is refused: the changes that were there are the first ones
+pub record KeepsFront (before after : Draft) : Type 0 where
+  pub sized : after.sized ≡ before.sized
+  pub epoch : after.epoch ≡ before.epoch
+  pub changes : take (length before.changes.items) after.changes.items ≡ before.changes.items
+
+-- what bytes become after the line that begins a change, and before the next record
+abbrev pub after_begin : Draft → ListName → ℕ → ℕ → List ℕ → List ℕ → Result Kept JournalFault
+after_begin draft list to_add to_remove seen bytes =
+    after_change_line (kept_of_draft draft seen) list to_add to_remove (declared_size_of (history_of draft) list) >>= λ reading. after_bytes reading bytes
+
+abbrev pub before_next : Draft → List ℕ → List ℕ → Result Kept JournalFault
+before_next draft seen bytes = before_record draft [] bytes

@@ -1,14 +1,13 @@
 -- The journal of a list server. Its first line names the form and the epoch. Then come records: a line that declares a
 -- list, or a line that begins a change and the hash lines of the change. A journal that is still written ends in a record
 -- that has not ended: these bytes are the rest.
-use Rattle.std.specs.Prelude.{ℕ, ◌+◌, ◌==◌, Bool, ◌&&◌, nat_lt, nat_le, true, false, not, if◌then◌else◌, List, [], ◌∷◌, ◌++◌, length, filter, insert, Option, Some, None, Result, Ok, Err, find}
+use Rattle.std.specs.Prelude.{ℕ, ◌+◌, ◌==◌, Bool, ◌&&◌, nat_lt, nat_le, true, false, not, if◌then◌else◌, List, [], ◌∷◌, ◌++◌, length, Option, Some, None, Result, Ok, Err, find}
 use Rattle.std.specs.List.{slice_split}
 use Rattle.std.specs.Option.{option_map}
-use Rattle.std.specs.Ordering.{is_lt}
 use Rattle.sb_model.specs.declared.history.Added.{Added}
 use Rattle.sb_model.specs.declared.history.Change.{Change}
 use Rattle.sb_model.specs.declared.names.ListName.{ListName}
-use Rattle.sb_model.specs.Names.{same_name, name_cmp}
+use Rattle.sb_model.specs.Names.{same_name}
 use Rattle.sb_model.specs.History.{History, declares, sizes_at, version_count}
 use Rattle.list_versions.specs.Lines.{newline, is_newline, header_of, head_of, added_of, removed_of}
 use Rattle.list_versions.specs.Limits.{most_lists, most_changes, most_hash_lines, hash_lines, limit_fault}
@@ -64,9 +63,9 @@ next_hash_line history begun = next_line history + lines_begun begun + 1
 
 -- ---- lines
 
--- Declared lists stand in the order of their names: a list comes after those whose names are before its own.
+-- Declared lists stand in the order of the journal.
 abbrev pub with_list : ListName → ℕ → List (ListName × ℕ) → List (ListName × ℕ)
-with_list name size declared = insert declared (length (filter (λ list. is_lt (name_cmp list.0 name)) declared)) (name, size)
+with_list name size declared = declared ++ (name, size) ∷ []
 
 abbrev pub at_record : Kept → Reading
 at_record kept = record { kept = record kept { rest = [] }; begun = None }

@@ -1,20 +1,24 @@
-ghost use Rattle.std.specs.Prelude.{◌≡◌, ◌⊎◌, ℕ, ◌+◌, ◌*◌, ◌^◌, ◌<◌, ◌≤◌, List, [], ◌∷◌, ◌++◌, length, take, All, Option, Some, None, Ok, Err, MatchOption, IfSome, IfNone, IfOk, OnOk, IfErr};
-ghost use Rattle.sb_model.specs.Names.{same_name, name_cmp};
-ghost use Rattle.sb_model.specs.History.{IsPrefixSize};
+ghost use Rattle.std.specs.Prelude.{◌≡◌, ◌⊎◌, ℕ, ◌+◌, ◌*◌, ◌^◌, ◌<◌, ◌≤◌, List, true, [], ◌∷◌, ◌++◌, length, take, All, Option, Some, None, Ok, Err, MatchOption, IfSome, IfNone, IfOk, OnOk, IfErr};
+ghost use Rattle.sb_model.specs.Names.{same_name};
+ghost use Rattle.sb_model.specs.History.{IsPrefixSize, declares};
 ghost use Rattle.sb_model.specs.declared.history.Added.{Added as Entry};
 ghost use Rattle.list_versions.specs.Lines.{IsAdded};
-ghost use Rattle.list_versions.specs.Journal.{next_line, declared_size_of};
-ghost use Rattle.list_versions.specs.Limits.{most_hash_lines};
-ghost use Rattle.list_versions.specs.Draft.{history_of, kept_of_draft, IsDraft, before_record, within_change, Moves, Waits, Fails};
+ghost use Rattle.list_versions.specs.Journal.{next_line, after_list, at_record};
+ghost use Rattle.list_versions.specs.Limits.{most_hash_lines, most_changes};
+ghost use Rattle.list_versions.specs.Draft.{history_of, kept_of_draft, IsDraft, before_record, within_change, Moves, Waits, Fails, KeepsFront, after_begin, before_next};
 
 use crate::JournalFault;
-use crate::lines::{read_add, read_remove};
+use crate::heads::Head;
+use crate::lines::{read_add, read_head, read_remove};
+use crate::lists::{apply_each, is_declared, limit_of, size_of};
 use crate::live::Live;
 use crate::split::next_line;
 use sb_model::{Added, Change, ListName, Row};
 use std::alloc::Global;
 
-/// The most hash lines of a journal.
+/// The most lists of a journal, the most changes, and the most hash lines.
+const MOST_LISTS: usize = 8;
+const MOST_CHANGES: usize = 65_536;
 const MOST_HASH_LINES: u64 = 2_097_152;
 
 /// A declared list with its newest full hashes.
@@ -176,5 +180,146 @@ impl Draft {
             }
         }
         Ok(Some((removes, rest)))
+    }
+
+    // Takes a change that has come whole.
+    fn complete(&mut self, alloc: Global, begin: &Begin, adds: Row<Added>, removes: Row<[u8; 32]>) -> Result<(), JournalFault>
+        requires draft { IsDraft self.old }
+        requires added { length adds ≡ begin.now.to_add }
+        requires removed { length removes ≡ begin.now.to_remove }
+        requires some { begin.now.to_add + begin.now.to_remove ≤ 1024 }
+        requires few { length self.old.changes.items < most_changes }
+        requires count { self.old.hashes + length adds + length removes ≤ most_hash_lines }
+        requires declared { declares (history_of self.old) begin.now.list ≡ true }
+        requires adds_well { All IsAdded adds }
+        requires removes_well { All (λ hash. length hash ≡ 32) removes }
+        ensures draft { OnOk result (IsDraft self.new) }
+        ensures ok { OnOk result ((seen bytes : List ℕ) → within_change self.old begin.now adds removes seen bytes ≡ before_record self.new [] bytes) }
+        ensures fault { IfErr result (λ fault. (fault ≡ JournalFault.OutOfMemory)
+            ⊎ ((seen bytes : List ℕ) → within_change self.old begin.now adds removes seen bytes ≡ Err fault)) }
+        ensures front { KeepsFront self.old self.new }
+    {
+        let count = adds.len() as u64 + removes.len() as u64;
+        let line = self.next_line() + count;
+        let change = Change {
+            list: begin.list,
+            adds,
+            removes,
+        };
+        let Ok(()) = apply_each(alloc, &mut self.lists, &change) else {
+            return Err(JournalFault::OutOfMemory);
+        };
+        if let Some(fault) = limit_of(&self.lists, &change, line) {
+            return Err(fault);
+        }
+        let Ok(()) = self.changes.push(change) else {
+            return Err(JournalFault::OutOfMemory);
+        };
+        self.hashes += count;
+        Ok(())
+    }
+
+    // Takes a line that declares a list.
+    fn declare(&mut self, alloc: Global, name: ListName, size: u8) -> Result<(), JournalFault>
+        requires draft { IsDraft self.old }
+        requires size { IsPrefixSize size }
+        ensures draft { OnOk result (IsDraft self.new) }
+        ensures ok { OnOk result ((kept : List ℕ) → after_list (kept_of_draft self.old kept) name size ≡ Ok (at_record (kept_of_draft self.new []))) }
+        ensures fault { IfErr result (λ fault. (fault ≡ JournalFault.OutOfMemory)
+            ⊎ ((kept : List ℕ) → after_list (kept_of_draft self.old kept) name size ≡ Err fault)) }
+        ensures front { KeepsFront self.old self.new }
+    {
+        let line = self.next_line();
+        if is_declared(&self.lists, name) {
+            return Err(JournalFault::ListTwice(line));
+        }
+        if self.lists.len() >= MOST_LISTS {
+            return Err(JournalFault::TooMany(line));
+        }
+        let listed = Listed {
+            name,
+            size,
+            live: Live::new(alloc),
+        };
+        let Ok(()) = self.lists.push(listed) else {
+            return Err(JournalFault::OutOfMemory);
+        };
+        Ok(())
+    }
+
+    // Reads the change that a line begins.
+    fn read_change<'a>(&mut self, alloc: Global, list: ListName, to_add: u32, to_remove: u32, bytes: &'a [u8]) -> Result<Option<&'a [u8]>, JournalFault>
+        requires draft { IsDraft self.old }
+        requires some { 1 ≤ to_add + to_remove }
+        requires few { to_add + to_remove ≤ 1024 }
+        ensures draft { OnOk result (IsDraft self.new) }
+        ensures moves { IfOk result (λ found. IfSome found (λ rest.
+            Moves (after_begin self.old list to_add to_remove) (before_next self.new) bytes.now rest.now 132096)) }
+        ensures waits { IfOk result (λ found. IfNone found (Waits self.old (after_begin self.old list to_add to_remove) bytes.now)) }
+        ensures front { IfOk result (λ found. IfNone found (length bytes.now ≤ 132224)) }
+        ensures same { IfOk result (λ found. IfNone found (self.new ≡ self.old)) }
+        ensures fault { IfErr result (λ fault. (fault ≡ JournalFault.OutOfMemory)
+            ⊎ Fails (after_begin self.old list to_add to_remove) bytes.now fault) }
+        ensures kept { KeepsFront self.old self.new }
+    {
+        let line = self.next_line();
+        let Some(size) = size_of(&self.lists, list) else {
+            return Err(JournalFault::UnknownList(line));
+        };
+        if self.changes.len() >= MOST_CHANGES {
+            return Err(JournalFault::TooMany(line));
+        }
+        let begin = Begin {
+            list,
+            size,
+            to_add,
+            to_remove,
+        };
+        let (adds, rest) = match self.read_adds(alloc, &begin, bytes) {
+            Ok(Some(taken)) => taken,
+            Ok(None) => return Ok(None),
+            Err(fault) => return Err(fault),
+        };
+        let (removes, rest) = match self.read_removes(alloc, &begin, adds.as_slice(), rest) {
+            Ok(Some(taken)) => taken,
+            Ok(None) => return Ok(None),
+            Err(fault) => return Err(fault),
+        };
+        match self.complete(alloc, &begin, adds, removes) {
+            Ok(()) => Ok(Some(rest)),
+            Err(fault) => Err(fault),
+        }
+    }
+
+    /// Reads one record, and gives what stands after it; `None` where the record has not ended.
+    pub fn read_record<'a>(&mut self, alloc: Global, bytes: &'a [u8]) -> Result<Option<&'a [u8]>, JournalFault>
+        requires draft { IsDraft self.old }
+        ensures draft { OnOk result (IsDraft self.new) }
+        ensures moves { IfOk result (λ found. IfSome found (λ rest.
+            (more : List ℕ) → before_record self.old [] (bytes.now ++ more) ≡ before_record self.new [] (rest.now ++ more))) }
+        ensures shorter { IfOk result (λ found. IfSome found (λ rest. length rest.now < length bytes.now)) }
+        ensures waits { IfOk result (λ found. IfNone found (before_record self.old [] bytes.now ≡ Ok (kept_of_draft self.old bytes.now))) }
+        ensures front { IfOk result (λ found. IfNone found (length bytes.now ≤ 132608)) }
+        ensures same { IfOk result (λ found. IfNone found (self.new ≡ self.old)) }
+        ensures fault { IfErr result (λ fault. (fault ≡ JournalFault.OutOfMemory)
+            ⊎ ((more : List ℕ) → before_record self.old [] (bytes.now ++ more) ≡ Err fault)) }
+        ensures kept { KeepsFront self.old self.new }
+    {
+        let line = self.next_line();
+        let (text, rest) = match next_line(bytes) {
+            Ok(Some(halves)) => halves,
+            Ok(None) => return Ok(None),
+            Err(_) => return Err(JournalFault::Line(line)),
+        };
+        match read_head(text) {
+            None => Err(JournalFault::Line(line)),
+            Some(Head::List(name, size)) => match self.declare(alloc, name, size) {
+                Ok(()) => Ok(Some(rest)),
+                Err(fault) => Err(fault),
+            },
+            Some(Head::Change(list, to_add, to_remove)) => {
+                self.read_change(alloc, list, to_add, to_remove, rest)
+            }
+        }
     }
 }

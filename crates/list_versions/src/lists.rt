@@ -1,5 +1,5 @@
-ghost use Rattle.std.specs.Prelude.{◌≡◌, ℕ, ◌^◌, ◌<◌, ◌≤◌, List, true, length, All, Option, position, map, OnOk, IfSome};
-ghost use Rattle.sb_model.specs.Names.{same_name, name_cmp};
+ghost use Rattle.std.specs.Prelude.{◌≡◌, ℕ, ◌^◌, ◌<◌, ◌≤◌, List, true, length, All, Option, option_map, find, OnOk};
+ghost use Rattle.sb_model.specs.Names.{same_name};
 ghost use Rattle.sb_model.specs.History.{after_change};
 ghost use Rattle.sb_model.specs.declared.history.Added.{Added as Entry};
 ghost use Rattle.sb_model.specs.declared.names.ListName.{ListName as Name};
@@ -12,7 +12,6 @@ use crate::JournalFault;
 use crate::draft::Listed;
 use sb_model::{Change, ListName, OutOfMemory};
 use std::alloc::Global;
-use std::cmp::Ordering;
 
 /// Whether two names are the same.
 pub fn same(first: ListName, second: ListName) -> bool
@@ -23,21 +22,23 @@ pub fn same(first: ListName, second: ListName) -> bool
         && first.entry.code() == second.entry.code()
 }
 
-/// The order of two names.
-pub fn compare(first: ListName, second: ListName) -> Ordering
-    ensures { result ≡ name_cmp first second }
+/// Whether a list is declared.
+pub fn is_declared(lists: &[Listed], name: ListName) -> bool
+    ensures { result ≡ list_any (λ list. same_name list.name name) lists.now }
 {
-    let threats = first.threat.code().cmp(&second.threat.code());
-    let platforms = first.platform.code().cmp(&second.platform.code());
-    let entries = first.entry.code().cmp(&second.entry.code());
-    threats.then(platforms.then(entries))
+    lists.iter().any(|list| same(list.name, name))
 }
 
-/// The place of a list.
-pub fn find(lists: &[Listed], name: ListName) -> Option<usize>
-    ensures { result ≡ position (λ list. same_name list.name name) lists.now }
+/// The size that is declared for a list.
+pub fn size_of(lists: &[Listed], name: ListName) -> Option<u8>
+    ensures { result ≡ option_map (λ list. list.1) (find (λ list. same_name list.0 name) (declared_of lists.now)) }
 {
-    lists.iter().position(|list| same(list.name, name))
+    for listed in lists {
+        if same(listed.name, name) {
+            return Some(listed.size);
+        }
+    }
+    None
 }
 
 // Applies a change to a list, where it is one of the list.
@@ -55,15 +56,15 @@ fn apply_to(alloc: Global, listed: &mut Listed, change: &Change) -> Result<(), O
 }
 
 /// Applies a change to the list that it is of.
-pub fn apply_each(alloc: Global, lists: &mut [Listed], change: &Change) -> Result<(), OutOfMemory>
+pub fn apply_each(alloc: Global, lists: &mut Vec<Listed>, change: &Change) -> Result<(), OutOfMemory>
     requires { All (λ added. 4 ≤ added.size) change.now.adds }
-    ensures names { declared_of lists.new ≡ declared_of lists.old }
+    ensures names { declared_of lists.new.items ≡ declared_of lists.old.items }
     ensures ok { OnOk result ((sizes : Name → List Entry) → ((name : Name) → length (sizes name) < 2 ^ 32) → length change.now.adds < 2 ^ 32
-        → All (λ list. Holds list.live (sizes list.name)) lists.old
-        → All (λ list. Holds list.live (after_change list.name (sizes list.name) change.now)) lists.new) }
+        → All (λ list. Holds list.live (sizes list.name)) lists.old.items
+        → All (λ list. Holds list.live (after_change list.name (sizes list.name) change.now)) lists.new.items) }
 {
-    for listed in lists.iter_mut() {
-        apply_to(alloc, listed, change)?;
+    for i in 0..lists.len() {
+        apply_to(alloc, &mut lists[i], change)?;
     }
     Ok(())
 }
@@ -75,8 +76,10 @@ pub fn limit_of(lists: &[Listed], change: &Change, line: u64) -> Option<JournalF
         → All (λ list. Holds list.live (after_change list.name (sizes list.name) change.now)) lists.now
         → result ≡ limit_fault line (after_change change.now.list (sizes change.now.list) change.now) }
 {
-    match find(lists, change.list) {
-        Some(i) => lists[i].live.limit(change.adds.as_slice(), line),
-        None => None,
+    for listed in lists {
+        if same(listed.name, change.list) {
+            return listed.live.limit(change.adds.as_slice(), line);
+        }
     }
+    None
 }

@@ -8,11 +8,12 @@ use Rattle.list_versions.specs.Draft.{declared_of}
 use Rattle.list_versions.specs.Live.{Holds}
 use Rattle.list_versions.proofs.lists.apply_each.Given as goal
 
-abbrev pub invariant-loop-listed : goal.invariant-loop-listed
-invariant-loop-listed l = record {
-  names : declared_of l.lists ≡ declared_of l.initial.lists;
-  same : (k : ℕ) (d : Listed) → l.listed-index ≤ k → get_or l.lists k d ≡ get_or l.initial.lists k d;
+abbrev pub invariant-loop-i : goal.invariant-loop-i
+invariant-loop-i l = record {
+  names : declared_of l.lists.items ≡ declared_of l.initial.lists.items;
+  long : length l.lists.items ≡ length l.initial.lists.items;
+  same : (k : ℕ) (d : Listed) → l.i ≤ k → get_or l.lists.items k d ≡ get_or l.initial.lists.items k d;
   ok : (sizes : ListName → List Added) → ((name : ListName) → length (sizes name) < 2 ^ 32) → length l.change.adds < 2 ^ 32
-    → All (λ (list : Listed). Holds list.live (sizes list.name)) l.initial.lists
-    → (k : ℕ) (d : Listed) → k < l.listed-index → let list = get_or l.lists k d in Holds list.live (after_change list.name (sizes list.name) l.change);
+    → All (λ (list : Listed). Holds list.live (sizes list.name)) l.initial.lists.items
+    → (k : ℕ) (d : Listed) → k < l.i → let list = get_or l.lists.items k d in Holds list.live (after_change list.name (sizes list.name) l.change);
 }
