@@ -35,19 +35,19 @@ abbrev pub IsApplied : Change → (ListName → List Added) → Listed → Type 
 IsApplied change sizes list = Holds list.live (after_change list.name (sizes list.name) change)
 
 pub applied_more : (change : Change) (sizes : ListName → List Added) (lists first : List Listed) (i : ℕ) (v d : Listed) → i < length lists → i < length first
-  → ((k : ℕ) (e : Listed) → i ≤ k → get_or lists k e ≡ get_or first k e) → v.name ≡ (get_or lists i d).name
-  → ((entries : List Added) → length entries < 2 ^ 32 → length change.adds < 2 ^ 32 → Holds (get_or lists i d).live entries → Holds v.live (after_change (get_or lists i d).name entries change))
-  → ((name : ListName) → length (sizes name) < 2 ^ 32) → length change.adds < 2 ^ 32 → All (λ (list : Listed). Holds list.live (sizes list.name)) first
-  → ((k : ℕ) (e : Listed) → k < i → IsApplied change sizes (get_or lists k e))
-  → (k : ℕ) (e : Listed) → k < i + 1 → IsApplied change sizes (get_or (set lists i v) k e)
+    → ((k : ℕ) (e : Listed) → i ≤ k → get_or lists k e ≡ get_or first k e) → v.name ≡ (get_or lists i d).name
+    → ((entries : List Added) → length entries < 2 ^ 32 → length change.adds < 2 ^ 32 → Holds (get_or lists i d).live entries → Holds v.live (after_change (get_or lists i d).name entries change))
+    → ((name : ListName) → length (sizes name) < 2 ^ 32) → length change.adds < 2 ^ 32 → All (λ (list : Listed). Holds list.live (sizes list.name)) first
+    → ((k : ℕ) (e : Listed) → k < i → IsApplied change sizes (get_or lists k e))
+    → (k : ℕ) (e : Listed) → k < i + 1 → IsApplied change sizes (get_or (set lists i v) k e)
 applied_more change sizes lists first i v d lt lt' same name ok small few all before k e =
     below_more (λ (j : ℕ). IsApplied change sizes (get_or (set lists i v) j e)) i
     (λ j h. let ne : j ≢ i = omega arith in rw get_or-set_other (before j e h))
     (rw get_or-set_same (
-      let held : Holds (get_or first i d).live (sizes (get_or first i d).name) = all i d lt' in
-      let held' : Holds (get_or lists i d).live (sizes (get_or lists i d).name) = subst (λ (list : Listed). Holds list.live (sizes list.name)) (sym (same i d (omega arith))) held in
-      let P : ListName → Type 0 = λ n. Holds v.live (after_change n (sizes n) change) in
-      subst P (sym name) (ok (sizes (get_or lists i d).name) (small (get_or lists i d).name) few held')))
+    let held : Holds (get_or first i d).live (sizes (get_or first i d).name) = all i d lt' in
+    let held' : Holds (get_or lists i d).live (sizes (get_or lists i d).name) = subst (λ (list : Listed). Holds list.live (sizes list.name)) (sym (same i d (omega arith))) held in
+    let P : ListName → Type 0 = λ n. Holds v.live (after_change n (sizes n) change) in
+    subst P (sym name) (ok (sizes (get_or lists i d).name) (small (get_or lists i d).name) few held')))
     k
 
 cond_true : (b : Bool) (x y : List Added) → b ≡ true → cond b x y ≡ x
@@ -59,14 +59,14 @@ pub own_change : (change : Change) (entries : List Added) → after_change chang
 own_change change entries = cond_true (same_name change.list change.list) _ entries (name_is_same change.list)
 
 pub limit_found : (change : Change) (sizes : ListName → List Added) (list : Listed) (line : ℕ) (adds : List Added) (answer : Option JournalFault) → list.name ≡ change.list → adds ≡ change.adds
-  → IsApplied change sizes list → IsUncrowded (sizes change.list)
-  → ((before : List Added) (removes : List (List ℕ)) → IsUncrowded before → Holds list.live (fold with_added (fold without_hash before removes) adds) → answer ≡ limit_fault line (fold with_added (fold without_hash before removes) adds))
-  → answer ≡ limit_fault line (after_change change.list (sizes change.list) change)
+    → IsApplied change sizes list → IsUncrowded (sizes change.list)
+    → ((before : List Added) (removes : List (List ℕ)) → IsUncrowded before → Holds list.live (fold with_added (fold without_hash before removes) adds) → answer ≡ limit_fault line (fold with_added (fold without_hash before removes) adds))
+    → answer ≡ limit_fault line (after_change change.list (sizes change.list) change)
 limit_found change sizes list line adds answer name is holds few limit =
     let P : ListName → Type 0 = λ n. Holds list.live (after_change n (sizes n) change) in
     let held : Holds list.live (after_change change.list (sizes change.list) change) = subst P name holds in
     let entries : fold with_added (fold without_hash (sizes change.list) change.removes) adds ≡ after_change change.list (sizes change.list) change =
-      ap (λ xs. fold with_added (fold without_hash (sizes change.list) change.removes) xs) is ∙ sym (own_change change (sizes change.list)) in
+    ap (λ xs. fold with_added (fold without_hash (sizes change.list) change.removes) xs) is ∙ sym (own_change change (sizes change.list)) in
     let held' : Holds list.live (fold with_added (fold without_hash (sizes change.list) change.removes) adds) = subst (λ xs. Holds list.live xs) (sym entries) held in
     limit (sizes change.list) change.removes few held' ∙ ap (limit_fault line) entries
 
@@ -82,7 +82,7 @@ abbrev pub is_named : ListName → ListName × ℕ → Bool
 is_named name list = same_name list.0 name
 
 pub find_here : (lists : List Listed) (i : ℕ) (item : Listed) (name : ListName) (b : Bool) → i < length lists → item ≡ get_or lists i item → same_name item.name name ≡ b
-  → find (is_named name) (declared_of (drop i lists)) ≡ cond b (Some (item.name, item.size)) (find (is_named name) (declared_of (drop (i + 1) lists)))
+    → find (is_named name) (declared_of (drop i lists)) ≡ cond b (Some (item.name, item.size)) (find (is_named name) (declared_of (drop (i + 1) lists)))
 find_here lists i item name b h is e =
     let item_is : (get_or lists i item).name ≡ item.name = ap (λ (l : Listed). l.name) (sym is) in
     let cons = drop_listed lists i item h in

@@ -36,7 +36,7 @@ pub sizes_old : (history : History) (change : Change) (list : ListName) (version
 sizes_old history change list version h = ap (fold (after_change list) []) (take-append-le version history.changes (change ∷ []) h)
 
 pub sizes_new : (history : History) (change : Change) (list : ListName) (version : ℕ) → version ≡ length history.changes + 1
-  → sizes_at (with_change change history) list version ≡ after_change list (sizes_at history list (length history.changes)) change
+    → sizes_at (with_change change history) list version ≡ after_change list (sizes_at history list (length history.changes)) change
 sizes_new history change list version h =
     ap (fold (after_change list) []) (take_all version (history.changes ++ change ∷ []) (omega (arith, h, length-append history.changes (change ∷ []))))
     ∙ fold_both (after_change list) [] history.changes (change ∷ [])
@@ -60,7 +60,7 @@ within_limits n entries h =
 
 -- a list after a change, of which the own list is within the limits
 within_at : (change : Change) (list : ListName) (before : ListName → List Added) (b : Bool) → same_name change.list list ≡ b → IsWithin (before list) → IsWithin (after_change change.list (before change.list) change)
-  → IsWithin (after_change list (before list) change)
+    → IsWithin (after_change list (before list) change)
 within_at change list before true e old own = subst (λ (l : ListName). IsWithin (after_change l (before l) change)) (names_same change.list list e) own
 within_at change list before false e old own = rw e old
 
@@ -86,7 +86,7 @@ pub history_completed : (old new : Draft) (change : Change) → new.epoch ≡ ol
 history_completed old new change e d c = λ i. record { epoch = e i; declared = d i; changes = c i }
 
 pub history_is : (epoch : ℕ) (declared declared' : List (ListName × ℕ)) (changes changes' : List Change) (change : Change) → declared' ≡ declared → changes' ≡ changes ++ change ∷ []
-  → let new : History = record { epoch = epoch; declared = declared'; changes = changes' } in new ≡ with_change change (record { epoch = epoch; declared = declared; changes = changes })
+    → let new : History = record { epoch = epoch; declared = declared'; changes = changes' } in new ≡ with_change change (record { epoch = epoch; declared = declared; changes = changes })
 history_is epoch declared declared' changes changes' change d c = λ i. record { epoch = epoch; declared = d i; changes = c i }
 
 hash_lines_more : (changes : List Change) (change : Change) → hash_lines (changes ++ change ∷ []) ≡ hash_lines changes + (length change.adds + length change.removes)
@@ -96,11 +96,11 @@ hash_lines_more changes change = sum_by-append (λ (c : Change). length c.adds +
     one n = omega arith
 
 pub draft_completed : (old new : Draft) (change : Change) (n : ℕ) → IsDraft old → new.epoch ≡ old.epoch → declared_of new.lists.items ≡ declared_of old.lists.items → new.changes.items ≡ old.changes.items ++ change ∷ []
-  → new.hashes ≡ old.hashes + (length change.adds + length change.removes)
-  → All (IsApplied change (λ name. sizes_at (history_of old) name (length old.changes.items))) new.lists.items
-  → limit_fault n (after_change change.list (sizes_at (history_of old) change.list (length old.changes.items)) change) ≡ None
-  → length old.changes.items < 65536 → old.hashes + (length change.adds + length change.removes) ≤ 2097152 → declares (history_of old) change.list ≡ true
-  → All IsAdded change.adds → All (λ (hash : List ℕ). length hash ≡ 32) change.removes → IsDraft new
+    → new.hashes ≡ old.hashes + (length change.adds + length change.removes)
+    → All (IsApplied change (λ name. sizes_at (history_of old) name (length old.changes.items))) new.lists.items
+    → limit_fault n (after_change change.list (sizes_at (history_of old) change.list (length old.changes.items)) change) ≡ None
+    → length old.changes.items < 65536 → old.hashes + (length change.adds + length change.removes) ≤ 2097152 → declares (history_of old) change.list ≡ true
+    → All IsAdded change.adds → All (λ (hash : List ℕ). length hash ≡ 32) change.removes → IsDraft new
 draft_completed old new change n draft epoch declared changes hashes applied none few count named adds removes =
     let history = history_completed old new change epoch declared changes in
     let long = ap length changes ∙ length-append old.changes.items (change ∷ []) in
@@ -110,19 +110,19 @@ draft_completed old new change n draft epoch declared changes hashes applied non
       few_changes = omega (arith, long);
       few_hashes = omega (arith, hashes);
       live = All-weaker (IsApplied change (λ name. sizes_at (history_of old) name (length old.changes.items))) (λ (list : Listed). Holds list.live (sizes_at (history_of new) list.name (length new.changes.items)))
-        (λ list h. subst (λ es. Holds list.live es) (sym (ap (λ (v : History). sizes_at v list.name (length new.changes.items)) history ∙ sizes_new (history_of old) change list.name (length new.changes.items) (omega (arith, long)))) h) new.lists.items applied;
+          (λ list h. subst (λ es. Holds list.live es) (sym (ap (λ (v : History). sizes_at v list.name (length new.changes.items)) history ∙ sizes_new (history_of old) change list.name (length new.changes.items) (omega (arith, long)))) h) new.lists.items applied;
       declared = subst (λ cs. All (λ (c : Change). declares (history_of new) c.list ≡ true) cs) (sym changes)
-        (All-push (λ (c : Change). declares (history_of new) c.list ≡ true) old.changes.items change
+          (All-push (λ (c : Change). declares (history_of new) c.list ≡ true) old.changes.items change
           (All-weaker (λ (c : Change). declares (history_of old) c.list ≡ true) (λ (c : Change). declares (history_of new) c.list ≡ true) (λ c h. ap (λ ds. list_any (λ (list : ListName × ℕ). same_name list.0 c.list) ds) declared ∙ h) old.changes.items draft.declared)
           (ap (λ ds. list_any (λ (list : ListName × ℕ). same_name list.0 change.list) ds) declared ∙ named));
       within = subst WithinLimits (sym history) (within_new (history_of old) change n draft.within none);
       well_formed = record {
         declared = subst (λ ds. All (λ (list : ListName × ℕ). IsPrefixSize list.1) ds) (sym declared) draft.well_formed.declared;
         adds = subst (λ cs. All (λ (c : Change). All (λ (added : Added). (length added.hash ≡ 32) × IsPrefixSize added.size) c.adds) cs) (sym changes)
-          (All-push (λ (c : Change). All (λ (added : Added). (length added.hash ≡ 32) × IsPrefixSize added.size) c.adds) old.changes.items change draft.well_formed.adds
+            (All-push (λ (c : Change). All (λ (added : Added). (length added.hash ≡ 32) × IsPrefixSize added.size) c.adds) old.changes.items change draft.well_formed.adds
             (All-weaker IsAdded (λ (added : Added). (length added.hash ≡ 32) × IsPrefixSize added.size) (λ added h. (h.hash, h.size)) change.adds adds));
         removes = subst (λ cs. All (λ (c : Change). All (λ (hash : List ℕ). length hash ≡ 32) c.removes) cs) (sym changes)
-          (All-push (λ (c : Change). All (λ (hash : List ℕ). length hash ≡ 32) c.removes) old.changes.items change draft.well_formed.removes removes);
+            (All-push (λ (c : Change). All (λ (hash : List ℕ). length hash ≡ 32) c.removes) old.changes.items change draft.well_formed.removes removes);
       };
     }
 
@@ -136,9 +136,9 @@ complete_is : (begin : Begin) (adds : List Added) (removes : List (List ℕ)) �
 complete_is begin adds removes a r = rw (eq-eqb _ _ a, eq-eqb _ _ r) refl
 
 pub at_the_end : (old : Draft) (begin : Begin) (adds : List Added) (removes : List (List ℕ)) (change : Change) (line : ℕ) (answer : Option JournalFault) → length adds ≡ begin.to_add → length removes ≡ begin.to_remove
-  → change ≡ change_of (begun_of begin adds removes) → line ≡ next_line (history_of old) + lines_begun (begun_of begin adds removes)
-  → answer ≡ limit_fault line (after_change change.list (sizes_at (history_of old) change.list (length old.changes.items)) change)
-  → (seen : List ℕ) → settled (kept_of_draft old seen) (begun_of begin adds removes) ≡ if_within_limits (record (kept_of_draft old seen) { versions = with_change change (history_of old) }) answer
+    → change ≡ change_of (begun_of begin adds removes) → line ≡ next_line (history_of old) + lines_begun (begun_of begin adds removes)
+    → answer ≡ limit_fault line (after_change change.list (sizes_at (history_of old) change.list (length old.changes.items)) change)
+    → (seen : List ℕ) → settled (kept_of_draft old seen) (begun_of begin adds removes) ≡ if_within_limits (record (kept_of_draft old seen) { versions = with_change change (history_of old) }) answer
 at_the_end old begin adds removes change line answer a r c l h seen =
     let begun = begun_of begin adds removes in
     let versions = with_change change (history_of old) in
@@ -184,23 +184,23 @@ declared_more [] listed = refl
 declared_more (x ∷ xs) listed = ap (λ ds. (x.name, x.size) ∷ ds) (declared_more xs listed)
 
 pub draft_declared : (old new : Draft) (listed : Listed) → IsDraft old → new.lists.items ≡ old.lists.items ++ listed ∷ [] → new.changes ≡ old.changes → new.hashes ≡ old.hashes → length old.lists.items < 8
-  → declares (history_of old) listed.name ≡ false → IsPrefixSize listed.size → Holds listed.live [] → IsDraft new
+    → declares (history_of old) listed.name ≡ false → IsPrefixSize listed.size → Holds listed.live [] → IsDraft new
 draft_declared old new listed draft lists changes hashes few absent size live =
     let items = ap (λ cs. cs.items) changes in
     let declared = ap declared_of lists ∙ declared_more old.lists.items listed in
     let sizes : (name : ListName) → sizes_at (history_of new) name (length new.changes.items) ≡ sizes_at (history_of old) name (length old.changes.items) =
-      λ name. ap (λ cs. fold (after_change name) [] (take (length cs) cs)) items in
+    λ name. ap (λ cs. fold (after_change name) [] (take (length cs) cs)) items in
     record {
       hashes = hashes ∙ draft.hashes ∙ ap hash_lines (sym items);
       few_lists = omega (arith, ap length lists, length-append old.lists.items (listed ∷ []));
       few_changes = omega (arith, ap length items, draft.few_changes);
       few_hashes = omega (arith, hashes, draft.few_hashes);
       live = subst (λ ls. All (λ (list : Listed). Holds list.live (sizes_at (history_of new) list.name (length new.changes.items))) ls) (sym lists)
-        (All-push (λ (list : Listed). Holds list.live (sizes_at (history_of new) list.name (length new.changes.items))) old.lists.items listed
+          (All-push (λ (list : Listed). Holds list.live (sizes_at (history_of new) list.name (length new.changes.items))) old.lists.items listed
           (All-weaker (λ (list : Listed). Holds list.live (sizes_at (history_of old) list.name (length old.changes.items))) (λ (list : Listed). Holds list.live (sizes_at (history_of new) list.name (length new.changes.items))) (λ list h. subst (λ es. Holds list.live es) (sym (sizes list.name)) h) old.lists.items draft.live)
           (subst (λ es. Holds listed.live es) (sym (sizes listed.name ∙ no_sizes old listed.name draft absent)) live));
       declared = subst (λ cs. All (λ (c : Change). declares (history_of new) c.list ≡ true) cs) (sym items)
-        (All-weaker (λ (c : Change). declares (history_of old) c.list ≡ true) (λ (c : Change). declares (history_of new) c.list ≡ true)
+          (All-weaker (λ (c : Change). declares (history_of old) c.list ≡ true) (λ (c : Change). declares (history_of new) c.list ≡ true)
           (λ c h. ap (λ ds. list_any (λ (list : ListName × ℕ). same_name list.0 c.list) ds) declared ∙ any_more (λ (list : ListName × ℕ). same_name list.0 c.list) (declared_of old.lists.items) ((listed.name, listed.size) ∷ []) h) old.changes.items draft.declared);
       within = λ list version h. rw (ap (λ cs. fold (after_change list) [] (take version cs)) items) (draft.within list version (omega (arith, h, ap length items)));
       well_formed = record {
@@ -229,7 +229,7 @@ refused_many draft name size line h many e kept =
     list_once (declares (history_of draft) name) _ _ h ∙ list_twice (nat_le most_lists (length (declared_of draft.lists.items))) _ _ full ∙ ap (λ n. Err (fault.TooMany n)) (sym e)
 
 pub list_taken : (old : Draft) (name : ListName) (size : ℕ) (declared : List (ListName × ℕ)) → declares (history_of old) name ≡ false → length (declared_of old.lists.items) < 8 → declared ≡ declared_of old.lists.items ++ (name, size) ∷ []
-  → (kept : List ℕ) → after_list (kept_of_draft old kept) name size ≡ Ok (record { kept = record { sized = old.sized; versions = record { epoch = old.epoch; declared = declared; changes = old.changes.items }; rest = [] }; begun = None })
+    → (kept : List ℕ) → after_list (kept_of_draft old kept) name size ≡ Ok (record { kept = record { sized = old.sized; versions = record { epoch = old.epoch; declared = declared; changes = old.changes.items }; rest = [] }; begun = None })
 list_taken old name size declared h few e kept =
     let room : nat_le most_lists (length (declared_of old.lists.items)) ≡ false = grind (arith, nat_tests) in
     list_once (declares (history_of old) name) _ _ h ∙ list_once (nat_le most_lists (length (declared_of old.lists.items))) _ _ room

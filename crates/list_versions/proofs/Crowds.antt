@@ -26,7 +26,7 @@ or_true true = refl
 or_true false = refl
 
 some_passes_at : (t : Added → Bool) (x : Added) (xs : List Added) (head : List ℕ) (b : Bool) → has_head head x ≡ b → (b ≡ true → t x ≡ true) → (0 < length (filter (has_head head) xs) → list_any t xs ≡ true)
-  → 0 < length (cond b (x ∷ filter (has_head head) xs) (filter (has_head head) xs)) → (t x || list_any t xs) ≡ true
+    → 0 < length (cond b (x ∷ filter (has_head head) xs) (filter (has_head head) xs)) → (t x || list_any t xs) ≡ true
 some_passes_at t x xs head true e h more k = rw (h refl) refl
 some_passes_at t x xs head false e h more k = rw (more k) (or_true (t x))
 
@@ -82,7 +82,7 @@ is_above n h = grind (arith, nat_tests)
 
 -- a crowd after a change is one of what it added
 added_crowd : (before adds : List Added) (removes : List (List ℕ)) (entry : Added) → IsUncrowded before → (b : Bool) → list_any (has_head (take 4 entry.hash)) adds ≡ b
-  → is_crowd (fold with_added (fold without_hash before removes) adds) entry ≡ true → list_any (is_crowd (fold with_added (fold without_hash before removes) adds)) adds ≡ true
+    → is_crowd (fold with_added (fold without_hash before removes) adds) entry ≡ true → list_any (is_crowd (fold with_added (fold without_hash before removes) adds)) adds ≡ true
 added_crowd before adds removes entry few true e h =
     any_more (has_head (take 4 entry.hash)) (is_crowd (fold with_added (fold without_hash before removes) adds)) (λ other k. crowd_alike (fold with_added (fold without_hash before removes) adds) other (take 4 entry.hash) h k) adds e
 added_crowd before adds removes entry few false e h =
@@ -93,7 +93,7 @@ added_crowd before adds removes entry few false e h =
     absurd (omega arith)
 
 pub crowds_of_adds : (before adds : List Added) (removes : List (List ℕ)) → IsUncrowded before
-  → list_any (is_crowd (fold with_added (fold without_hash before removes) adds)) adds ≡ is_crowded (fold with_added (fold without_hash before removes) adds)
+    → list_any (is_crowd (fold with_added (fold without_hash before removes) adds)) adds ≡ is_crowded (fold with_added (fold without_hash before removes) adds)
 crowds_of_adds before adds removes few =
     let after = fold with_added (fold without_hash before removes) adds in
     both_ways _ _
@@ -106,7 +106,7 @@ any_same s t h (x ∷ xs) = ap (λ b. b || list_any s xs) (h x) ∙ ap (λ b. t 
 
 -- the same as the code looks into its buckets
 pub crowds_held : (live : Live) (before adds : List Added) (removes : List (List ℕ)) → IsUncrowded before → Holds live (fold with_added (fold without_hash before removes) adds)
-  → list_any (λ added. nat_lt most_alike (length (bucket_in live.buckets.entries (take 4 added.hash)))) adds ≡ is_crowded (fold with_added (fold without_hash before removes) adds)
+    → list_any (λ added. nat_lt most_alike (length (bucket_in live.buckets.entries (take 4 added.hash)))) adds ≡ is_crowded (fold with_added (fold without_hash before removes) adds)
 crowds_held live before adds removes few holds =
     any_same (λ added. nat_lt most_alike (length (bucket_in live.buckets.entries (take 4 added.hash)))) (is_crowd (fold with_added (fold without_hash before removes) adds))
     (λ entry. ap (λ bucket. nat_lt most_alike (length bucket)) (holds.buckets (take 4 entry.hash))) adds

@@ -29,4 +29,3 @@ bucket_at false old new next h = rw h refl
 
 pub bucket_put : (before after : Buckets) (head : List ℕ) (next : List Added) → Puts before after head next → (other : List ℕ) → bucket_in after other ≡ cond (bytes_eq head other) next (bucket_in before other)
 bucket_put before after head next puts other = bucket_at (bytes_eq head other) (found_in before other) (found_in after other) next (puts other)
-

@@ -59,9 +59,9 @@ holds_replaced before after entries more next head small holds replaces changes 
     let bytes_is = replaces.bytes fits_bucket fits_bytes in
     record {
       buckets = λ other. buckets_at (bytes_eq head other) next (bucket_in before.buckets.entries other) (filter (has_head other) more) (bucket_in after.buckets.entries other)
-        (replaces.buckets other)
-        (λ e. changes.here ∙ ap (λ h. filter (has_head h) more) (same_bytes head other e))
-        (λ e. holds.buckets other ∙ changes.elsewhere other e);
+          (replaces.buckets other)
+          (λ e. changes.here ∙ ap (λ h. filter (has_head h) more) (same_bytes head other e))
+          (λ e. holds.buckets other ∙ changes.elsewhere other e);
       count = omega arith;
       bytes = omega arith;
       sizes = changes.sizes;
@@ -110,7 +110,7 @@ length-fold_removed (hash ∷ removes) entries = omega (arith, length-filter-le 
 
 -- the next of a bucket
 pub bytes_more : (bucket : List Added) (i : ℕ) (d : Added) → i < length bucket
-  → prefix_bytes (drop i bucket) ≡ cond (is_published_in (take (length bucket - (i + 1)) (drop (i + 1) bucket)) (prefix_of (get_or bucket i d))) 0 (length (prefix_of (get_or bucket i d))) + prefix_bytes (drop (i + 1) bucket)
+    → prefix_bytes (drop i bucket) ≡ cond (is_published_in (take (length bucket - (i + 1)) (drop (i + 1) bucket)) (prefix_of (get_or bucket i d))) 0 (length (prefix_of (get_or bucket i d))) + prefix_bytes (drop (i + 1) bucket)
 bytes_more bucket i d lt =
     let whole : take (length bucket - (i + 1)) (drop (i + 1) bucket) ≡ drop (i + 1) bucket = take_all _ (drop (i + 1) bucket) (omega (arith, length-drop (i + 1) bucket)) in
     let cons : drop i bucket ≡ get_or bucket i d ∷ drop (i + 1) bucket = rw (add-one, drop-cons bucket i d lt) refl in

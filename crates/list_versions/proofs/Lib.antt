@@ -12,4 +12,5 @@ pub mod PrefixBytes
 pub mod Reading
 pub mod Records
 pub mod Splitting
+pub mod Starting
 pub mod Words

@@ -37,10 +37,11 @@ none_above x [] a = refl
 none_above x (z ∷ zs) a = rw (eq_of x z Less a.0) (none_above x zs a.1)
 
 all_with_at : (y x z : List ℕ) (zs : List (List ℕ)) (o : Ordering) → bytes_cmp y x ≡ Less → AllByRecursion (λ w. bytes_cmp y w ≡ Less) (z ∷ zs) → AllByRecursion (λ w. bytes_cmp y w ≡ Less) (with_member x zs)
-  → AllByRecursion (λ w. bytes_cmp y w ≡ Less) (match_ordering o (x ∷ z ∷ zs) (z ∷ zs) (z ∷ with_member x zs))
+    → AllByRecursion (λ w. bytes_cmp y w ≡ Less) (match_ordering o (x ∷ z ∷ zs) (z ∷ zs) (z ∷ with_member x zs))
 all_with_at y x z zs Less h a more = (h, a)
 all_with_at y x z zs Equal h a more = a
 all_with_at y x z zs Greater h a more = (a.0, more)
+
 all_with : (y x : List ℕ) (ys : List (List ℕ)) → bytes_cmp y x ≡ Less → AllByRecursion (λ z. bytes_cmp y z ≡ Less) ys → AllByRecursion (λ z. bytes_cmp y z ≡ Less) (with_member x ys)
 all_with y x [] h a = (h, tt)
 all_with y x (z ∷ zs) h a = all_with_at y x z zs (bytes_cmp x z) h a (all_with y x zs h a.1)
@@ -74,7 +75,7 @@ or_swap false true c = refl
 or_swap false false c = refl
 
 has_at : (x y q : List ℕ) (ys : List (List ℕ)) (o : Ordering) → bytes_cmp x y ≡ o → has_member (with_member x ys) q ≡ (bytes_eq x q || has_member ys q)
-  → has_member (match_ordering o (x ∷ y ∷ ys) (y ∷ ys) (y ∷ with_member x ys)) q ≡ (bytes_eq x q || (bytes_eq y q || has_member ys q))
+    → has_member (match_ordering o (x ∷ y ∷ ys) (y ∷ ys) (y ∷ with_member x ys)) q ≡ (bytes_eq x q || (bytes_eq y q || has_member ys q))
 has_at x y q ys Less h more = refl
 has_at x y q ys Equal h more =
     let same : y ≡ x = same_bytes y x (eq_of x y Equal h) in
@@ -94,8 +95,8 @@ has_map q [] = refl
 has_map q (entry ∷ entries) = ap (λ b. bytes_eq (prefix_of entry) q || b) (has_map q entries)
 
 counted_at : (x y : List ℕ) (ys : List (List ℕ)) (o : Ordering) → bytes_cmp x y ≡ o → AllByRecursion (λ z. bytes_cmp y z ≡ Less) ys
-  → length (concatenation (with_member x ys)) ≡ cond (has_member ys x) 0 (length x) + length (concatenation ys)
-  → length (concatenation (match_ordering o (x ∷ y ∷ ys) (y ∷ ys) (y ∷ with_member x ys))) ≡ cond (bytes_eq y x || has_member ys x) 0 (length x) + length (concatenation (y ∷ ys))
+    → length (concatenation (with_member x ys)) ≡ cond (has_member ys x) 0 (length x) + length (concatenation ys)
+    → length (concatenation (match_ordering o (x ∷ y ∷ ys) (y ∷ ys) (y ∷ with_member x ys))) ≡ cond (bytes_eq y x || has_member ys x) 0 (length x) + length (concatenation (y ∷ ys))
 counted_at x y ys Less h r more = rw (eq_of x y Less h, none_above x ys (lifted x y ys h r)) (length-append x (y ++ concatenation ys))
 counted_at x y ys Equal h r more = rw (eq_of x y Equal h) (sym (zero-add _))
 counted_at x y ys Greater h r more =

@@ -79,11 +79,11 @@ settled_at true done open' h = absurd (cc)
 settled_at false done open' h = refl
 
 pub open_adds : (draft : Draft) (begin : Begin) (adds : List Added) (removes : List (List ℕ)) (seen : List ℕ) → length adds < begin.to_add
-  → settled (kept_of_draft draft seen) (begun_of begin adds removes) ≡ Ok (record { kept = kept_of_draft draft seen; begun = Some (begun_of begin adds removes) })
+    → settled (kept_of_draft draft seen) (begun_of begin adds removes) ≡ Ok (record { kept = kept_of_draft draft seen; begun = Some (begun_of begin adds removes) })
 open_adds draft begin adds removes seen h = settled_at (is_complete (begun_of begin adds removes)) _ _ (both_false _ _ (not_equal _ _ h))
 
 pub open_removes : (draft : Draft) (begin : Begin) (adds : List Added) (removes : List (List ℕ)) (seen : List ℕ) → length removes < begin.to_remove
-  → settled (kept_of_draft draft seen) (begun_of begin adds removes) ≡ Ok (record { kept = kept_of_draft draft seen; begun = Some (begun_of begin adds removes) })
+    → settled (kept_of_draft draft seen) (begun_of begin adds removes) ≡ Ok (record { kept = kept_of_draft draft seen; begun = Some (begun_of begin adds removes) })
 open_removes draft begin adds removes seen h = settled_at (is_complete (begun_of begin adds removes)) _ _ (last_false (nat_eq (length adds) begin.to_add) _ (not_equal _ _ h))
 
 -- what is known where the change is open
@@ -100,27 +100,27 @@ pub waits_open : (draft : Draft) (begin : Begin) (adds : List Added) (removes : 
 waits_open draft begin adds removes bytes h front seen = is_opened draft begin adds removes h seen bytes ∙ bytes_front (opened draft begin adds removes seen) bytes front
 
 pub fails_long : (draft : Draft) (begin : Begin) (adds : List Added) (removes : List (List ℕ)) (bytes : List ℕ) (n : ℕ) → IsOpen draft begin adds removes → n ≡ next_hash_line (history_of draft) (begun_of begin adds removes) → IsLong bytes
-  → Fails (within_change draft begin adds removes) bytes (fault.Line n)
+    → Fails (within_change draft begin adds removes) bytes (fault.Line n)
 fails_long draft begin adds removes bytes n h e long seen more =
     is_opened draft begin adds removes h seen (bytes ++ more) ∙ bytes_long (opened draft begin adds removes seen) bytes more long ∙ ap (λ m. Err (fault.Line m)) (sym e)
 
 -- a line that is bad
 fails_line : (draft : Draft) (begin : Begin) (adds : List Added) (removes : List (List ℕ)) (bytes line rest : List ℕ) (f : JournalFault) → IsOpen draft begin adds removes → IsLine bytes line rest
-  → ((seen : List ℕ) → after_line (opened draft begin adds removes seen) line ≡ Err f) → Fails (within_change draft begin adds removes) bytes f
+    → ((seen : List ℕ) → after_line (opened draft begin adds removes seen) line ≡ Err f) → Fails (within_change draft begin adds removes) bytes f
 fails_line draft begin adds removes bytes line rest f h line_is bad seen more =
     is_opened draft begin adds removes h seen (bytes ++ more) ∙ bytes_line (opened draft begin adds removes seen) bytes line rest more line_is
     ∙ ap (λ r. r >>= λ next. after_bytes next (rest ++ more)) (bad seen)
 
 -- a line that is good
 moves_line : (draft : Draft) (begin : Begin) (adds adds' : List Added) (removes removes' : List (List ℕ)) (bytes line rest : List ℕ) → IsOpen draft begin adds removes → IsLine bytes line rest
-  → ((seen : List ℕ) → after_line (opened draft begin adds removes seen) line ≡ settled (kept_of_draft draft (seen ++ (line ++ newline ∷ []))) (begun_of begin adds' removes'))
-  → Moves (within_change draft begin adds removes) (within_change draft begin adds' removes') bytes rest 129
+    → ((seen : List ℕ) → after_line (opened draft begin adds removes seen) line ≡ settled (kept_of_draft draft (seen ++ (line ++ newline ∷ []))) (begun_of begin adds' removes'))
+    → Moves (within_change draft begin adds removes) (within_change draft begin adds' removes') bytes rest 129
 moves_line draft begin adds adds' removes removes' bytes line rest h line_is good = record {
   taken = line ++ newline ∷ [];
   whole = line_is.whole ∙ sym (append_assoc line (newline ∷ []) rest);
   few = omega (arith, length-append line (newline ∷ []), line_is.short);
   same = λ seen more. is_opened draft begin adds removes h seen (bytes ++ more) ∙ bytes_line (opened draft begin adds removes seen) bytes line rest more line_is
-    ∙ ap (λ r. r >>= λ next. after_bytes next (rest ++ more)) (good seen);
+      ∙ ap (λ r. r >>= λ next. after_bytes next (rest ++ more)) (good seen);
 }
 
 short_is : {A : Type 0} (line : List ℕ) (read : Option A) → length line ≤ 128 → if_short line read ≡ read
@@ -135,13 +135,13 @@ choose_false true x y h = absurd (cc)
 choose_false false x y h = refl
 
 line_add : (kept : Kept) (begun : Begun) (line : List ℕ) → adds_next begun ≡ true → length line ≤ 128
-  → after_line (record { kept = kept; begun = Some begun }) line ≡ with_add (with_bytes (line ++ newline ∷ []) kept) begun (added_of kept.sized begun.declared_size line)
+    → after_line (record { kept = kept; begun = Some begun }) line ≡ with_add (with_bytes (line ++ newline ∷ []) kept) begun (added_of kept.sized begun.declared_size line)
 unfolding after_line
 line_add kept begun line h short =
     choose_true (adds_next begun) _ _ h ∙ ap (λ read. with_add (with_bytes (line ++ newline ∷ []) kept) begun read) (short_is line (added_of kept.sized begun.declared_size line) short)
 
 line_remove : (kept : Kept) (begun : Begun) (line : List ℕ) → adds_next begun ≡ false → length line ≤ 128
-  → after_line (record { kept = kept; begun = Some begun }) line ≡ with_remove (with_bytes (line ++ newline ∷ []) kept) begun (removed_of line)
+    → after_line (record { kept = kept; begun = Some begun }) line ≡ with_remove (with_bytes (line ++ newline ∷ []) kept) begun (removed_of line)
 unfolding after_line
 line_remove kept begun line h short =
     choose_false (adds_next begun) _ _ h ∙ ap (λ read. with_remove (with_bytes (line ++ newline ∷ []) kept) begun read) (short_is line (removed_of line) short)
@@ -160,52 +160,52 @@ past : (n : ℕ) → 2097152 < n → nat_lt most_hash_lines n ≡ true
 past n h = grind (arith, nat_tests)
 
 pub fails_add : (draft : Draft) (begin : Begin) (adds : List Added) (bytes line rest : List ℕ) (n : ℕ) → length adds < begin.to_add → n ≡ next_hash_line (history_of draft) (begun_of begin adds []) → IsLine bytes line rest
-  → None ≡ added_of draft.sized begin.size line → Fails (within_change draft begin adds []) bytes (fault.Line n)
+    → None ≡ added_of draft.sized begin.size line → Fails (within_change draft begin adds []) bytes (fault.Line n)
 fails_add draft begin adds bytes line rest n more e line_is read =
     fails_line draft begin adds [] bytes line rest (fault.Line n) (λ seen. open_adds draft begin adds [] seen more) line_is
     (λ seen. line_add (kept_of_draft draft seen) (begun_of begin adds []) line (next_adds begin adds [] more) line_is.short
-      ∙ ap (λ r. with_add (kept_of_draft draft (seen ++ (line ++ newline ∷ []))) (begun_of begin adds []) r) (sym read) ∙ ap (λ m. Err (fault.Line m)) (sym e))
+    ∙ ap (λ r. with_add (kept_of_draft draft (seen ++ (line ++ newline ∷ []))) (begun_of begin adds []) r) (sym read) ∙ ap (λ m. Err (fault.Line m)) (sym e))
 
 pub fails_add_past : (draft : Draft) (begin : Begin) (adds : List Added) (added : Added) (bytes line rest : List ℕ) (n : ℕ) → length adds < begin.to_add → n ≡ next_line (history_of draft) + lines_begun (begun_of begin (adds ++ added ∷ []) []) → IsLine bytes line rest
-  → Some added ≡ added_of draft.sized begin.size line → 2097152 < hash_lines draft.changes.items + lines_begun (begun_of begin (adds ++ added ∷ []) []) → Fails (within_change draft begin adds []) bytes (fault.TooMany n)
+    → Some added ≡ added_of draft.sized begin.size line → 2097152 < hash_lines draft.changes.items + lines_begun (begun_of begin (adds ++ added ∷ []) []) → Fails (within_change draft begin adds []) bytes (fault.TooMany n)
 fails_add_past draft begin adds added bytes line rest n more e line_is read many =
     fails_line draft begin adds [] bytes line rest (fault.TooMany n) (λ seen. open_adds draft begin adds [] seen more) line_is
     (λ seen. line_add (kept_of_draft draft seen) (begun_of begin adds []) line (next_adds begin adds [] more) line_is.short
-      ∙ ap (λ r. with_add (kept_of_draft draft (seen ++ (line ++ newline ∷ []))) (begun_of begin adds []) r) (sym read)
-      ∙ choose_true _ _ _ (past _ many) ∙ ap (λ m. Err (fault.TooMany m)) (sym e))
+    ∙ ap (λ r. with_add (kept_of_draft draft (seen ++ (line ++ newline ∷ []))) (begun_of begin adds []) r) (sym read)
+    ∙ choose_true _ _ _ (past _ many) ∙ ap (λ m. Err (fault.TooMany m)) (sym e))
 
 pub moves_add : (draft : Draft) (begin : Begin) (adds : List Added) (added : Added) (bytes line rest : List ℕ) → length adds < begin.to_add → IsLine bytes line rest
-  → Some added ≡ added_of draft.sized begin.size line → hash_lines draft.changes.items + lines_begun (begun_of begin (adds ++ added ∷ []) []) ≤ 2097152
-  → Moves (within_change draft begin adds []) (within_change draft begin (adds ++ added ∷ []) []) bytes rest 129
+    → Some added ≡ added_of draft.sized begin.size line → hash_lines draft.changes.items + lines_begun (begun_of begin (adds ++ added ∷ []) []) ≤ 2097152
+    → Moves (within_change draft begin adds []) (within_change draft begin (adds ++ added ∷ []) []) bytes rest 129
 moves_add draft begin adds added bytes line rest more line_is read few =
     moves_line draft begin adds (adds ++ added ∷ []) [] [] bytes line rest (λ seen. open_adds draft begin adds [] seen more) line_is
     (λ seen. line_add (kept_of_draft draft seen) (begun_of begin adds []) line (next_adds begin adds [] more) line_is.short
-      ∙ ap (λ r. with_add (kept_of_draft draft (seen ++ (line ++ newline ∷ []))) (begun_of begin adds []) r) (sym read)
-      ∙ choose_false _ _ _ (within _ few))
+    ∙ ap (λ r. with_add (kept_of_draft draft (seen ++ (line ++ newline ∷ []))) (begun_of begin adds []) r) (sym read)
+    ∙ choose_false _ _ _ (within _ few))
 
 pub fails_remove : (draft : Draft) (begin : Begin) (adds : List Added) (removes : List (List ℕ)) (bytes line rest : List ℕ) (n : ℕ) → length adds ≡ begin.to_add → length removes < begin.to_remove → n ≡ next_hash_line (history_of draft) (begun_of begin adds removes) → IsLine bytes line rest
-  → None ≡ removed_of line → Fails (within_change draft begin adds removes) bytes (fault.Line n)
+    → None ≡ removed_of line → Fails (within_change draft begin adds removes) bytes (fault.Line n)
 fails_remove draft begin adds removes bytes line rest n done more e line_is read =
     fails_line draft begin adds removes bytes line rest (fault.Line n) (λ seen. open_removes draft begin adds removes seen more) line_is
     (λ seen. line_remove (kept_of_draft draft seen) (begun_of begin adds removes) line (next_removes begin adds removes done) line_is.short
-      ∙ ap (λ r. with_remove (kept_of_draft draft (seen ++ (line ++ newline ∷ []))) (begun_of begin adds removes) r) (sym read) ∙ ap (λ m. Err (fault.Line m)) (sym e))
+    ∙ ap (λ r. with_remove (kept_of_draft draft (seen ++ (line ++ newline ∷ []))) (begun_of begin adds removes) r) (sym read) ∙ ap (λ m. Err (fault.Line m)) (sym e))
 
 pub fails_remove_past : (draft : Draft) (begin : Begin) (adds : List Added) (removes : List (List ℕ)) (hash bytes line rest : List ℕ) (n : ℕ) → length adds ≡ begin.to_add → length removes < begin.to_remove → n ≡ next_line (history_of draft) + lines_begun (begun_of begin adds (removes ++ hash ∷ [])) → IsLine bytes line rest
-  → Some hash ≡ removed_of line → 2097152 < hash_lines draft.changes.items + lines_begun (begun_of begin adds (removes ++ hash ∷ [])) → Fails (within_change draft begin adds removes) bytes (fault.TooMany n)
+    → Some hash ≡ removed_of line → 2097152 < hash_lines draft.changes.items + lines_begun (begun_of begin adds (removes ++ hash ∷ [])) → Fails (within_change draft begin adds removes) bytes (fault.TooMany n)
 fails_remove_past draft begin adds removes hash bytes line rest n done more e line_is read many =
     fails_line draft begin adds removes bytes line rest (fault.TooMany n) (λ seen. open_removes draft begin adds removes seen more) line_is
     (λ seen. line_remove (kept_of_draft draft seen) (begun_of begin adds removes) line (next_removes begin adds removes done) line_is.short
-      ∙ ap (λ r. with_remove (kept_of_draft draft (seen ++ (line ++ newline ∷ []))) (begun_of begin adds removes) r) (sym read)
-      ∙ choose_true _ _ _ (past _ many) ∙ ap (λ m. Err (fault.TooMany m)) (sym e))
+    ∙ ap (λ r. with_remove (kept_of_draft draft (seen ++ (line ++ newline ∷ []))) (begun_of begin adds removes) r) (sym read)
+    ∙ choose_true _ _ _ (past _ many) ∙ ap (λ m. Err (fault.TooMany m)) (sym e))
 
 pub moves_remove : (draft : Draft) (begin : Begin) (adds : List Added) (removes : List (List ℕ)) (hash bytes line rest : List ℕ) → length adds ≡ begin.to_add → length removes < begin.to_remove → IsLine bytes line rest
-  → Some hash ≡ removed_of line → hash_lines draft.changes.items + lines_begun (begun_of begin adds (removes ++ hash ∷ [])) ≤ 2097152
-  → Moves (within_change draft begin adds removes) (within_change draft begin adds (removes ++ hash ∷ [])) bytes rest 129
+    → Some hash ≡ removed_of line → hash_lines draft.changes.items + lines_begun (begun_of begin adds (removes ++ hash ∷ [])) ≤ 2097152
+    → Moves (within_change draft begin adds removes) (within_change draft begin adds (removes ++ hash ∷ [])) bytes rest 129
 moves_remove draft begin adds removes hash bytes line rest done more line_is read few =
     moves_line draft begin adds adds removes (removes ++ hash ∷ []) bytes line rest (λ seen. open_removes draft begin adds removes seen more) line_is
     (λ seen. line_remove (kept_of_draft draft seen) (begun_of begin adds removes) line (next_removes begin adds removes done) line_is.short
-      ∙ ap (λ r. with_remove (kept_of_draft draft (seen ++ (line ++ newline ∷ []))) (begun_of begin adds removes) r) (sym read)
-      ∙ choose_false _ _ _ (within _ few))
+    ∙ ap (λ r. with_remove (kept_of_draft draft (seen ++ (line ++ newline ∷ []))) (begun_of begin adds removes) r) (sym read)
+    ∙ choose_false _ _ _ (within _ few))
 
 -- ---- one after the other
 

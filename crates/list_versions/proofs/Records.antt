@@ -1,5 +1,5 @@
 -- Records: a line that declares a list, or a change.
-use Rattle.std.proofs.Common.{◌≡◌, ℕ, ◌+◌, ◌<◌, ◌≤◌, nat_lt, nat_le, List, [], ◌∷◌, ◌++◌, Bool, true, false, ◌||◌, cond, if◌then◌else◌, length, refl, sym, ap, ◌∙◌, subst, arith, rules, Option, Some, None, Result, Ok, Err, append_assoc}
+use Rattle.std.proofs.Common.{◌≡◌, ℕ, ◌+◌, ◌<◌, ◌≤◌, nat_lt, nat_le, List, [], ◌∷◌, ◌++◌, Bool, true, false, ◌||◌, cond, if◌then◌else◌, length, refl, sym, ap, ◌∙◌, subst, arith, rules, Option, Some, None, Result, Ok, Err, append_assoc, ◌⊎◌, inl, inr}
 use Rattle.std.specs.Prelude.{All, find, option_map}
 use Rattle.std.specs.List.{list_any}
 use Rattle.std.proofs.lemmas.Bool.Decides.{nat_tests}
@@ -30,7 +30,7 @@ abbrev IsFound : ListName → List (ListName × ℕ) → ℕ → Type 0
 IsFound name declared size = IsPrefixSize size × (list_any (is_named name) declared ≡ true)
 
 found_at : (name : ListName) (x : ListName × ℕ) (xs : List (ListName × ℕ)) (size : ℕ) (b : Bool) → is_named name x ≡ b → IsPrefixSize x.1 → (option_map (λ (list : ListName × ℕ). list.1) (find (is_named name) xs) ≡ Some size → IsFound name xs size)
-  → option_map (λ (list : ListName × ℕ). list.1) (cond b (Some x) (find (is_named name) xs)) ≡ Some size → IsPrefixSize size × ((b || list_any (is_named name) xs) ≡ true)
+    → option_map (λ (list : ListName × ℕ). list.1) (cond b (Some x) (find (is_named name) xs)) ≡ Some size → IsPrefixSize size × ((b || list_any (is_named name) xs) ≡ true)
 found_at name x xs size true e own more h = (subst IsPrefixSize (some_same x.1 size h) own, refl)
   where
     some_same : (m n : ℕ) → Some m ≡ Some n → m ≡ n
@@ -66,7 +66,7 @@ fails_full draft list to_add to_remove size line bytes h many e seen more =
     ∙ ap (λ r. r >>= λ reading. after_bytes reading (bytes ++ more)) (choose_true _ _ _ full) ∙ ap (λ n. Err (fault.TooMany n)) (sym e)
 
 pub begin_same : (draft : Draft) (begin : Begin) → 1 ≤ begin.to_add + begin.to_remove → Some begin.size ≡ declared_size_of (history_of draft) begin.list → length draft.changes.items < 65536
-  → (seen bytes : List ℕ) → after_begin draft begin.list begin.to_add begin.to_remove seen bytes ≡ within_change draft begin [] [] seen bytes
+    → (seen bytes : List ℕ) → after_begin draft begin.list begin.to_add begin.to_remove seen bytes ≡ within_change draft begin [] [] seen bytes
 begin_same draft begin some h few seen bytes =
     let room : nat_le most_changes (length draft.changes.items) ≡ false = grind (arith, nat_tests) in
     ap (λ s. after_change_line (kept_of_draft draft seen) begin.list begin.to_add begin.to_remove s >>= λ reading. after_bytes reading bytes) (sym h)
@@ -98,11 +98,11 @@ moves_to {f} {g} {h} {a} {b} same moves = record {
 pub waits_same : (draft : Draft) {f g : List ℕ → List ℕ → Result Kept JournalFault} {a : List ℕ} → ((seen bytes : List ℕ) → f seen bytes ≡ g seen bytes) → Waits draft g a → Waits draft f a
 waits_same draft {f} {g} {a} same waits seen = same seen a ∙ waits seen
 
-pub fails_same : {f g : List ℕ → List ℕ → Result Kept JournalFault} {a : List ℕ} (fault : JournalFault) → ((seen bytes : List ℕ) → f seen bytes ≡ g seen bytes) → Fails g a fault → Fails f a fault
-fails_same {f} {g} {a} fault same fails seen more = same seen (a ++ more) ∙ fails seen more
+pub fails_same : {f g : List ℕ → List ℕ → Result Kept JournalFault} (a : List ℕ) (fault : JournalFault) → ((seen bytes : List ℕ) → f seen bytes ≡ g seen bytes) → Fails g a fault → Fails f a fault
+fails_same {f} {g} a fault same fails seen more = same seen (a ++ more) ∙ fails seen more
 
-pub fails_at_end : {f : List ℕ → List ℕ → Result Kept JournalFault} {a : List ℕ} (fault : JournalFault) → ((seen bytes : List ℕ) → f seen bytes ≡ Err fault) → Fails f a fault
-fails_at_end {f} {a} fault h seen more = h seen (a ++ more)
+pub fails_at_end : {f : List ℕ → List ℕ → Result Kept JournalFault} (a : List ℕ) (fault : JournalFault) → ((seen bytes : List ℕ) → f seen bytes ≡ Err fault) → Fails f a fault
+fails_at_end {f} a fault h seen more = h seen (a ++ more)
 
 -- ---- the first line of a record
 
@@ -128,29 +128,33 @@ record_bad draft bytes text rest line e h none more =
     record_line draft bytes text rest more h ∙ ap (λ r. after_head (kept_of_draft draft (text ++ newline ∷ [])) r >>= λ next. after_bytes next (rest ++ more)) (sym none) ∙ ap (λ n. Err (fault.Line n)) (sym e)
 
 pub record_list : (draft : Draft) (bytes text rest : List ℕ) (name : ListName) (size : ℕ) (answer : Result Reading JournalFault) → IsLine bytes text rest → Some (head.List name size) ≡ head_of text
-  → ((kept : List ℕ) → after_list (kept_of_draft draft kept) name size ≡ answer) → (more : List ℕ) → before_record draft [] (bytes ++ more) ≡ (answer >>= λ next. after_bytes next (rest ++ more))
+    → ((kept : List ℕ) → after_list (kept_of_draft draft kept) name size ≡ answer) → (more : List ℕ) → before_record draft [] (bytes ++ more) ≡ (answer >>= λ next. after_bytes next (rest ++ more))
 record_list draft bytes text rest name size answer h is same more =
     record_line draft bytes text rest more h ∙ ap (λ r. after_head (kept_of_draft draft (text ++ newline ∷ [])) r >>= λ next. after_bytes next (rest ++ more)) (sym is)
     ∙ ap (λ r. r >>= λ next. after_bytes next (rest ++ more)) (same (text ++ newline ∷ []))
 
 pub record_change : (draft : Draft) (bytes text rest : List ℕ) (name : ListName) (to_add to_remove : ℕ) → IsLine bytes text rest → Some (head.Change name to_add to_remove) ≡ head_of text
-  → (more : List ℕ) → before_record draft [] (bytes ++ more) ≡ after_begin draft name to_add to_remove (text ++ newline ∷ []) (rest ++ more)
+    → (more : List ℕ) → before_record draft [] (bytes ++ more) ≡ after_begin draft name to_add to_remove (text ++ newline ∷ []) (rest ++ more)
 record_change draft bytes text rest name to_add to_remove h is more =
     record_line draft bytes text rest more h ∙ ap (λ r. after_head (kept_of_draft draft (text ++ newline ∷ [])) r >>= λ next. after_bytes next (rest ++ more)) (sym is)
 
 -- ---- a change as a record
 
 pub change_moves : (old new : Draft) (bytes text rest last : List ℕ) (name : ListName) (to_add to_remove m : ℕ) → IsLine bytes text rest → Some (head.Change name to_add to_remove) ≡ head_of text
-  → Moves (after_begin old name to_add to_remove) (before_next new) rest last m → (more : List ℕ) → before_record old [] (bytes ++ more) ≡ before_record new [] (last ++ more)
+    → Moves (after_begin old name to_add to_remove) (before_next new) rest last m → (more : List ℕ) → before_record old [] (bytes ++ more) ≡ before_record new [] (last ++ more)
 change_moves old new bytes text rest last name to_add to_remove m h is moves more = record_change old bytes text rest name to_add to_remove h is more ∙ moves.same (text ++ newline ∷ []) more
 
 pub change_waits : (draft : Draft) (bytes text rest : List ℕ) (name : ListName) (to_add to_remove : ℕ) → IsLine bytes text rest → Some (head.Change name to_add to_remove) ≡ head_of text
-  → Waits draft (after_begin draft name to_add to_remove) rest → before_record draft [] bytes ≡ Ok (kept_of_draft draft bytes)
+    → Waits draft (after_begin draft name to_add to_remove) rest → before_record draft [] bytes ≡ Ok (kept_of_draft draft bytes)
 change_waits draft bytes text rest name to_add to_remove h is waits =
     ap (before_record draft []) (sym (append-nil bytes)) ∙ record_change draft bytes text rest name to_add to_remove h is []
     ∙ ap (after_begin draft name to_add to_remove (text ++ newline ∷ [])) (append-nil rest) ∙ waits (text ++ newline ∷ [])
     ∙ ap (λ bs. Ok (kept_of_draft draft bs)) (append_assoc text (newline ∷ []) rest ∙ sym h.whole)
 
 pub change_fails : (draft : Draft) (bytes text rest : List ℕ) (name : ListName) (to_add to_remove : ℕ) (fault : JournalFault) → IsLine bytes text rest → Some (head.Change name to_add to_remove) ≡ head_of text
-  → Fails (after_begin draft name to_add to_remove) rest fault → (more : List ℕ) → before_record draft [] (bytes ++ more) ≡ Err fault
+    → Fails (after_begin draft name to_add to_remove) rest fault → (more : List ℕ) → before_record draft [] (bytes ++ more) ≡ Err fault
 change_fails draft bytes text rest name to_add to_remove fault h is fails more = record_change draft bytes text rest name to_add to_remove h is more ∙ fails (text ++ newline ∷ []) more
+
+pub map_fault : {A B C : Type 0} → (B → C) → A ⊎ B → A ⊎ C
+map_fault f (inl a) = inl a
+map_fault f (inr b) = inr (f b)

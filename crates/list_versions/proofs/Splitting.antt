@@ -16,7 +16,7 @@ use Rattle.list_versions.proofs.PrefixBytes.{is_published_in, prefix_bytes-cons}
 -- ---- filters
 
 commuted_at : (p : Added → Bool) (b c : Bool) (x : Added) (xs : List Added) (q : Added → Bool) → p x ≡ b → q x ≡ c → filter p (filter q xs) ≡ filter q (filter p xs)
-  → filter p (cond c (x ∷ filter q xs) (filter q xs)) ≡ filter q (cond b (x ∷ filter p xs) (filter p xs))
+    → filter p (cond c (x ∷ filter q xs) (filter q xs)) ≡ filter q (cond b (x ∷ filter p xs) (filter p xs))
 commuted_at p true true x xs q e f more = rw (e, f) (ap (λ ys. x ∷ ys) more)
 commuted_at p true false x xs q e f more = rw f more
 commuted_at p false true x xs q e f more = rw e more
@@ -27,7 +27,7 @@ filters_commute p q [] = refl
 filters_commute p q (x ∷ xs) = commuted_at p (p x) (q x) x xs q refl refl (filters_commute p q xs)
 
 dropped_at : (p : Added → Bool) (x : Added) (before after : List Added) (b c : Bool) → p x ≡ c → (b ≡ true → c ≡ false) → filter p after ≡ filter p before
-  → filter p (cond (not b) (x ∷ after) after) ≡ cond c (x ∷ filter p before) (filter p before)
+    → filter p (cond (not b) (x ∷ after) after) ≡ cond c (x ∷ filter p before) (filter p before)
 dropped_at p x before after true true e h more = let no = h refl in absurd (cc)
 dropped_at p x before after true false e h more = more
 dropped_at p x before after false true e h more = rw e (ap (λ ys. x ∷ ys) more)
@@ -85,8 +85,8 @@ pub length-split : (head : List ℕ) (entries : List Added) → length (filter (
 length-split head entries = length-filter_both (has_head head) (lacks_head head) (λ _. refl) entries
 
 kept_at : (r : Added → Bool) (prefix : List ℕ) (y : Added) (ys : List Added) (b c : Bool) → bytes_eq (prefix_of y) prefix ≡ b → r y ≡ c → (b ≡ true → c ≡ true)
-  → is_published_in (filter r ys) prefix ≡ is_published_in ys prefix
-  → is_published_in (cond c (y ∷ filter r ys) (filter r ys)) prefix ≡ (b || is_published_in ys prefix)
+    → is_published_in (filter r ys) prefix ≡ is_published_in ys prefix
+    → is_published_in (cond c (y ∷ filter r ys) (filter r ys)) prefix ≡ (b || is_published_in ys prefix)
 kept_at r prefix y ys true true e f h more = rw e refl
 kept_at r prefix y ys true false e f h more = let no = h refl in absurd (cc)
 kept_at r prefix y ys false true e f h more = rw e more
@@ -94,7 +94,7 @@ kept_at r prefix y ys false false e f h more = more
 
 -- what publishes the same bytes is kept by a filter that goes by them
 published_kept : (r : Added → Bool) (prefix : List ℕ) (entries : List Added) → All IsPublishable entries → ((entry : Added) → 4 ≤ entry.size → bytes_eq (prefix_of entry) prefix ≡ true → r entry ≡ true)
-  → is_published_in (filter r entries) prefix ≡ is_published_in entries prefix
+    → is_published_in (filter r entries) prefix ≡ is_published_in entries prefix
 published_kept r prefix [] a h = refl
 published_kept r prefix (y ∷ ys) a h =
     kept_at r prefix y ys (bytes_eq (prefix_of y) prefix) (r y) refl refl (h y (All-head IsPublishable y ys a).low) (published_kept r prefix ys (All-tail IsPublishable y ys a) h)
@@ -103,8 +103,8 @@ same_four : (x y : Added) → 4 ≤ x.size → 4 ≤ y.size → bytes_eq (prefix
 same_four x y h k e = sym (take-take 4 y.size y.hash k) ∙ ap (λ p. take 4 p) (same_bytes _ _ e) ∙ take-take 4 x.size x.hash h
 
 split_at : (head : List ℕ) (x : Added) (xs : List Added) (b : Bool) → has_head head x ≡ b → 4 ≤ x.size → All IsPublishable xs
-  → prefix_bytes (filter (has_head head) xs) + prefix_bytes (filter (lacks_head head) xs) ≡ prefix_bytes xs
-  → prefix_bytes (cond b (x ∷ filter (has_head head) xs) (filter (has_head head) xs)) + prefix_bytes (cond (not b) (x ∷ filter (lacks_head head) xs) (filter (lacks_head head) xs)) ≡ prefix_bytes (x ∷ xs)
+    → prefix_bytes (filter (has_head head) xs) + prefix_bytes (filter (lacks_head head) xs) ≡ prefix_bytes xs
+    → prefix_bytes (cond b (x ∷ filter (has_head head) xs) (filter (has_head head) xs)) + prefix_bytes (cond (not b) (x ∷ filter (lacks_head head) xs) (filter (lacks_head head) xs)) ≡ prefix_bytes (x ∷ xs)
 split_at head x xs true e h a more =
     let kept = published_kept (has_head head) (prefix_of x) xs a (λ y k s. ap (λ f. bytes_eq f head) (same_four x y h k s) ∙ e) in
     let front = rw kept at (prefix_bytes-cons x (filter (has_head head) xs)) in

@@ -198,7 +198,7 @@ after_header (Some header) parts =
 
 -- The first line has to be whole, also where the journal is still written.
 abbrev pub after_first : List (List ℕ) → Result Kept JournalFault
-after_first (first ∷ part ∷ parts) = after_header (header_of first) (part ∷ parts)
+after_first (first ∷ part ∷ parts) = after_header (if_short first (header_of first)) (part ∷ parts)
 after_first _ = Err fault.Header
 
 -- what a journal says so far, or its first bad line

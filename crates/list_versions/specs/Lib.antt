@@ -3,4 +3,5 @@ pub mod Journal
 pub mod Limits
 pub mod Lines
 pub mod Live
+pub mod Printed
 pub mod Split

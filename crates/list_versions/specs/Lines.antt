@@ -1,5 +1,5 @@
 -- The lines of a journal, each without the newline that ends it.
-use Rattle.std.specs.Prelude.{◌≡◌, ℕ, ◌+◌, ◌*◌, ◌==◌, Bool, true, false, ◌&&◌, ◌||◌, not, nat_le, nat_lt, if◌then◌else◌, List, [], ◌∷◌, length, slice_index, Option, Some, None, option_and_then, codes}
+use Rattle.std.specs.Prelude.{◌≡◌, ◌≤◌, ℕ, ◌+◌, ◌*◌, ◌==◌, Bool, true, false, ◌&&◌, ◌||◌, not, nat_le, nat_lt, if◌then◌else◌, List, [], ◌∷◌, length, slice_index, Option, Some, None, option_and_then, codes}
 use Rattle.std.specs.Char.{is_ascii_digit}
 use Rattle.std.specs.Int.{w64, from_be_bytes}
 use Rattle.std.specs.List.{list_all, slice_split}
@@ -124,3 +124,8 @@ removed_of line = option_and_then hash_of (after_sign 45 line)
 pub record IsAdded (added : Added) : Type 0 where
   pub hash : length added.hash ≡ 32
   pub size : IsPrefixSize added.size
+
+-- what the first line of a record keeps to
+abbrev pub IsHead : Head → Type 0
+IsHead (head.List name size) = IsPrefixSize size
+IsHead (head.Change name to_add to_remove) = (1 ≤ to_add + to_remove) × (to_add + to_remove ≤ 1024)

@@ -42,4 +42,4 @@ pub record Replaces (before after : Live) (head : List ℕ) (next : List Added) 
   pub buckets : (other : List ℕ) → bucket_in after.buckets.entries other ≡ cond (bytes_eq head other) next (bucket_in before.buckets.entries other)
   pub count : before.count + length next < 2 ^ 64 → after.count ≡ before.count + length next - length (bucket_in before.buckets.entries head)
   pub bytes : prefix_bytes (bucket_in before.buckets.entries head) < 2 ^ 64 → before.bytes + prefix_bytes next < 2 ^ 64
-    → after.bytes ≡ before.bytes + prefix_bytes next - prefix_bytes (bucket_in before.buckets.entries head)
+      → after.bytes ≡ before.bytes + prefix_bytes next - prefix_bytes (bucket_in before.buckets.entries head)

@@ -22,7 +22,11 @@ pub fn bucket<'a>(buckets: &'a Buckets, head: &HashHead) -> &'a [Added]
 }
 
 /// Puts a bucket, in place of the one that was there.
-pub fn put_bucket(buckets: &mut Buckets, head: HashHead, bucket: Row<Added>) -> Result<(), OutOfMemory>
+pub fn put_bucket(
+    buckets: &mut Buckets,
+    head: HashHead,
+    bucket: Row<Added>,
+) -> Result<(), OutOfMemory>
     ensures ok { OnOk result (Puts buckets.old.entries buckets.new.entries head bucket) }
     ensures err { OnErr result (buckets.new.entries ≡ buckets.old.entries) }
 {

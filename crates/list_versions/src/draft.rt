@@ -3,12 +3,12 @@ ghost use Rattle.sb_model.specs.Names.{same_name};
 ghost use Rattle.sb_model.specs.History.{IsPrefixSize, declares};
 ghost use Rattle.sb_model.specs.declared.history.Added.{Added as Entry};
 ghost use Rattle.list_versions.specs.Lines.{IsAdded};
-ghost use Rattle.list_versions.specs.Journal.{next_line, after_list, at_record};
+ghost use Rattle.list_versions.specs.Journal.{next_line, after_list, at_record, empty_history};
 ghost use Rattle.list_versions.specs.Limits.{most_hash_lines, most_changes};
 ghost use Rattle.list_versions.specs.Draft.{history_of, kept_of_draft, IsDraft, before_record, within_change, Moves, Waits, Fails, KeepsFront, after_begin, before_next};
 
 use crate::JournalFault;
-use crate::heads::Head;
+use crate::heads::{Head, Header};
 use crate::lines::{read_add, read_head, read_remove};
 use crate::lists::{apply_each, is_declared, limit_of, size_of};
 use crate::live::Live;
@@ -18,7 +18,9 @@ use std::alloc::Global;
 
 /// The most lists of a journal, the most changes, and the most hash lines.
 const MOST_LISTS: usize = 8;
+
 const MOST_CHANGES: usize = 65_536;
+
 const MOST_HASH_LINES: u64 = 2_097_152;
 
 /// A declared list with its newest full hashes.
@@ -50,6 +52,21 @@ pub struct Begin {
 }
 
 impl Draft {
+    /// The history before the first record of a journal with this first line.
+    pub fn new(alloc: Global, header: Header) -> Draft
+        ensures draft { IsDraft result }
+        ensures history { history_of result ≡ empty_history header.epoch }
+        ensures sized { result.sized ≡ header.sized }
+    {
+        Draft {
+            sized: header.sized,
+            epoch: header.epoch,
+            lists: Vec::new(alloc),
+            changes: Vec::new(alloc),
+            hashes: 0,
+        }
+    }
+
     /// The number of the line after the records.
     pub fn next_line(&self) -> u64
         requires { IsDraft self.now }
@@ -60,7 +77,12 @@ impl Draft {
     }
 
     // Takes one line that adds.
-    fn take_add<'a>(&self, begin: &Begin, adds: &mut Row<Added>, bytes: &'a [u8]) -> Result<Option<&'a [u8]>, JournalFault>
+    fn take_add<'a>(
+        &self,
+        begin: &Begin,
+        adds: &mut Row<Added>,
+        bytes: &'a [u8],
+    ) -> Result<Option<&'a [u8]>, JournalFault>
         requires draft { IsDraft self.now }
         requires more { length adds.old < begin.now.to_add }
         requires some { begin.now.to_add + begin.now.to_remove ≤ 1024 }
@@ -94,7 +116,13 @@ impl Draft {
     }
 
     // Takes one line that removes.
-    fn take_remove<'a>(&self, begin: &Begin, adds: &[Added], removes: &mut Row<[u8; 32]>, bytes: &'a [u8]) -> Result<Option<&'a [u8]>, JournalFault>
+    fn take_remove<'a>(
+        &self,
+        begin: &Begin,
+        adds: &[Added],
+        removes: &mut Row<[u8; 32]>,
+        bytes: &'a [u8],
+    ) -> Result<Option<&'a [u8]>, JournalFault>
         requires draft { IsDraft self.now }
         requires added { length adds.now ≡ begin.now.to_add }
         requires more { length removes.old < begin.now.to_remove }
@@ -128,7 +156,12 @@ impl Draft {
     }
 
     // Takes the lines that add.
-    fn read_adds<'a>(&self, alloc: Global, begin: &Begin, bytes: &'a [u8]) -> Result<Option<(Row<Added>, &'a [u8])>, JournalFault>
+    fn read_adds<'a>(
+        &self,
+        alloc: Global,
+        begin: &Begin,
+        bytes: &'a [u8],
+    ) -> Result<Option<(Row<Added>, &'a [u8])>, JournalFault>
         requires draft { IsDraft self.now }
         requires some { begin.now.to_add + begin.now.to_remove ≤ 1024 }
         requires size { IsPrefixSize begin.now.size }
@@ -155,7 +188,13 @@ impl Draft {
     }
 
     // Takes the lines that remove.
-    fn read_removes<'a>(&self, alloc: Global, begin: &Begin, adds: &[Added], bytes: &'a [u8]) -> Result<Option<(Row<[u8; 32]>, &'a [u8])>, JournalFault>
+    fn read_removes<'a>(
+        &self,
+        alloc: Global,
+        begin: &Begin,
+        adds: &[Added],
+        bytes: &'a [u8],
+    ) -> Result<Option<(Row<[u8; 32]>, &'a [u8])>, JournalFault>
         requires draft { IsDraft self.now }
         requires added { length adds.now ≡ begin.now.to_add }
         requires some { begin.now.to_add + begin.now.to_remove ≤ 1024 }
@@ -183,7 +222,13 @@ impl Draft {
     }
 
     // Takes a change that has come whole.
-    fn complete(&mut self, alloc: Global, begin: &Begin, adds: Row<Added>, removes: Row<[u8; 32]>) -> Result<(), JournalFault>
+    fn complete(
+        &mut self,
+        alloc: Global,
+        begin: &Begin,
+        adds: Row<Added>,
+        removes: Row<[u8; 32]>,
+    ) -> Result<(), JournalFault>
         requires draft { IsDraft self.old }
         requires added { length adds ≡ begin.now.to_add }
         requires removed { length removes ≡ begin.now.to_remove }
@@ -248,11 +293,19 @@ impl Draft {
     }
 
     // Reads the change that a line begins.
-    fn read_change<'a>(&mut self, alloc: Global, list: ListName, to_add: u32, to_remove: u32, bytes: &'a [u8]) -> Result<Option<&'a [u8]>, JournalFault>
+    fn read_change<'a>(
+        &mut self,
+        alloc: Global,
+        list: ListName,
+        to_add: u32,
+        to_remove: u32,
+        bytes: &'a [u8],
+    ) -> Result<Option<&'a [u8]>, JournalFault>
         requires draft { IsDraft self.old }
         requires some { 1 ≤ to_add + to_remove }
         requires few { to_add + to_remove ≤ 1024 }
         ensures draft { OnOk result (IsDraft self.new) }
+        ensures shorter { IfOk result (λ found. IfSome found (λ rest. length rest.now ≤ length bytes.now)) }
         ensures moves { IfOk result (λ found. IfSome found (λ rest.
             Moves (after_begin self.old list to_add to_remove) (before_next self.new) bytes.now rest.now 132096)) }
         ensures waits { IfOk result (λ found. IfNone found (Waits self.old (after_begin self.old list to_add to_remove) bytes.now)) }
@@ -292,7 +345,11 @@ impl Draft {
     }
 
     /// Reads one record, and gives what stands after it; `None` where the record has not ended.
-    pub fn read_record<'a>(&mut self, alloc: Global, bytes: &'a [u8]) -> Result<Option<&'a [u8]>, JournalFault>
+    pub fn read_record<'a>(
+        &mut self,
+        alloc: Global,
+        bytes: &'a [u8],
+    ) -> Result<Option<&'a [u8]>, JournalFault>
         requires draft { IsDraft self.old }
         ensures draft { OnOk result (IsDraft self.new) }
         ensures moves { IfOk result (λ found. IfSome found (λ rest.
@@ -318,7 +375,33 @@ impl Draft {
                 Err(fault) => Err(fault),
             },
             Some(Head::Change(list, to_add, to_remove)) => {
-                self.read_change(alloc, list, to_add, to_remove, rest)
+                match self.read_change(alloc, list, to_add, to_remove, rest) {
+                    Ok(Some(last)) => Ok(Some(last)),
+                    Ok(None) => Ok(None),
+                    Err(fault) => Err(fault),
+                }
+            }
+        }
+    }
+
+    /// Reads all records that have ended, and gives what stands after them.
+    pub fn read_records<'a>(
+        &mut self,
+        alloc: Global,
+        bytes: &'a [u8],
+    ) -> Result<&'a [u8], JournalFault>
+        requires draft { IsDraft self.old }
+        ensures draft { OnOk result (IsDraft self.new) }
+        ensures rest { IfOk result (λ rest. before_record self.old [] bytes.now ≡ Ok (kept_of_draft self.new rest.now)) }
+        ensures few { IfOk result (λ rest. length rest.now ≤ 132608) }
+        ensures fault { IfErr result (λ fault. (fault ≡ JournalFault.OutOfMemory) ⊎ (before_record self.old [] bytes.now ≡ Err fault)) }
+    {
+        let mut rest = bytes;
+        loop {
+            match self.read_record(alloc, rest) {
+                Ok(Some(next)) => rest = next,
+                Ok(None) => return Ok(rest),
+                Err(fault) => return Err(fault),
             }
         }
     }

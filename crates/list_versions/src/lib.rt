@@ -2,7 +2,13 @@
 //! of them, and the prefixes of every version.
 #![tactic(auto)]
 
+pub use draft::{Draft, Listed};
 pub use fault::JournalFault;
+pub use heads::{Head, Header};
+pub use lines::{read_add, read_head, read_header, read_remove};
+pub use live::Live;
+pub use printing::push_journal_cause;
+pub use split::{LongLine, next_line};
 
 mod buckets;
 mod draft;
@@ -11,4 +17,5 @@ mod heads;
 mod lines;
 mod lists;
 mod live;
+mod printing;
 mod split;

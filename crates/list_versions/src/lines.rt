@@ -7,7 +7,7 @@ ghost use Rattle.std.specs.Str.Parse.{digits_value as value_of_digits};
 ghost use Rattle.std.specs.Char.{is_ascii_digit};
 ghost use Rattle.std.specs.List.{list_all};
 ghost use Rattle.hash_prefixes.specs.declared.hashes.FullHash.{FullHash as Hash};
-ghost use Rattle.list_versions.specs.Lines.{IsAdded, is_space, words_of, is_numeral as is_numeral_text, within, number_of, size_of, bytes_of, hash_of, form_of, header_of, header_of_words, head_of, head_of_words, list_head as list_head_of, change_head as change_head_of, added_of, added_of_words, removed_of};
+ghost use Rattle.list_versions.specs.Lines.{IsAdded, IsHead, is_space, words_of, is_numeral as is_numeral_text, within, number_of, size_of, bytes_of, hash_of, form_of, header_of, header_of_words, head_of, head_of_words, list_head as list_head_of, change_head as change_head_of, added_of, added_of_words, removed_of};
 
 use crate::heads::{Head, Header};
 use hash_prefixes::read_hex;
@@ -130,7 +130,7 @@ fn words(line: &[u8]) -> Option<(&[u8], &[u8], &[u8], Option<&[u8]>)>
     ensures { MatchOption result
         ((header_of line.now ≡ None) × (head_of line.now ≡ None))
         (λ found. words_of line.now ≡ found.0.now ∷ found.1.now ∷ found.2.now
-            ∷ option_to_list (option_map (λ last. last.now) found.3)) }
+        ∷ option_to_list (option_map (λ last. last.now) found.3)) }
 {
     let Some((first, rest)) = split_word(line) else {
         return None;
@@ -182,7 +182,8 @@ pub fn read_header(line: &[u8]) -> Option<Header>
 }
 
 fn list_head(name: &[u8], size: &[u8]) -> Option<Head>
-    ensures { result ≡ list_head_of (result_ok (name_of name.now)) (size_of size.now) }
+    ensures well { IfSome result IsHead }
+    ensures value { result ≡ list_head_of (result_ok (name_of name.now)) (size_of size.now) }
 {
     let Ok(name) = read_list_name(name) else {
         return None;
@@ -192,7 +193,8 @@ fn list_head(name: &[u8], size: &[u8]) -> Option<Head>
 }
 
 fn change_head(name: &[u8], adds: &[u8], removes: &[u8]) -> Option<Head>
-    ensures { result ≡ change_head_of (result_ok (name_of name.now)) (number_of 0 1024 adds.now) (number_of 0 1024 removes.now) }
+    ensures well { IfSome result IsHead }
+    ensures value { result ≡ change_head_of (result_ok (name_of name.now)) (number_of 0 1024 adds.now) (number_of 0 1024 removes.now) }
 {
     let Ok(name) = read_list_name(name) else {
         return None;
@@ -207,7 +209,8 @@ fn change_head(name: &[u8], adds: &[u8], removes: &[u8]) -> Option<Head>
 
 /// Reads the first line of a record.
 pub fn read_head(line: &[u8]) -> Option<Head>
-    ensures { result ≡ head_of line.now }
+    ensures value { result ≡ head_of line.now }
+    ensures well { IfSome result IsHead }
 {
     match words(line) {
         Some((word, name, size, None)) if word == b"list".as_slice() => list_head(name, size),

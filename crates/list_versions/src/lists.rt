@@ -50,13 +50,19 @@ fn apply_to(alloc: Global, listed: &mut Listed, change: &Change) -> Result<(), O
         → Holds listed.old.live entries → Holds listed.new.live (after_change listed.old.name entries change.now)) }
 {
     if same(change.list, listed.name) {
-        listed.live.apply(alloc, change.removes.as_slice(), change.adds.as_slice())?;
+        listed
+            .live
+            .apply(alloc, change.removes.as_slice(), change.adds.as_slice())?;
     }
     Ok(())
 }
 
 /// Applies a change to the list that it is of.
-pub fn apply_each(alloc: Global, lists: &mut Vec<Listed>, change: &Change) -> Result<(), OutOfMemory>
+pub fn apply_each(
+    alloc: Global,
+    lists: &mut Vec<Listed>,
+    change: &Change,
+) -> Result<(), OutOfMemory>
     requires { All (λ added. 4 ≤ added.size) change.now.adds }
     ensures names { declared_of lists.new.items ≡ declared_of lists.old.items }
     ensures ok { OnOk result ((sizes : Name → List Entry) → ((name : Name) → length (sizes name) < 2 ^ 32) → length change.now.adds < 2 ^ 32

@@ -16,7 +16,9 @@ use std::collections::BTreeMap;
 
 // The most full hashes of a list, the most of them that share their first four bytes, and the most bytes of prefixes.
 const MOST_HASHES: u64 = 1_048_576;
+
 const MOST_ALIKE: usize = 16;
+
 const MOST_PREFIX_BYTES: u64 = 8_388_608;
 
 /// The newest full hashes of a list with their sizes, by their first four bytes.
@@ -70,11 +72,13 @@ fn bytes_in(bucket: &[Added]) -> u64
 fn without(alloc: Global, bucket: &[Added], hash: &[u8; 32]) -> Result<Vec<Added>, OutOfMemory>
     ensures { IfOk result (λ next. next.items ≡ without_hash bucket.now hash.now) }
 {
-    Ok(bucket
-        .iter()
-        .copied()
-        .filter(|entry| entry.hash != *hash)
-        .collect(alloc)?)
+    Ok(
+        bucket
+            .iter()
+            .copied()
+            .filter(|entry| entry.hash != *hash)
+            .collect(alloc)?,
+    )
 }
 
 // The bucket with a hash, in place of the entry that it had.
@@ -109,8 +113,14 @@ impl Live {
         let count_after = next.len() as u64;
         let bytes_after = bytes_in(next.as_slice());
         put_bucket(&mut self.buckets, head, next)?;
-        self.count = self.count.saturating_add(count_after).saturating_sub(count_before);
-        self.bytes = self.bytes.saturating_add(bytes_after).saturating_sub(bytes_before);
+        self.count = self
+            .count
+            .saturating_add(count_after)
+            .saturating_sub(count_before);
+        self.bytes = self
+            .bytes
+            .saturating_add(bytes_after)
+            .saturating_sub(bytes_before);
         Ok(())
     }
 
@@ -157,7 +167,12 @@ impl Live {
     }
 
     /// Takes out what a change removes, and then puts in what it adds.
-    pub fn apply(&mut self, alloc: Global, removes: &[[u8; 32]], adds: &[Added]) -> Result<(), OutOfMemory>
+    pub fn apply(
+        &mut self,
+        alloc: Global,
+        removes: &[[u8; 32]],
+        adds: &[Added],
+    ) -> Result<(), OutOfMemory>
         requires { All (λ added. 4 ≤ added.size) adds.now }
         ensures { OnOk result ((entries : List Entry) → length entries < 2 ^ 32 → length adds.now < 2 ^ 32 → Holds self.old entries
             → Holds self.new (fold with_added (fold without_hash entries removes.now) adds.now)) }

@@ -10,5 +10,5 @@ returns-in-Ok-clause-value c =
 pub returns-in-Err-clause-value : goal.returns-in-Err-clause-value
 returns-in-Err-clause-value c =
     hash_lost c.args.digits.now (λ bytes length decodes.
-      let ok = (c.read_hex.ensures.value (record { bytes = bytes })).1 (length, decodes) in
-      let err = c.in-Err.is in cc)
+    let ok = (c.read_hex.ensures.value (record { bytes = bytes })).1 (length, decodes) in
+    let err = c.in-Err.is in cc)

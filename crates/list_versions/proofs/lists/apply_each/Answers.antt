@@ -23,10 +23,10 @@ loop-i-preserved c =
     let is : d ≡ get_or c.loop-i.lists.items c.loop-i.i d = c.index_mut.ensures.value in
     let name = c.apply_to.ensures.name ∙ ap (λ (l : Listed). l.name) is in
     let size = c.apply_to.ensures.size ∙ ap (λ (l : Listed). l.size) is in record {
-  names = declared_set c.loop-i.lists.items c.loop-i.i c.apply_to.new.listed d lt name size ∙ c.loop-i.invariant.names;
-  long = length_set c.loop-i.lists.items c.loop-i.i c.apply_to.new.listed ∙ c.loop-i.invariant.long;
-  same = λ k d h. let ne : k ≢ c.loop-i.i = omega arith in rw get_or-set_other (c.loop-i.invariant.same k d (omega arith));
-  ok = λ sizes small few all.
-    applied_more c.args.change.now sizes c.loop-i.lists.items c.args.lists.now.items c.loop-i.i c.apply_to.new.listed d lt (omega (arith, lt, c.loop-i.invariant.long)) c.loop-i.invariant.same name (subst (λ (l : Listed). (entries : List Added) → length entries < 2 ^ 32 → length c.args.change.now.adds < 2 ^ 32 → Holds l.live entries → Holds c.apply_to.new.listed.live (after_change l.name entries c.args.change.now)) is c.in_ok-apply_to.ensures.ok) small few all
-    (c.loop-i.invariant.ok sizes small few all);
-}
+      names = declared_set c.loop-i.lists.items c.loop-i.i c.apply_to.new.listed d lt name size ∙ c.loop-i.invariant.names;
+      long = length_set c.loop-i.lists.items c.loop-i.i c.apply_to.new.listed ∙ c.loop-i.invariant.long;
+      same = λ k d h. let ne : k ≢ c.loop-i.i = omega arith in rw get_or-set_other (c.loop-i.invariant.same k d (omega arith));
+      ok = λ sizes small few all.
+          applied_more c.args.change.now sizes c.loop-i.lists.items c.args.lists.now.items c.loop-i.i c.apply_to.new.listed d lt (omega (arith, lt, c.loop-i.invariant.long)) c.loop-i.invariant.same name (subst (λ (l : Listed). (entries : List Added) → length entries < 2 ^ 32 → length c.args.change.now.adds < 2 ^ 32 → Holds l.live entries → Holds c.apply_to.new.listed.live (after_change l.name entries c.args.change.now)) is c.in_ok-apply_to.ensures.ok) small few all
+          (c.loop-i.invariant.ok sizes small few all);
+    }

@@ -14,6 +14,6 @@ invariant-loop-i l = record {
   long : length l.lists.items ≡ length l.initial.lists.items;
   same : (k : ℕ) (d : Listed) → l.i ≤ k → get_or l.lists.items k d ≡ get_or l.initial.lists.items k d;
   ok : (sizes : ListName → List Added) → ((name : ListName) → length (sizes name) < 2 ^ 32) → length l.change.adds < 2 ^ 32
-    → All (λ (list : Listed). Holds list.live (sizes list.name)) l.initial.lists.items
-    → (k : ℕ) (d : Listed) → k < l.i → let list = get_or l.lists.items k d in Holds list.live (after_change list.name (sizes list.name) l.change);
+      → All (λ (list : Listed). Holds list.live (sizes list.name)) l.initial.lists.items
+      → (k : ℕ) (d : Listed) → k < l.i → let list = get_or l.lists.items k d in Holds list.live (after_change list.name (sizes list.name) l.change);
 }

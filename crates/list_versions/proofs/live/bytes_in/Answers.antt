@@ -16,6 +16,6 @@ loop-i-preserved c fits =
     let long = ap length value in
     let before = c.loop-i.invariant fits in
     elim c.if-not-is_published.branch [
-  then-not-is_published w ↦ let step = rw (same ∙ w.if-not-is_published.true) at more in omega (arith, step, long, before, w.saturating_add-bytes.ensures, w.bytes-is)
-  | else-not-is_published w ↦ let step = rw (same ∙ w.if-not-is_published.false) at more in omega (arith, step, before, w.bytes-is)
-  ]
+      | then-not-is_published w ↦ let step = rw (same ∙ w.if-not-is_published.true) at more in omega (arith, step, long, before, w.saturating_add-bytes.ensures, w.bytes-is)
+      | else-not-is_published w ↦ let step = rw (same ∙ w.if-not-is_published.false) at more in omega (arith, step, before, w.bytes-is)
+    ]

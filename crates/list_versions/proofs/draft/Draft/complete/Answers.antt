@@ -15,9 +15,6 @@ use Rattle.list_versions.proofs.Applying.{IsApplied}
 use Rattle.list_versions.proofs.Completing.{any_declared, at_the_end, draft_completed, history_is}
 use Rattle.list_versions.proofs.draft.Draft.complete.Goals as goal
 
-
-
-
 small_sizes : (draft : Draft) → IsDraft draft → (name : ListName) → length (sizes_at (history_of draft) name (length draft.changes.items)) < 2 ^ 32
 small_sizes draft h name = let w = (h.within name (length draft.changes.items) (omega arith)).count in omega arith
 
@@ -37,8 +34,8 @@ returns-in-Some-clause-fault c =
     let applied = c.in-Ok.ensures.ok sizes (small_sizes old c.requires.draft) (omega (arith, c.requires.added, c.requires.some)) c.requires.draft.live in
     let limit = c.limit_of.ensures sizes (few_sizes old c.requires.draft) (rw c.deref.ensures.value applied) in
     inr (λ seen bytes. ap (λ r. r >>= λ reading. after_bytes reading bytes)
-      (at_the_end old c.args.begin.now c.args.adds c.args.removes change _ (Some c.in-Some.fault) c.requires.added c.requires.removed refl
-        (omega (arith, c.next_line.ensures.value, c.len.ensures, c.len-2.ensures)) (sym c.in-Some.is ∙ limit) seen))
+    (at_the_end old c.args.begin.now c.args.adds c.args.removes change _ (Some c.in-Some.fault) c.requires.added c.requires.removed refl
+    (omega (arith, c.next_line.ensures.value, c.len.ensures, c.len-2.ensures)) (sym c.in-Some.is ∙ limit) seen))
 
 pub returns-clause-draft : goal.returns-clause-draft
 returns-clause-draft c =
@@ -60,6 +57,6 @@ returns-clause-ok c seen bytes =
     let limit = c.limit_of.ensures sizes (few_sizes old c.requires.draft) (rw c.deref.ensures.value applied) in
     let names = c.apply_each.ensures.names in
     ap (λ r. r >>= λ reading. after_bytes reading bytes)
-      (at_the_end old c.args.begin.now c.args.adds c.args.removes change _ None c.requires.added c.requires.removed refl
-        (omega (arith, c.next_line.ensures.value, c.len.ensures, c.len-2.ensures)) (sym c.in_default-limit_of.is ∙ limit) seen)
+    (at_the_end old c.args.begin.now c.args.adds c.args.removes change _ None c.requires.added c.requires.removed refl
+    (omega (arith, c.next_line.ensures.value, c.len.ensures, c.len-2.ensures)) (sym c.in_default-limit_of.is ∙ limit) seen)
     ∙ ap (λ versions. after_bytes (record { kept = record { sized = old.sized; versions = versions; rest = [] }; begun = None }) bytes) (sym (history_is old.epoch (declared_of old.lists.items) (declared_of c.apply_each.new.lists.items) old.changes.items c.push.new.self.items change names c.in-Ok-push.ensures.items))

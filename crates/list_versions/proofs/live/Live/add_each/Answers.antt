@@ -10,6 +10,6 @@ pub loop-added-preserved : goal.loop-added-preserved
 loop-added-preserved c = λ entries small adds_small h.
     let front : length (take c.loop-added.added-index c.args.adds.now) ≤ length c.args.adds.now = grind (arith, common_steps) in
     let step = c.in_ok-add.ensures (fold with_added entries (take c.loop-added.added-index c.args.adds.now))
-      (omega (arith, front, length-fold_added (take c.loop-added.added-index c.args.adds.now) entries)) (c.loop-added.invariant entries small adds_small h) in
+    (omega (arith, front, length-fold_added (take c.loop-added.added-index c.args.adds.now) entries)) (c.loop-added.invariant entries small adds_small h) in
     let d : Added = record { hash = []; size = 0 } in
     rw (fold_more with_added entries c.args.adds.now c.loop-added.added-index d c.loop-added-test.true) step

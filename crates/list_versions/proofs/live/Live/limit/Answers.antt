@@ -10,9 +10,9 @@ returns-then-self-gt-MOST_HASHES c before removes few holds =
     let crowds = crowds_held c.args.self.now before c.args.adds.now removes few holds in
     let same = limit_as c.args.line c.args.self.now _ _ holds crowds in
     elim c.then-self-gt-MOST_HASHES.branch [
-  then-self-gt-MOST_HASHES-via-then-self-gt-MOST_HASHES w ↦ by_count c.args.line _ _ _ w.if-self-gt-MOST_HASHES.true ∙ same
-  | then-self-gt-MOST_HASHES-via-else-self-gt-MOST_HASHES+then-is_crowded w ↦ by_crowd c.args.line _ _ _ (sym w.is_crowded.ensures ∙ w.if-is_crowded.true) ∙ same
-  ]
+      | then-self-gt-MOST_HASHES-via-then-self-gt-MOST_HASHES w ↦ by_count c.args.line _ _ _ w.if-self-gt-MOST_HASHES.true ∙ same
+      | then-self-gt-MOST_HASHES-via-else-self-gt-MOST_HASHES+then-is_crowded w ↦ by_crowd c.args.line _ _ _ (sym w.is_crowded.ensures ∙ w.if-is_crowded.true) ∙ same
+    ]
 
 pub returns-then-self-gt-MOST_PREFIX_BYTES : goal.returns-then-self-gt-MOST_PREFIX_BYTES
 returns-then-self-gt-MOST_PREFIX_BYTES c before removes few holds =

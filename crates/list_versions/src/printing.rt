@@ -1,0 +1,31 @@
+ghost use Rattle.std.specs.Prelude.{◌≡◌, ◌++◌, decimal, OnOk};
+ghost use Rattle.list_versions.specs.Printed.{cause_text};
+
+use crate::JournalFault;
+use itoa::Buffer;
+use sb_model::{Bytes, OutOfMemory};
+
+// Appends a word and a number.
+fn push_counted(page: &mut Bytes, word: &str, number: u64) -> Result<(), OutOfMemory>
+    ensures { OnOk result (page.new ≡ page.old ++ (word.now ++ decimal number)) }
+{
+    let mut buffer = Buffer::new();
+    page.append(word.as_bytes())?;
+    page.append(buffer.format(number).as_bytes())
+}
+
+/// Appends the cause of a journal that is not read, as it is printed.
+pub fn push_journal_cause(page: &mut Bytes, fault: JournalFault) -> Result<(), OutOfMemory>
+    ensures { OnOk result (page.new ≡ page.old ++ cause_text fault) }
+{
+    match fault {
+        JournalFault::ReadFault => page.append(b"read-fault"),
+        JournalFault::Header => page.append(b"header"),
+        JournalFault::Line(line) => push_counted(page, "line ", line),
+        JournalFault::UnknownList(line) => push_counted(page, "unknown-list ", line),
+        JournalFault::ListTwice(line) => push_counted(page, "list-twice ", line),
+        JournalFault::TooMany(line) => push_counted(page, "too-many ", line),
+        JournalFault::TooLarge(line) => push_counted(page, "too-large ", line),
+        JournalFault::OutOfMemory => page.append(b"out-of-memory"),
+    }
+}
