@@ -5,7 +5,7 @@
 
 SHELL := /bin/bash
 LIST := MALWARE/ANY_PLATFORM/URL
-PROGRAMS := sbupdate kernels
+PROGRAMS := sbupdate sbcheck kernels
 SOURCES := crates.txt HANDLES $(shell find crates \( -name out -o -name must-fail \) -prune -o -type f -print)
 
 .PHONY: all test demo compare bench clean
@@ -28,8 +28,8 @@ demo: bin/sbupdate
 	@bin/sbupdate replay $(LIST) < demo/recording.jsonl; status=$$?; \
 	  echo "status $$status"; test $$status -eq 5
 
-# A second program of the same rules, in Python, has to print what sbupdate prints.
-compare: bin/sbupdate
+# A second program of the same rules, in Python, has to print what sbupdate and sbcheck print.
+compare: bin/sbupdate bin/sbcheck
 	python3 compare/compare.py
 
 bench: all

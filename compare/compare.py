@@ -1,10 +1,10 @@
 #!/usr/bin/env python3
-"""Runs `sbupdate replay` beside a second program of the same rules, and compares what they print.
+"""Runs the programs beside a second program of the same rules, and compares what they print.
 
 The second program is the first part of this file. It follows docs/FORMATS.md with Python's own JSON,
 base64 and SHA-256, and shares nothing with the crates. First come the recordings of compare/recordings.py, whose
 texts are known; then seeded inputs: bodies that are right, bodies with changed fields, and bodies with changed
-bytes. The exit status is 1 where a run differs.
+bytes. `sbcheck show` runs beside compare/urls.py on seeded URLs. The exit status is 1 where a run differs.
 """
 
 import argparse
@@ -20,10 +20,12 @@ import re
 import subprocess
 import sys
 
+import urls
 from recordings import RECORDINGS
 
 REPOSITORY = os.path.dirname(os.path.dirname(os.path.abspath(__file__)))
 SBUPDATE = os.path.join(REPOSITORY, "bin", "sbupdate")
+SBCHECK = os.path.join(REPOSITORY, "bin", "sbcheck")
 
 THREATS = ["MALWARE", "SOCIAL_ENGINEERING", "UNWANTED_SOFTWARE", "POTENTIALLY_HARMFUL_APPLICATION"]
 PLATFORMS = ["WINDOWS", "LINUX", "ANDROID", "OSX", "IOS", "ANY_PLATFORM", "ALL_PLATFORMS", "CHROME"]
@@ -559,7 +561,12 @@ def run(names, text):
     return found.stdout, found.returncode
 
 
-def differs(told, names, text, wanted):
+def show(names, text):
+    found = subprocess.run([SBCHECK, "show"], input=text, stdout=subprocess.PIPE, check=False)
+    return found.stdout, found.returncode
+
+
+def differs(told, names, text, wanted, run=run):
     found = run(names, text)
     if found == wanted:
         return False
@@ -571,6 +578,7 @@ def differs(told, names, text, wanted):
 def main():
     parser = argparse.ArgumentParser(description=__doc__.splitlines()[0])
     parser.add_argument("--runs", type=int, default=5_000, help="how many inputs (5000)")
+    parser.add_argument("--urls", type=int, default=20_000, help="how many URLs (20000)")
     parser.add_argument("--seed", type=int, default=20_240_229, help="where they begin")
     options = parser.parse_args()
     differing = 0
@@ -590,6 +598,13 @@ def main():
         differing += differs(f"input {number}", names, text, (wanted, status))
     told = ", ".join(f"{count:,} {outcome}" for outcome, count in sorted(outcomes.items()))
     print(f"{options.runs:,} inputs: {told}")
+    refused = 0
+    for number in range(options.urls // 1_000):
+        lines = urls.some_urls(rand, 1_000)
+        wanted, status = urls.show(lines)
+        refused += sum(line.split(b" ")[1] == b"refused" for line in wanted.splitlines())
+        differing += differs(f"URLs {number}", [], b"\n".join(lines) + b"\n", (wanted, status), run=show)
+    print(f"{options.urls // 1_000 * 1_000:,} URLs, {refused:,} of them refused")
     print(f"{differing} differ")
     return 1 if differing else 0
 

@@ -9,4 +9,5 @@ pub mod LineCuts
 pub mod Outcomes
 pub mod Readings
 pub mod Replays
+pub mod Shows
 pub mod Ways

@@ -5,4 +5,6 @@ pub mod Lines
 pub mod Printed
 pub mod Readings
 pub mod Replay
+pub mod Show
+pub mod Shown
 pub mod Writing

@@ -6,15 +6,19 @@ ghost use Rattle.sb_outside.specs.Outside.{Rose, next_piece};
 ghost use Rattle.update_client.specs.Held.{most_lists, nothing_held_of};
 ghost use Rattle.sb_round.specs.Honest.{IsHonest};
 ghost use Rattle.sb_round.specs.Collision.{candidates_of, HasNoCollision};
-ghost use Rattle.sb_client.specs.Command.{replay_of};
+ghost use Rattle.sb_client.specs.Command.{replay_of, asks_show, asks_vectors, IsNoCommand, AreFewLists};
 ghost use Rattle.sb_client.specs.Lines.{lines_of, IsWithinLimits};
 ghost use Rattle.sb_client.specs.Input.{GivesWithin, GivesPast};
 ghost use Rattle.sb_client.specs.Readings.{Reading, AreReadings, bodies_of};
+ghost use Rattle.sb_client.specs.Writing.{status_after};
 ghost use Rattle.sb_client.specs.Replay.{IsPrinted, IsPartlyPrinted, PrintsReplicas, TellsUsage, IsStatus};
+ghost use Rattle.sb_client.specs.Show.{IsShown, IsPartlyShown, IsCounted, IsPartlyCounted};
 
-use crate::command::replay_command;
+use crate::command::{Command, command_of};
 use crate::replay::replay;
+use crate::show::show;
 use crate::stop::Stop;
+use crate::vectors::vectors;
 use sb_model::{ListName, OutOfMemory};
 use sb_outside::{Sink, Source, write_all};
 use sb_round::replicas_stay;
@@ -22,7 +26,8 @@ use std::alloc::Global;
 use update_messages::{values_read_one_way, values_read_or_have_a_fault};
 
 /// What is printed where the words are no command line.
-pub const USAGE: &str = "usage: sbupdate replay LIST...\n";
+pub const USAGE: &str =
+    "usage: sbupdate replay LIST...\n       sbcheck show\n       sbcheck vectors\n";
 
 /// Tells how the program is used.
 fn tell_usage<O: Sink>(out: &mut O) -> u8
@@ -32,6 +37,18 @@ fn tell_usage<O: Sink>(out: &mut O) -> u8
     match write_all(out, USAGE.as_bytes()) {
         Ok(()) => 1,
         Err(_) => 1,
+    }
+}
+
+/// The exit status of a run that ended before its end.
+fn status_of(stop: Stop) -> u8
+    ensures { result ≡ status_after stop }
+{
+    match stop {
+        Stop::ReadFault => 2,
+        Stop::WriteFault => 3,
+        Stop::PastLimits => 6,
+        Stop::OutOfMemory => 8,
     }
 }
 
@@ -45,7 +62,7 @@ fn replay_status<S: Source, O: Sink>(
     requires some { names.now ≢ [] }
     requires few { length names.now ≤ most_lists }
     ensures statuses { IsStatus result }
-    ensures words { result ≢ 1 }
+    ensures ends { (result ≢ 1) × (result ≢ 21) }
     ensures printed { result ≡ 0 → IsPrinted names.now false (S.left input.old) (S.left input.new) (O.contents out.old) (O.contents out.new) }
     ensures refused { result ≡ 5 → IsPrinted names.now true (S.left input.old) (S.left input.new) (O.contents out.old) (O.contents out.new) }
     ensures read_fault { result ≡ 2 → Rose (S.faults input.old) (S.faults input.new)
@@ -58,23 +75,109 @@ fn replay_status<S: Source, O: Sink>(
     ensures input_count { result ≢ 2 → S.faults input.new ≡ S.faults input.old }
     ensures output_count { result ≢ 3 → O.faults out.new ≡ O.faults out.old }
 {
-    let stop = match replay(alloc, names, input, out) {
-        Ok(refused) => return if refused { 5 } else { 0 },
-        Err(stop) => stop,
-    };
-    match stop {
-        Stop::ReadFault => 2,
-        Stop::WriteFault => 3,
-        Stop::PastLimits => 6,
-        Stop::OutOfMemory => 8,
+    match replay(alloc, names, input, out) {
+        Ok(refused) => { if refused { 5 } else { 0 } }
+        Err(stop) => status_of(stop),
+    }
+}
+
+/// The exit status of a run of `show`.
+fn show_status<S: Source, O: Sink>(alloc: Global, input: &mut S, out: &mut O) -> u8
+    ensures statuses { IsStatus result }
+    ensures ends { (result ≢ 1) × (result ≢ 5) }
+    ensures shown { result ≡ 0 → IsShown false (S.left input.old) (S.left input.new) (O.contents out.old) (O.contents out.new) }
+    ensures some_refused { result ≡ 21 → IsShown true (S.left input.old) (S.left input.new) (O.contents out.old) (O.contents out.new) }
+    ensures read_fault { result ≡ 2 → Rose (S.faults input.old) (S.faults input.new)
+        × GivesWithin (S.left input.old) (S.left input.new) × (out.new ≡ out.old) }
+    ensures write_fault { result ≡ 3 → Rose (O.faults out.old) (O.faults out.new)
+        × IsPartlyShown (S.left input.old) (S.left input.new) (O.contents out.old) (O.contents out.new) }
+    ensures past_limits { result ≡ 6 → GivesPast (S.left input.old) (S.left input.new) × (out.new ≡ out.old) }
+    ensures memory { result ≡ 8 → (O.contents out.new ≡ O.contents out.old)
+        ⊎ IsPartlyShown (S.left input.old) (S.left input.new) (O.contents out.old) (O.contents out.new) }
+    ensures input_count { result ≢ 2 → S.faults input.new ≡ S.faults input.old }
+    ensures output_count { result ≢ 3 → O.faults out.new ≡ O.faults out.old }
+{
+    match show(alloc, input, out) {
+        Ok(refused) => { if refused { 21 } else { 0 } }
+        Err(stop) => status_of(stop),
+    }
+}
+
+/// The exit status of a run of `vectors`.
+fn vectors_status<O: Sink>(alloc: Global, out: &mut O) -> u8
+    ensures ends { (result ≡ 0) ⊎ (result ≡ 3) ⊎ (result ≡ 8) ⊎ (result ≡ 21) }
+    ensures all_met { result ≡ 0 → IsCounted true (O.contents out.old) (O.contents out.new) }
+    ensures some_failed { result ≡ 21 → IsCounted false (O.contents out.old) (O.contents out.new) }
+    ensures write_fault { result ≡ 3 → Rose (O.faults out.old) (O.faults out.new)
+        × IsPartlyCounted (O.contents out.old) (O.contents out.new) }
+    ensures memory { result ≡ 8 → out.new ≡ out.old }
+    ensures output_count { result ≢ 3 → O.faults out.new ≡ O.faults out.old }
+{
+    match vectors(alloc, out) {
+        Ok(all_met) => { if all_met { 0 } else { 21 } }
+        Err(stop) => status_of(stop),
+    }
+}
+
+/// Runs a command, and answers the exit status.
+fn run_command<S: Source, O: Sink>(
+    alloc: Global,
+    command: Command,
+    input: &mut S,
+    out: &mut O,
+) -> u8
+    requires { AreFewLists command }
+    ensures statuses { IsStatus result }
+    ensures some { result ≢ 1 }
+    ensures replay_ends { (names : List ListName) → command ≡ Command.Replay names → result ≢ 21 }
+    ensures printed { (names : List ListName) → command ≡ Command.Replay names → result ≡ 0
+        → IsPrinted names false (S.left input.old) (S.left input.new) (O.contents out.old) (O.contents out.new) }
+    ensures refused { (names : List ListName) → command ≡ Command.Replay names → result ≡ 5
+        → IsPrinted names true (S.left input.old) (S.left input.new) (O.contents out.old) (O.contents out.new) }
+    ensures write_fault { (names : List ListName) → command ≡ Command.Replay names → result ≡ 3
+        → Rose (O.faults out.old) (O.faults out.new)
+        × IsPartlyPrinted names (S.left input.old) (S.left input.new) (O.contents out.old) (O.contents out.new) }
+    ensures memory { (names : List ListName) → command ≡ Command.Replay names → result ≡ 8
+        → (O.contents out.new ≡ O.contents out.old)
+        ⊎ IsPartlyPrinted names (S.left input.old) (S.left input.new) (O.contents out.old) (O.contents out.new) }
+    ensures show_ends { command ≡ Command.Show → result ≢ 5 }
+    ensures shown { command ≡ Command.Show → result ≡ 0
+        → IsShown false (S.left input.old) (S.left input.new) (O.contents out.old) (O.contents out.new) }
+    ensures some_refused { command ≡ Command.Show → result ≡ 21
+        → IsShown true (S.left input.old) (S.left input.new) (O.contents out.old) (O.contents out.new) }
+    ensures show_write_fault { command ≡ Command.Show → result ≡ 3 → Rose (O.faults out.old) (O.faults out.new)
+        × IsPartlyShown (S.left input.old) (S.left input.new) (O.contents out.old) (O.contents out.new) }
+    ensures show_memory { command ≡ Command.Show → result ≡ 8 → (O.contents out.new ≡ O.contents out.old)
+        ⊎ IsPartlyShown (S.left input.old) (S.left input.new) (O.contents out.old) (O.contents out.new) }
+    ensures vectors_end { command ≡ Command.Vectors → (result ≡ 0) ⊎ (result ≡ 3) ⊎ (result ≡ 8) ⊎ (result ≡ 21) }
+    ensures vectors_read { command ≡ Command.Vectors → input.new ≡ input.old }
+    ensures all_met { command ≡ Command.Vectors → result ≡ 0 → IsCounted true (O.contents out.old) (O.contents out.new) }
+    ensures some_failed { command ≡ Command.Vectors → result ≡ 21 → IsCounted false (O.contents out.old) (O.contents out.new) }
+    ensures vectors_write_fault { command ≡ Command.Vectors → result ≡ 3 → Rose (O.faults out.old) (O.faults out.new)
+        × IsPartlyCounted (O.contents out.old) (O.contents out.new) }
+    ensures vectors_memory { command ≡ Command.Vectors → result ≡ 8 → out.new ≡ out.old }
+    ensures output_fault { result ≡ 3 → Rose (O.faults out.old) (O.faults out.new) }
+    ensures read_fault { result ≡ 2 → Rose (S.faults input.old) (S.faults input.new)
+        × GivesWithin (S.left input.old) (S.left input.new) × (out.new ≡ out.old) }
+    ensures past_limits { result ≡ 6 → GivesPast (S.left input.old) (S.left input.new) × (out.new ≡ out.old) }
+    ensures input_count { result ≢ 2 → S.faults input.new ≡ S.faults input.old }
+    ensures output_count { result ≢ 3 → O.faults out.new ≡ O.faults out.old }
+{
+    match command {
+        Command::Replay(names) => replay_status(alloc, names.as_slice(), input, out),
+        Command::Show => show_status(alloc, input, out),
+        Command::Vectors => vectors_status(alloc, out),
     }
 }
 
 /// Runs one command of the client programs, and answers the exit status. The first word is the
-/// program's name, `sbupdate`.
+/// program's name, `sbupdate` or `sbcheck`.
 ///
 /// `replay LIST..` names 1 to 8 lists, each once. It reads the input to its next end, takes each line as
 /// a response body, starting from empty lists, and writes what became of each line and the lists that result.
+///
+/// `show` reads the input likewise, takes each line as a URL, and writes its canonical text and its expressions, each
+/// after its SHA-256. `vectors` reads nothing, and writes how many of the published examples are met.
 ///
 /// | Status | Comes |
 /// |---|---|
@@ -82,9 +185,10 @@ fn replay_status<S: Source, O: Sink>(
 /// | 1 | exactly where the words are no command line |
 /// | 2 | only where the input's count of faults rose |
 /// | 3 | only where the output's count of faults rose |
-/// | 5 | exactly where a line has no reading or an update that is refused, and the run came to its end |
+/// | 5 | exactly where a line of a replay has no reading or an update that is refused, and the run came to its end |
 /// | 6 | exactly where the input passes 201,326,592 bytes or 65,536 lines before its end or a fault |
 /// | 8 | where memory was refused |
+/// | 21 | exactly where a URL that is shown has no canonical form, or an example is not met, and the run came to its end |
 pub fn run_client<S: Source, O: Sink>(
     alloc: Global,
     words: &[String],
@@ -95,11 +199,11 @@ pub fn run_client<S: Source, O: Sink>(
 
     // Words that are no command line: the usage text alone is written, and nothing is read. Where memory was
     // refused while the words were read, nothing is written or read.
-    ensures words { result ≡ 1 → replay_of (map string_bytes words.now) ≡ None }
-    ensures other_words { replay_of (map string_bytes words.now) ≡ None → (result ≡ 1) ⊎ (result ≡ 8) }
+    ensures words { result ≡ 1 → IsNoCommand (map string_bytes words.now) }
+    ensures other_words { IsNoCommand (map string_bytes words.now) → (result ≡ 1) ⊎ (result ≡ 8) }
     ensures usage { result ≡ 1 → (input.new ≡ input.old)
         × TellsUsage USAGE.now (O.contents out.old) (O.contents out.new) (O.faults out.old) (O.faults out.new) }
-    ensures no_words { replay_of (map string_bytes words.now) ≡ None → result ≡ 8
+    ensures no_words { IsNoCommand (map string_bytes words.now) → result ≡ 8
         → (input.new ≡ input.old) × (out.new ≡ out.old) }
 
     // A replay that came to its end: its whole text, which tells of a refusal exactly where the status is 5.
@@ -119,6 +223,34 @@ pub fn run_client<S: Source, O: Sink>(
         → (O.contents out.new ≡ O.contents out.old)
         ⊎ IsPartlyPrinted names (S.left input.old) (S.left input.new) (O.contents out.old) (O.contents out.new) }
 
+    ensures replay_ends { (names : List ListName) → replay_of (map string_bytes words.now) ≡ Some names → result ≢ 21 }
+
+    // Shown URLs: the whole text, which tells of one without a canonical form exactly where the status is 21, or
+    // a front of it.
+    ensures show_ends { asks_show (map string_bytes words.now) ≡ true → result ≢ 5 }
+    ensures shown { asks_show (map string_bytes words.now) ≡ true → result ≡ 0
+        → IsShown false (S.left input.old) (S.left input.new) (O.contents out.old) (O.contents out.new) }
+    ensures some_refused { asks_show (map string_bytes words.now) ≡ true → result ≡ 21
+        → IsShown true (S.left input.old) (S.left input.new) (O.contents out.old) (O.contents out.new) }
+    ensures show_write_fault { asks_show (map string_bytes words.now) ≡ true → result ≡ 3
+        → Rose (O.faults out.old) (O.faults out.new)
+        × IsPartlyShown (S.left input.old) (S.left input.new) (O.contents out.old) (O.contents out.new) }
+    ensures show_memory { asks_show (map string_bytes words.now) ≡ true → result ≡ 8
+        → (O.contents out.new ≡ O.contents out.old)
+        ⊎ IsPartlyShown (S.left input.old) (S.left input.new) (O.contents out.old) (O.contents out.new) }
+
+    // Counted examples: nothing is read, and the status is 0 exactly where all are met.
+    ensures vectors_end { asks_vectors (map string_bytes words.now) ≡ true
+        → (result ≡ 0) ⊎ (result ≡ 3) ⊎ (result ≡ 8) ⊎ (result ≡ 21) }
+    ensures vectors_read { asks_vectors (map string_bytes words.now) ≡ true → input.new ≡ input.old }
+    ensures all_met { asks_vectors (map string_bytes words.now) ≡ true → result ≡ 0
+        → IsCounted true (O.contents out.old) (O.contents out.new) }
+    ensures some_failed { asks_vectors (map string_bytes words.now) ≡ true → result ≡ 21
+        → IsCounted false (O.contents out.old) (O.contents out.new) }
+    ensures vectors_write_fault { asks_vectors (map string_bytes words.now) ≡ true → result ≡ 3
+        → Rose (O.faults out.old) (O.faults out.new) × IsPartlyCounted (O.contents out.old) (O.contents out.new) }
+    ensures vectors_memory { asks_vectors (map string_bytes words.now) ≡ true → result ≡ 8 → out.new ≡ out.old }
+
     // A count that rose names its fault.
     ensures input_count { result ≢ 2 → S.faults input.new ≡ S.faults input.old }
     ensures output_count { result ≢ 3 → result ≢ 1 → O.faults out.new ≡ O.faults out.old }
@@ -129,6 +261,12 @@ pub fn run_client<S: Source, O: Sink>(
         → S.faults input.new ≡ S.faults input.old → S.faults input.old < 2 ^ 64 - 1
         → O.faults out.new ≡ O.faults out.old → O.faults out.old < 2 ^ 64 - 1
         → (result ≡ 0) ⊎ (result ≡ 5) ⊎ (result ≡ 8) }
+
+    ensures complete_show { (pieces : List (List ℕ)) → asks_show (map string_bytes words.now) ≡ true
+        → S.left input.old ≡ Some pieces → IsWithinLimits (next_piece pieces)
+        → S.faults input.new ≡ S.faults input.old → S.faults input.old < 2 ^ 64 - 1
+        → O.faults out.new ≡ O.faults out.old → O.faults out.old < 2 ^ 64 - 1
+        → (result ≡ 0) ⊎ (result ≡ 21) ⊎ (result ≡ 8) }
 
     // The headline: where the bodies that the source tells are honest and no digest collides, each list that a
     // replay prints is the server's at the version that its token names, or is empty without a token.
@@ -146,8 +284,8 @@ pub fn run_client<S: Source, O: Sink>(
     values_read_one_way();
     values_read_or_have_a_fault();
     replicas_stay();
-    match replay_command(alloc, words) {
-        Ok(Some(names)) => replay_status(alloc, names.as_slice(), input, out),
+    match command_of(alloc, words) {
+        Ok(Some(command)) => run_command(alloc, command, input, out),
         Ok(None) => tell_usage(out),
         Err(OutOfMemory) => 8,
     }

@@ -1,5 +1,6 @@
 //! The top call of the client programs: `sbupdate replay LIST..` reads recorded response bodies, one a
-//! line, and prints the lists that result.
+//! line, and prints the lists that result; `sbcheck show` prints the canonical form of URLs with their
+//! expressions, and `sbcheck vectors` how many published examples are met.
 #![tactic(auto)]
 
 pub use client::{USAGE, run_client};
@@ -12,4 +13,6 @@ mod laws;
 mod lines;
 mod printing;
 mod replay;
+mod show;
 mod stop;
+mod vectors;

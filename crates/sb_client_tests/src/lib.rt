@@ -10,4 +10,6 @@ mod objects;
 #[cfg(test)]
 mod recordings;
 #[cfg(test)]
+mod shown;
+#[cfg(test)]
 mod words;

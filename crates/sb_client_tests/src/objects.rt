@@ -30,18 +30,27 @@ fn an_input_may_be_empty(rt: HostRuntime) -> Result<(), Fail> {
     )
 }
 
-#[test]
-fn a_source_that_fails_is_named(rt: HostRuntime) -> Result<(), Fail> {
-    let alloc = rt.alloc();
-    let replay = replay_words(alloc, &[LIST])?;
+// Sees what comes of a source that fails at its second call.
+fn fails(rt: &impl Abort, alloc: Global, texts: &[&str]) -> Result<(), Fail> {
+    let words = words(alloc, texts)?;
     let mut out = MemorySink::new(alloc, 1000, Row::new(alloc))?;
     let mut input = source(alloc, "x\n".as_bytes(), &[2], 1)?;
     assert_eq!(rt;
-        run_client(alloc, replay.as_slice(), &mut input, &mut out),
+        run_client(alloc, words.as_slice(), &mut input, &mut out),
         2
     );
     assert_eq!(rt; (input.faults(), out.bytes().len()), (1, 0));
     Ok(())
+}
+
+#[test]
+fn a_source_that_fails_is_named(rt: HostRuntime) -> Result<(), Fail> {
+    fails(&rt, rt.alloc(), &["sbupdate", "replay", LIST])
+}
+
+#[test]
+fn a_source_of_urls_that_fails_is_named(rt: HostRuntime) -> Result<(), Fail> {
+    fails(&rt, rt.alloc(), &["sbcheck", "show"])
 }
 
 // Sees what is written to a sink that fails at its second call of ten bytes.
@@ -72,6 +81,16 @@ fn a_sink_that_fails_is_named(rt: HostRuntime) -> Result<(), Fail> {
         3,
         "2 unreadab",
     )
+}
+
+#[test]
+fn a_sink_that_fails_at_urls_is_named(rt: HostRuntime) -> Result<(), Fail> {
+    breaks(&rt, rt.alloc(), &["sbcheck", "show"], 3, "1 http://{")
+}
+
+#[test]
+fn a_sink_that_fails_at_the_examples_is_named(rt: HostRuntime) -> Result<(), Fail> {
+    breaks(&rt, rt.alloc(), &["sbcheck", "vectors"], 3, "vectors 35")
 }
 
 #[test]

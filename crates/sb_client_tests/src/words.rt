@@ -1,4 +1,4 @@
-//! The words of `replay`.
+//! The words of a command line.
 use crate::bodies::{LIST, source, words};
 use sb_client::{USAGE, run_client};
 use sb_model::Row;
@@ -9,7 +9,7 @@ use std::test::Fail;
 
 const OTHER: &str = "MALWARE/LINUX/URL";
 
-// The words of a table and what an empty input comes to: the lists that are printed, or the usage with status 1.
+// Words, and what an empty input comes to: the lists that are printed, or the usage with status 1.
 static LINES: [(&[&str], &str); 30] = [
     (
         &["sbupdate", "replay", LIST],
@@ -90,6 +90,24 @@ static LINES: [(&[&str], &str); 30] = [
     (&["sbupdate", "run", LIST], USAGE),
 ];
 
+// Words of the other program.
+static CHECKS: [(&[&str], &str); 14] = [
+    (&["sbcheck", "show"], ""),
+    (&["sbcheck", "show", "--"], ""),
+    (&["sbcheck", "vectors"], "vectors 35 of 35\n"),
+    (&["sbcheck", "vectors", "--"], "vectors 35 of 35\n"),
+    (&["sbcheck"], USAGE),
+    (&["sbcheck", "show", "x"], USAGE),
+    (&["sbcheck", "show", ""], USAGE),
+    (&["sbcheck", "show", "--", "x"], USAGE),
+    (&["sbcheck", "show", "--help"], USAGE),
+    (&["sbcheck", "vectors", "show"], USAGE),
+    (&["sbcheck", "--", "show"], USAGE),
+    (&["sbcheck", "Show"], USAGE),
+    (&["sbupdate", "show"], USAGE),
+    (&["sbupdate", "vectors"], USAGE),
+];
+
 // Sees what the words answer and write.
 fn answers(rt: &impl Abort, alloc: Global, texts: &[&str], text: &str) -> Result<(), Fail> {
     let words = words(alloc, texts)?;
@@ -104,6 +122,14 @@ fn answers(rt: &impl Abort, alloc: Global, texts: &[&str], text: &str) -> Result
 #[test]
 fn words_are_a_command_line_or_get_the_usage(rt: HostRuntime) -> Result<(), Fail> {
     for (texts, text) in LINES.iter() {
+        answers(&rt, rt.alloc(), texts, text)?;
+    }
+    Ok(())
+}
+
+#[test]
+fn the_other_program_has_words_of_its_own(rt: HostRuntime) -> Result<(), Fail> {
+    for (texts, text) in CHECKS.iter() {
         answers(&rt, rt.alloc(), texts, text)?;
     }
     Ok(())

@@ -1,0 +1,32 @@
+//! Judges URLs.
+#![tactic(auto)]
+
+use sb_client::run_client;
+use sb_outside::{StdSink, StdSource};
+use std::alloc::Global;
+use std::io::ErrorKind;
+use std::process::ExitCode;
+use std::{env, io};
+
+/// The words of the command line, the first of them this program's name.
+fn words_of(rt: &HostRuntime, alloc: Global) -> io::Result<Vec<String>> {
+    let mut words = Vec::new(alloc);
+    words.push(String::from_str(alloc, "sbcheck")?)?;
+    for word in env::args(rt)?.skip(1) {
+        words.push(word)?;
+    }
+    Ok(words)
+}
+
+fn main(rt: HostRuntime) -> ExitCode {
+    let alloc = rt.alloc();
+    let words = match words_of(&rt, alloc) {
+        Ok(words) => words,
+        // A word that is not UTF-8 is none that the program takes: without words it tells its usage.
+        Err(fault) if fault.kind() == ErrorKind::InvalidData => Vec::new(alloc),
+        Err(_) => return ExitCode::from(8),
+    };
+    let mut input = StdSource::new(rt.stdin());
+    let mut out = StdSink::new(rt.stdout());
+    ExitCode::from(run_client(alloc, words.as_slice(), &mut input, &mut out))
+}
