@@ -77,5 +77,6 @@ pub record IsFirstFailed (cases : List Case) (place : ℕ) : Type 0 where
 -- Each answer says whether its case is met.
 abbrev pub AreDecided : List Case → List Bool → Type 0
 AreDecided [] [] = Unit {0}
-AreDecided (case ∷ cases) (answer ∷ answers) = (IsTrue answer ↔ Meets case) × AreDecided cases answers
+AreDecided (case ∷ cases) (answer ∷ answers) =
+    (IsTrue answer ↔ Meets case) × AreDecided cases answers
 AreDecided _ _ = ⊥

@@ -6,8 +6,8 @@ pub enum Case {
         url: &'static [u8],
         text: &'static [u8],
     },
-    /// A text that has no canonical URL, and the number of its fault: 1 where it is empty, 2 where it
-    /// names no host, 3 where it is too long.
+    /// A text that has no canonical URL, and the number of its fault: 1 where it is empty, 2 where
+    /// it names no host, 3 where it is too long.
     Refused {
         url: &'static [u8],
         number: u8,
@@ -17,8 +17,8 @@ pub enum Case {
         url: &'static [u8],
         lines: &'static [u8],
     },
-    /// Numbers, and the parameter and the bytes of a Rice record that stands for them. Its first value
-    /// and its count are those of the numbers.
+    /// Numbers, and the parameter and the bytes of a Rice record that stands for them. Its first
+    /// value and its count are those of the numbers.
     Rice {
         values: &'static [u32],
         parameter: u32,

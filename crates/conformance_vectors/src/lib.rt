@@ -1,5 +1,5 @@
-//! The published examples of canonical URLs, of expressions and of Rice records, and a run that counts
-//! those with which the crates below agree.
+//! The published examples of canonical URLs, of expressions and of Rice records, and a run that
+//! counts those with which the crates below agree.
 #![tactic(auto)]
 
 pub use case::Case;

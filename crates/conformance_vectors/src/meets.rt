@@ -86,7 +86,8 @@ fn stands_for(alloc: Global, coding: &RiceRecord, values: &[u32]) -> Result<bool
     }
 }
 
-/// Whether there is a value, and the record of this parameter and these bytes stands for the values.
+/// Whether there is a value, and the record of this parameter and these bytes stands for the
+/// values.
 fn has_record(
     alloc: Global,
     values: &[u32],

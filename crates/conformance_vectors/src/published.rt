@@ -41,9 +41,9 @@ macro_rules! rice {
     };
 }
 
-/// The published examples: canonical URLs and expressions as the Safe Browsing documentation has them,
-/// on hosts that are reserved for examples, texts that are refused, Rice records, and hosts of
-/// other scripts.
+/// The published examples: canonical URLs and expressions as the Safe Browsing documentation has
+/// them, on hosts that are reserved for examples, texts that are refused, Rice records, and hosts
+/// of other scripts.
 pub fn published_cases() -> [Case; 35] {
     [
         canon!(b"http://host/%25%32%35", b"http://host/%25"),

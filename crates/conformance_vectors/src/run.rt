@@ -43,7 +43,8 @@ fn decide(alloc: Global, cases: &[Case]) -> Result<Vec<bool>, OutOfMemory>
 /// How many cases are met, and which is the first that is not.
 pub fn run_table(alloc: Global, cases: &[Case]) -> Result<Outcome, OutOfMemory>
     ensures passed { IfOk result (λ outcome. MeetCount cases.now outcome.passed) }
-    ensures all { IfOk result (λ outcome. (outcome.passed ≡ length cases.now) ↔ All Meets cases.now) }
+    ensures all { IfOk result (λ outcome.
+        (outcome.passed ≡ length cases.now) ↔ All Meets cases.now) }
     ensures first_failed { IfOk result (λ outcome. MatchOption outcome.first_failed
         (All Meets cases.now) (λ place. IsFirstFailed cases.now place)) }
 {

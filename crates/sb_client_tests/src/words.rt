@@ -10,7 +10,7 @@ use std::test::Fail;
 const OTHER: &str = "MALWARE/LINUX/URL";
 
 // Words, and what an empty input comes to: the lists that are printed, or the usage with status 1.
-static LINES: [(&[&str], &str); 30] = [
+static LINES: [(&[&str], &str); 31] = [
     (
         &["sbupdate", "replay", LIST],
         "list MALWARE/ANY_PLATFORM/URL 0 -\n",
@@ -88,6 +88,7 @@ static LINES: [(&[&str], &str); 30] = [
     (&["sbupdate", "--help"], USAGE),
     (&["sbcheck", "replay", LIST], USAGE),
     (&["sbupdate", "run", LIST], USAGE),
+    (&["sbupdate", "run"], USAGE),
 ];
 
 // Words of the other program.

@@ -1,5 +1,5 @@
--- What is taken off a text before it is read as a URL (Safe Browsing v4, "URLs and Hashing", section
--- "Canonicalization": tabs and line ends, the fragment, and spaces at the ends).
+-- What is taken off a text before it is read as a URL (Safe Browsing v4, "URLs and Hashing",
+-- section "Canonicalization": tabs and line ends, the fragment, and spaces at the ends).
 use Rattle.std.specs.Prelude.{ℕ, List, ◌==◌, Bool, not, ◌||◌, filter}
 use Rattle.std.specs.List.{before_first}
 use Rattle.url_canon.specs.Words.{without_leading, without_trailing}

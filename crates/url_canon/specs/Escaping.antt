@@ -13,7 +13,8 @@ is_unsafe byte = (nat_le byte 32 || nat_le 127 byte) || (byte == 35 || byte == 3
 
 abbrev pub escape_of : ℕ → List ℕ
 escape_of byte =
-    if is_unsafe byte then (37 ∷ hex_digit (byte / 16) ∷ hex_digit (byte % 16) ∷ []) else (byte ∷ [])
+    if is_unsafe byte then (37 ∷ hex_digit (byte / 16) ∷ hex_digit (byte % 16) ∷ [])
+    else (byte ∷ [])
 
 -- the text with each unsafe byte as `%` and two digits
 unfoldable pub escaped : List ℕ → List ℕ

@@ -1,6 +1,6 @@
 -- The host of an authority (RFC 3986, section 3.2.2; Safe Browsing v4, "URLs and Hashing", section
--- "Canonicalization", canonicalizing the hostname). Between its lower case and its address stands the
--- step for international names (UTS 46).
+-- "Canonicalization", canonicalizing the hostname). Between its lower case and its address stands
+-- the step for international names (UTS 46).
 use Rattle.std.specs.Prelude.{ℕ, nat_le, List, ◌++◌, ◌==◌, Bool, true, false, not, ◌&&◌, if◌then◌else◌, Option, Some, None, filter, codes}
 use Rattle.std.specs.List.{before_first, slice_split, list_any, join_with_byte}
 use Rattle.std.specs.Str.{str_to_ascii_lowercase}
@@ -48,9 +48,9 @@ abbrev pub form_or : List ℕ → Option (List ℕ) → List ℕ
 form_or name None = name
 form_or name (Some form) = tidied form
 
--- A name with other characters than those of ASCII, in ASCII: ToASCII (UTS 46, section 4.2) with the
--- flags of the URL Standard and its forbidden domain code points. A name that ToASCII refuses, as one
--- that is not UTF-8, stays.
+-- A name with other characters than those of ASCII, in ASCII: ToASCII (UTS 46, section 4.2) with
+-- the flags of the URL Standard and its forbidden domain code points. A name that ToASCII refuses,
+-- as one that is not UTF-8, stays.
 unfoldable pub ascii_name : List ℕ → List ℕ
 ascii_name name = if list_any is_high name then form_or name (domain_to_ascii URL name) else name
 

@@ -18,7 +18,8 @@ has_scheme text =
 -- the scheme in lower case, which is `http` where the text has none
 unfoldable pub scheme_of : List ℕ → List ℕ
 scheme_of text =
-    if has_scheme text then str_to_ascii_lowercase (take_while is_scheme_byte text) else codes "http"
+    if has_scheme text then str_to_ascii_lowercase (take_while is_scheme_byte text)
+    else codes "http"
 
 unfoldable pub after_scheme : List ℕ → List ℕ
 after_scheme text = if has_scheme text then drop 3 (without_leading is_scheme_byte text) else text

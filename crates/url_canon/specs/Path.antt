@@ -1,6 +1,6 @@
 -- The path of a URL as its components, which RFC 3986 calls segments (section 3.3), without its dot
--- segments (section 5.2.4) and without runs of slashes (Safe Browsing v4, "URLs and Hashing", section
--- "Canonicalization", canonicalizing the path).
+-- segments (section 5.2.4) and without runs of slashes (Safe Browsing v4, "URLs and Hashing",
+-- section "Canonicalization", canonicalizing the path).
 use Rattle.std.specs.Prelude.{◌≡◌, ◌≢◌, ◌<◌, All, false, ℕ, ◌-◌, List, [], ◌∷◌, ◌++◌, ◌==◌, Bool, ◌||◌, if◌then◌else◌, codes, length, take, drop, fold, bytes_eq}
 use Rattle.std.specs.List.{flat_map, slice_split}
 use Rattle.url_canon.specs.Words.{is_nil, last_part}

@@ -18,7 +18,8 @@ query_text (Some query) = 63 ∷ query
 
 -- the scheme, `://`, the host, the path, and where there is a query a `?` and the query
 abbrev pub text_of : Url → List ℕ
-text_of url = url.scheme ++ (codes "://" ++ (url.host ++ (path_text url.path ++ query_text url.query)))
+text_of url =
+    url.scheme ++ (codes "://" ++ (url.host ++ (path_text url.path ++ query_text url.query)))
 
 -- nothing, or what stands after a mark
 abbrev pub after_mark : List ℕ → Option (List ℕ)

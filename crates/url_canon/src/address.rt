@@ -31,8 +31,8 @@ fn number_in(base: u64, digits: &[u8]) -> Option<u64>
     Some(number)
 }
 
-/// The number that a part of a host spells, or `ADDRESSES` where it is greater: in hexadecimal digits
-/// after `0x`, in octal digits after a 0, and else in decimal digits.
+/// The number that a part of a host spells, or `ADDRESSES` where it is greater: in hexadecimal
+/// digits after `0x`, in octal digits after a 0, and else in decimal digits.
 #[tactic(auto, unfolding(crate::specs::Address::number_of))]
 fn number_of(part: &[u8]) -> Option<u64>
     ensures { result ≡ option_map (λ number. min number ADDRESSES) (number_of part.now) }
@@ -77,8 +77,8 @@ fn address_in(width: u32, name: &[u8]) -> Option<u64>
     }
 }
 
-/// The IPv4 address that a host's name stands for: one to four numbers, separated by dots, of which each
-/// but the last is one byte, and the last fills the bytes that are left.
+/// The IPv4 address that a host's name stands for: one to four numbers, separated by dots, of which
+/// each but the last is one byte, and the last fills the bytes that are left.
 #[tactic(auto, unfolding(crate::specs::Address::address_of))]
 pub fn address_of(name: &[u8]) -> Option<u64>
     ensures value { result ≡ address_of name.now }
@@ -110,10 +110,12 @@ pub fn append_address(out: &mut Bytes, address: u64) -> Result<(), OutOfMemory>
     append_decimal(out, address % 256)
 }
 
-/// The address of a name is that of the four bytes that the numbers of its parts stand for, and no name
-/// has an address of more.
+/// The address of a name is that of the four bytes that the numbers of its parts stand for, and no
+/// name has an address of more.
 pub fn address_has_four_bytes()
     ensures bytes { (host : List ℕ) (a b c d : ℕ) → a < 256 → b < 256 → c < 256 → d < 256
-        → (address_of host ≡ Some (((a * 256 + b) * 256 + c) * 256 + d)) ↔ IsAddressOf host a b c d }
-    ensures fits { (host : List ℕ) (address : ℕ) → address_of host ≡ Some address → address < 2 ^ 32 }
+        → (address_of host ≡ Some (((a * 256 + b) * 256 + c) * 256 + d))
+        ↔ IsAddressOf host a b c d }
+    ensures fits { (host : List ℕ) (address : ℕ)
+        → address_of host ≡ Some address → address < 2 ^ 32 }
 {}

@@ -96,7 +96,8 @@ pub fn canonical(alloc: Global, text: &[u8]) -> Result<CanonicalUrl, UrlFault>
         → 0 < length (trimmed (without_fragment text.now))
         → IsUnescapedOf (trimmed (without_fragment text.now)) plain
         → Answers result (escaped_parts (parts_of plain)) }
-    ensures too_long { IsErrOf result (UrlFault.TooLong (length text.now)) ↔ (8192 < length text.now) }
+    ensures too_long { IsErrOf result (UrlFault.TooLong (length text.now))
+        ↔ (8192 < length text.now) }
     ensures empty { result ≢ Err UrlFault.OutOfMemory → (IsErrOf result UrlFault.Empty
         ↔ ((length text.now ≤ 8192) × (trimmed (without_fragment text.now) ≡ []))) }
     ensures no_host { result ≢ Err UrlFault.OutOfMemory → (IsErrOf result UrlFault.NoHost

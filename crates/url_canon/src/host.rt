@@ -108,7 +108,8 @@ fn name_of(alloc: Global, text: &[u8]) -> Result<Vec<u8>, OutOfMemory>
     Ok(name)
 }
 
-/// The form in ASCII that ToASCII gives a name, with its dots tidied; `None` where it refuses the name.
+/// The form in ASCII that ToASCII gives a name, with its dots tidied; `None` where it refuses the
+/// name.
 fn ascii_form(alloc: Global, name: &[u8]) -> Result<Option<Vec<u8>>, OutOfMemory>
     ensures { IfOk result (λ form. option_map (λ f. f.items) form
         ≡ option_map tidied (domain_to_ascii URL name.now)) }

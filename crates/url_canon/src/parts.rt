@@ -75,7 +75,8 @@ fn authority_len(text: &[u8]) -> usize
     memchr2(b'/', b'?', text).unwrap_or(text.len())
 }
 
-/// The authority, which ends at the first `/` or `?`, and the rest from there (RFC 3986, section 3.2).
+/// The authority, which ends at the first `/` or `?`, and the rest from there (RFC 3986, section
+/// 3.2).
 #[tactic(auto, using(crate::proofs::Cuts::places), unfolding(crate::specs::Parts::after_authority))]
 pub fn split_authority(text: &[u8]) -> (&[u8], &[u8])
     ensures authority { result.0.now ≡ before_first ends_authority text.now }

@@ -42,7 +42,8 @@ fn add_component<'a>(kept: &mut Vec<&'a [u8]>, component: &'a [u8]) -> Result<()
 /// Adds an empty component after a last one that was `.` or `..`.
 fn add_directory<'a>(kept: &mut Vec<&'a [u8]>, last: &'a [u8]) -> Result<(), OutOfMemory>
     ensures { OnOk result (map (λ c. c.now) kept.new.items
-        ≡ map (λ c. c.now) kept.old.items ++ (if is_single_dot last.now || is_double_dot last.now then [] ∷ [] else [])) }
+        ≡ map (λ c. c.now) kept.old.items
+        ++ (if is_single_dot last.now || is_double_dot last.now then [] ∷ [] else [])) }
 {
     if is_single_dot(last) || is_double_dot(last) {
         kept.push(&last[last.len()..])?;
@@ -112,8 +113,8 @@ pub fn append_path(out: &mut Bytes, alloc: Global, path: &[u8]) -> Result<(), Ou
     append_components(out, components.as_slice())
 }
 
-/// A canonical path has a component, none with a slash, none that is a dot segment, and none but the
-/// last that is empty.
+/// A canonical path has a component, none with a slash, none that is a dot segment, and none but
+/// the last that is empty.
 pub fn canonical_paths_are_normal()
     ensures { (path : List ℕ) → IsNormalPath (path_of path) }
 {}

@@ -22,7 +22,8 @@ pub fn hex_value(byte: u8) -> Option<u8>
 /// The byte that the two digits at the front of a text spell after a `%`.
 fn spelled(text: &[u8]) -> Option<u8>
     ensures { MatchOption result (with_byte 37 text.now ≡ 37 ∷ text.now)
-        (λ byte. (2 ≤ length text.now) × (with_byte 37 text.now ≡ with_byte byte (drop 2 text.now))) }
+        (λ byte. (2 ≤ length text.now)
+        × (with_byte 37 text.now ≡ with_byte byte (drop 2 text.now))) }
 {
     let [high, low, ..] = text else {
         return None;
@@ -51,8 +52,8 @@ fn byte_before(byte: u8, text: &[u8]) -> (u8, usize)
 }
 
 /// Unescapes the bytes from `first` on. What stands from `end` on is unescaped already, and the
-/// answer is where the unescaped text begins in the end. It goes from the end to the front, so that it
-/// takes time in the length alone.
+/// answer is where the unescaped text begins in the end. It goes from the end to the front, so that
+/// it takes time in the length alone.
 fn unescape_part(bytes: &mut [u8], first: usize, end: usize) -> usize
     requires order { first ≤ end }
     requires within { end ≤ length bytes.old }

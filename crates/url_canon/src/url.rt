@@ -7,8 +7,8 @@ use sb_model::{Bytes, OutOfMemory};
 use std::alloc::Global;
 use std::marker::Model;
 
-/// A URL in its canonical spelling. Contracts see it as its parts, each of them escaped: the path as
-/// its components, without their slashes.
+/// A URL in its canonical spelling. Contracts see it as its parts, each of them escaped: the path
+/// as its components, without their slashes.
 #[derive(Debug, Drop)]
 pub struct CanonicalUrl {
     /// The whole text. Each part is a piece of it.
@@ -26,11 +26,14 @@ impl Model for CanonicalUrl {
 
     ghost Value = { Url };
 
-    ghost view = { λ url. url_at_places url.text url.host_at url.path_at url.query_at url.is_address };
+    ghost view = { λ url.
+        url_at_places url.text url.host_at url.path_at url.query_at url.is_address };
 
     ghost invariant = { λ url.
-        IsLaidOut url.text url.host_at url.path_at url.query_at (url_at_places url.text url.host_at url.path_at url.query_at url.is_address)
-        × IsCanonical (url_at_places url.text url.host_at url.path_at url.query_at url.is_address) };
+        IsLaidOut url.text url.host_at url.path_at url.query_at
+        (url_at_places url.text url.host_at url.path_at url.query_at url.is_address)
+        × IsCanonical
+        (url_at_places url.text url.host_at url.path_at url.query_at url.is_address) };
 }
 
 impl CanonicalUrl {
@@ -42,7 +45,8 @@ impl CanonicalUrl {
         query_at: usize,
         is_address: bool,
     ) -> Self
-        requires places { IsLaidOut text host_at path_at query_at (url_at_places text host_at path_at query_at is_address) }
+        requires places { IsLaidOut text host_at path_at query_at
+            (url_at_places text host_at path_at query_at is_address) }
         requires canonical { IsCanonical (url_at_places text host_at path_at query_at is_address) }
         ensures { result ≡ url_at_places text host_at path_at query_at is_address }
     {
@@ -66,7 +70,8 @@ impl CanonicalUrl {
     /// The path, which begins with a slash.
     pub fn path(&self) -> &[u8]
         ensures value { result.now ≡ path_text self.now.path }
-        // There is a component, none has a slash, none is `.` or `..`, and none but the last is empty.
+        // There is a component, none has a slash, none is `.` or `..`, and none but the last is
+        // empty.
         ensures normal { IsNormalPath self.now.path }
     {
         &self.text.as_slice()[self.path_at..self.query_at]
@@ -82,10 +87,11 @@ impl CanonicalUrl {
         }
     }
 
-    /// The host, the path, and where there is a query a `?` and the query: the text without its scheme
-    /// and the `://` after it.
+    /// The host, the path, and where there is a query a `?` and the query: the text without its
+    /// scheme and the `://` after it.
     pub fn without_scheme(&self) -> &[u8]
-        ensures { result.now ≡ self.now.host ++ (path_text self.now.path ++ query_text self.now.query) }
+        ensures { result.now
+            ≡ self.now.host ++ (path_text self.now.path ++ query_text self.now.query) }
     {
         &self.text.as_slice()[self.host_at..]
     }
@@ -97,8 +103,8 @@ impl CanonicalUrl {
         self.is_address
     }
 
-    /// The text of the URL: the scheme, `://`, the host, the path, and where there is a query `?` and
-    /// the query.
+    /// The text of the URL: the scheme, `://`, the host, the path, and where there is a query `?`
+    /// and the query.
     pub fn as_bytes(&self) -> &[u8]
         ensures value { result.now ≡ text_of self.now }
         ensures again { length result.now ≤ 8192 → canonical_of result.now ≡ Ok self.now }

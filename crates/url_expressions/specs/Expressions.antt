@@ -1,5 +1,5 @@
--- The expressions of a canonical URL: hosts and paths that it lies under (Safe Browsing v4, "URLs and
--- Hashing", section "Suffix/prefix expressions").
+-- The expressions of a canonical URL: hosts and paths that it lies under (Safe Browsing v4, "URLs
+-- and Hashing", section "Suffix/prefix expressions").
 use Rattle.std.specs.Prelude.{ℕ, ◌-◌, List, [], ◌∷◌, ◌++◌, Bool, not, nat_le, Option, None, Some, map, filter, length, take, drop, if◌then◌else◌}
 use Rattle.std.specs.List.{flat_map, join_with_byte, slice_split}
 use Rattle.std.specs.Str.{bytes_eq}

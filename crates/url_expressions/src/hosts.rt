@@ -61,7 +61,8 @@ fn push_last(
     ensures next { IfOk result (λ next.
         components (drop next host.now) ≡ drop (count - (n - 1)) (components host.now)) }
     ensures places { OnOk result (places.new.items ≡ (if nat_le n count
-        then (if list_any (λ p. p == place) places.old.items then places.old.items else places.old.items ++ place ∷ [])
+        then (if list_any (λ p. p == place) places.old.items then places.old.items
+        else places.old.items ++ place ∷ [])
         else places.old.items)) }
 {
     if n > count {
@@ -71,8 +72,8 @@ fn push_last(
     Ok(after_dot(host, place))
 }
 
-/// The places at which the hosts of a URL begin: the exact host, and unless it is an address its last
-/// 5, 4, 3 and 2 components, where it has so many, each once.
+/// The places at which the hosts of a URL begin: the exact host, and unless it is an address its
+/// last 5, 4, 3 and 2 components, where it has so many, each once.
 pub fn host_places(alloc: Global, host: &[u8], is_address: bool) -> Result<Vec<usize>, OutOfMemory>
     ensures within { IfOk result (λ places. All (λ place. place ≤ length host.now) places.items) }
     ensures value { IfOk result (λ places. map (λ place. drop place host.now) places.items

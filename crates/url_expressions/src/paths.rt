@@ -14,8 +14,8 @@ const PATHS: usize = 6;
 /// How many folders a path has at most.
 const FOLDERS: usize = 4;
 
-/// Adds how many bytes the folders of a path take, the shortest first, and four at most, each unless
-/// it is there already.
+/// Adds how many bytes the folders of a path take, the shortest first, and four at most, each
+/// unless it is there already.
 fn push_folders(lens: &mut Vec<usize>, path: &[u8]) -> Result<(), OutOfMemory>
     ensures within { OnOk result ((most : ℕ) → length path.now ≤ most
         → All (λ len. len ≤ most) lens.old.items → All (λ len. len ≤ most) lens.new.items) }
@@ -37,8 +37,8 @@ fn push_folders(lens: &mut Vec<usize>, path: &[u8]) -> Result<(), OutOfMemory>
     Ok(())
 }
 
-/// How many bytes the paths of a URL take of its path and its query: all where there is a query, the
-/// path, and its folders, each once.
+/// How many bytes the paths of a URL take of its path and its query: all where there is a query,
+/// the path, and its folders, each once.
 pub fn path_lens(
     alloc: Global,
     path: &[u8],
