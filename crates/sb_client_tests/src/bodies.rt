@@ -1,6 +1,7 @@
 //! Response bodies, as JSON, and replays of them.
 ghost use Rattle.std.specs.Prelude.{◌<◌};
 
+use base64::engine::general_purpose::STANDARD;
 use sb_client::run_client;
 use sb_model::{Bytes, OutOfMemory, Row};
 use sb_outside::{MemorySink, MemorySource};
@@ -28,11 +29,13 @@ pub(crate) struct Update {
     pub checksum: &'static str,
 }
 
-/// A line of a recording: a body of two updates or of one, or a text.
+/// A line of a recording: a body of two updates or of one, a full update of so many distinct
+/// prefixes that end in these bytes, or a text.
 #[derive(Clone, Copy)]
 pub(crate) enum Line {
     One(Update),
     Two(Update, Update),
+    Many(u32, &'static [u8]),
     Text(&'static str),
 }
 
@@ -57,24 +60,46 @@ fn json(alloc: Global, update: &Update) -> Result<String, AllocError> {
     )
 }
 
+// So many prefixes that end in these bytes, each another.
+fn prefixes(alloc: Global, count: u32, tail: &[u8]) -> Result<Bytes, OutOfMemory> {
+    let mut bytes = Bytes::new(alloc);
+    for number in 0..count {
+        bytes.append(&number.to_be_bytes())?;
+        bytes.append(tail)?;
+    }
+    Ok(bytes)
+}
+
+// A full update of so many prefixes, with a checksum that is never looked at.
+fn many(alloc: Global, count: u32, tail: &[u8]) -> Result<String, Fail> {
+    let size = 4 + tail.len();
+    let bytes = prefixes(alloc, count, tail)?;
+    let text = STANDARD.encode(alloc, bytes.as_slice())?;
+    let text = text.as_str();
+    Ok(format!(in alloc;
+        "{{\"listUpdateResponses\":[{{\"additions\":[{{\"compressionType\":\"RAW\",\"rawHashes\":{{\"prefixSize\":{size},\"rawHashes\":\"{text}\"}}}}],\"checksum\":{{\"sha256\":\"47DEQpj8HBSa+/TImW+5JCeuQeRkm5NMpJWZG3hSuFU=\"}},\"newClientState\":\"AQ==\",\"responseType\":\"FULL_UPDATE\",{NAMES}}}]}}"
+    )?)
+}
+
 // The body of a line.
-fn body(alloc: Global, line: &Line) -> Result<String, AllocError> {
+fn body(alloc: Global, line: &Line) -> Result<String, Fail> {
     match line {
+        Line::Many(count, tail) => many(alloc, *count, tail),
         Line::One(update) => {
             let update = json(alloc, update)?;
-            format!(in alloc; "{{\"listUpdateResponses\":[{update}]}}")
+            Ok(format!(in alloc; "{{\"listUpdateResponses\":[{update}]}}")?)
         }
         Line::Two(first, second) => {
             let first = json(alloc, first)?;
             let second = json(alloc, second)?;
-            format!(in alloc; "{{\"listUpdateResponses\":[{first},{second}]}}")
+            Ok(format!(in alloc; "{{\"listUpdateResponses\":[{first},{second}]}}")?)
         }
-        Line::Text(text) => String::from_str(alloc, text),
+        Line::Text(text) => Ok(String::from_str(alloc, text)?),
     }
 }
 
 /// The lines of a recording, each with its newline.
-pub(crate) fn input(alloc: Global, lines: &[Line]) -> Result<String, AllocError> {
+pub(crate) fn input(alloc: Global, lines: &[Line]) -> Result<String, Fail> {
     let mut input = String::new(alloc);
     for next in lines {
         input.push_str(body(alloc, next)?.as_str())?;

@@ -1,12 +1,8 @@
 //! Each cause for which an update is refused or a body has no reading.
-use crate::bodies::{LIST, Line, NAMES, Recording, Update, replays, shows};
-use base64::engine::general_purpose::STANDARD;
-use sb_model::{Bytes, OutOfMemory};
-use std::alloc::{AllocError, Global};
-use std::process::Abort;
+use crate::bodies::{LIST, Line, NAMES, Recording, Update, replays};
 use std::test::Fail;
 
-static CAUSES: [Recording; 21] = [
+static CAUSES: [Recording; 23] = [
     Recording {
         name: "a Rice parameter past 28",
         lists: &[LIST],
@@ -110,6 +106,20 @@ static CAUSES: [Recording; 21] = [
         })],
         status: 5,
         text: "1 MALWARE/ANY_PLATFORM/URL refused index-range 0 0\nlist MALWARE/ANY_PLATFORM/URL 0 -\n",
+    },
+    Recording {
+        name: "one prefix more than a set may have",
+        lists: &[LIST],
+        lines: &[Line::Many(1_048_577, &[])],
+        status: 5,
+        text: "1 MALWARE/ANY_PLATFORM/URL refused too-many 1048577\nlist MALWARE/ANY_PLATFORM/URL 0 -\n",
+    },
+    Recording {
+        name: "more bytes of prefixes than a set may have",
+        lists: &[LIST],
+        lines: &[Line::Many(262_145, &[0; 28])],
+        status: 5,
+        text: "1 MALWARE/ANY_PLATFORM/URL refused too-large 8388640\nlist MALWARE/ANY_PLATFORM/URL 0 -\n",
     },
     Recording {
         name: "another checksum",
@@ -240,48 +250,4 @@ fn each_cause_has_its_line(rt: HostRuntime) -> Result<(), Fail> {
         replays(&rt, rt.alloc(), recording)?;
     }
     Ok(())
-}
-
-// So many prefixes that end in these bytes, each another.
-fn prefixes(alloc: Global, count: u32, rest: &[u8]) -> Result<Bytes, OutOfMemory> {
-    let mut bytes = Bytes::new(alloc);
-    for number in 0..count {
-        bytes.append(&number.to_be_bytes())?;
-        bytes.append(rest)?;
-    }
-    Ok(bytes)
-}
-
-// A full update of so many prefixes, with a checksum that is never looked at.
-fn large(alloc: Global, count: u32, rest: &[u8]) -> Result<String, Fail> {
-    let size = 4 + rest.len();
-    let bytes = prefixes(alloc, count, rest)?;
-    let text = STANDARD.encode(alloc, bytes.as_slice())?;
-    let text = text.as_str();
-    Ok(format!(in alloc;
-        "{{\"listUpdateResponses\":[{{\"additions\":[{{\"compressionType\":\"RAW\",\"rawHashes\":{{\"prefixSize\":{size},\"rawHashes\":\"{text}\"}}}}],\"checksum\":{{\"sha256\":\"47DEQpj8HBSa+/TImW+5JCeuQeRkm5NMpJWZG3hSuFU=\"}},\"newClientState\":\"AQ==\",\"responseType\":\"FULL_UPDATE\",{NAMES}}}]}}"
-    )?)
-}
-
-// Sees that an update of so many prefixes is refused for this cause.
-fn is_too_large(
-    rt: &impl Abort,
-    alloc: Global,
-    count: u32,
-    rest: &[u8],
-    cause: &str,
-) -> Result<(), Fail> {
-    let input = large(alloc, count, rest)?;
-    let text = format!(in alloc; "1 {LIST} refused {cause}\nlist {LIST} 0 -\n")?;
-    shows(rt, alloc, &[LIST], input.as_bytes(), 5, text.as_str())
-}
-
-#[test]
-fn a_set_has_at_most_1048576_prefixes(rt: HostRuntime) -> Result<(), Fail> {
-    is_too_large(&rt, rt.alloc(), 1_048_577, &[], "too-many 1048577")
-}
-
-#[test]
-fn prefixes_have_at_most_8388608_bytes(rt: HostRuntime) -> Result<(), Fail> {
-    is_too_large(&rt, rt.alloc(), 262_145, &[0; 28], "too-large 8388640")
 }
