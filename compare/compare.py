@@ -4,260 +4,38 @@
 The second program is the first part of this file. It follows docs/FORMATS.md with Python's own JSON,
 base64 and SHA-256, and shares nothing with the crates. First come the recordings of compare/recordings.py, whose
 texts are known; then seeded inputs: bodies that are right, bodies with changed fields, and bodies with changed
-bytes. `sbcheck show` runs beside compare/urls.py on seeded URLs. The exit status is 1 where a run differs.
+bytes. `sbcheck show` runs beside compare/urls.py on seeded URLs, and `sblistd answer` beside compare/server.py on seeded
+journals and requests. The exit status is 1 where a run differs.
 """
 
 import argparse
 import base64
-import binascii
 import collections
-import copy
 import hashlib
 import json
 import os
 import random
-import re
 import subprocess
 import sys
+import tempfile
 
+import server
 import urls
+from changing import change_bytes, change_field
+from messages import DEEPEST, ENTRIES, PLATFORMS, THREATS, Unreadable, read_body
 from recordings import RECORDINGS
 
 REPOSITORY = os.path.dirname(os.path.dirname(os.path.abspath(__file__)))
 SBUPDATE = os.path.join(REPOSITORY, "bin", "sbupdate")
 SBCHECK = os.path.join(REPOSITORY, "bin", "sbcheck")
+SBLISTD = os.path.join(REPOSITORY, "bin", "sblistd")
 
-THREATS = ["MALWARE", "SOCIAL_ENGINEERING", "UNWANTED_SOFTWARE", "POTENTIALLY_HARMFUL_APPLICATION"]
-PLATFORMS = ["WINDOWS", "LINUX", "ANDROID", "OSX", "IOS", "ANY_PLATFORM", "ALL_PLATFORMS", "CHROME"]
-ENTRIES = ["URL", "EXECUTABLE"]
-
-DEEPEST = 127
 MOST_VALUES = 1_048_576
 MOST_BYTES = 8_388_608
-MOST_STATE = 4_096
-MOST_SECONDS = 315_576_000_000
-I32, I64 = 2**31 - 1, 2**63 - 1
-
-
-# ---- the second program: JSON
-
-
-class Unreadable(Exception):
-    """A line has no reading, for the cause that is the exception's text."""
 
 
 class Refused(Exception):
     """An update is refused, for the cause that is the exception's text."""
-
-
-def no_constant(name):
-    raise Unreadable("not-json")
-
-
-def read_float(text):
-    number = float(text)
-    if number in (float("inf"), float("-inf")):
-        raise Unreadable("not-json")
-    return number
-
-
-def read_integer(text):
-    """Numbers that no integer of 64 bits holds are floats, and so is -0."""
-    number = int(text)
-    if text == "-0" or not -(2**63) <= number < 2**64:
-        return read_float(text)
-    return number
-
-
-def is_text(value):
-    """Whether all characters are scalar values: an escaped half of a pair is none."""
-    return not any(0xD800 <= ord(character) <= 0xDFFF for character in value)
-
-
-def look_through(value, depth=0):
-    if isinstance(value, str) and not is_text(value):
-        raise Unreadable("not-json")
-    if isinstance(value, (list, dict)):
-        if depth == DEEPEST:
-            raise Unreadable("not-json")
-        for item in value:
-            look_through(item, depth + 1)
-    if isinstance(value, dict):
-        for item in value.values():
-            look_through(item, depth + 1)
-
-
-def read_object(pairs):
-    """The last field of a name counts; what stood in an earlier one has to be read all the same."""
-    for _, value in pairs:
-        look_through(value)
-    return dict(pairs)
-
-
-def read_json(line):
-    try:
-        value = json.loads(
-            line.decode("utf-8"),
-            parse_constant=no_constant,
-            parse_float=read_float,
-            parse_int=read_integer,
-            object_pairs_hook=read_object,
-        )
-    except (ValueError, RecursionError) as fault:
-        raise Unreadable("not-json") from fault
-    look_through(value)
-    return value
-
-
-# ---- the second program: fields
-
-
-class Reader:
-    """Reads the fields of the item with a number, and tells the first that is not as its table says."""
-
-    def __init__(self, item):
-        self.item = item
-
-    def refuse(self, what, label):
-        raise Unreadable(f"field {what} {label} {self.item}")
-
-    def object(self, value, label):
-        if not isinstance(value, dict):
-            self.refuse("wrong-kind", label)
-        return value
-
-    def needed(self, holder, name, label=None):
-        value = holder.get(name)
-        if value is None:
-            self.refuse("missing", label or name)
-        return value
-
-    def inner(self, holder, name):
-        return self.object(self.needed(holder, name), name)
-
-    def string(self, value, label):
-        if not isinstance(value, str):
-            self.refuse("wrong-kind", label)
-        return value
-
-    def word(self, holder, name, words):
-        value = self.string(self.needed(holder, name), name)
-        if value not in words:
-            self.refuse("name", name)
-        return value
-
-    def list(self, holder, name):
-        value = holder.get(name)
-        if value is None:
-            return []
-        if not isinstance(value, list):
-            self.refuse("wrong-kind", name)
-        return value
-
-    def number(self, value, label, low, high):
-        if isinstance(value, bool) or not isinstance(value, (int, float, str)):
-            self.refuse("wrong-kind", label)
-        if isinstance(value, str):
-            value = int(value) if re.fullmatch(r"0|[1-9][0-9]*", value, re.ASCII) else -1
-        if isinstance(value, float) or not low <= value <= high:
-            self.refuse("number", label)
-        return value
-
-    def number_or_zero(self, holder, name, high):
-        value = holder.get(name)
-        return 0 if value is None else self.number(value, name, 0, high)
-
-    def bytes(self, value, label):
-        text = self.string(value, label).replace("-", "+").replace("_", "/")
-        if "=" not in text and len(text) % 4 in (2, 3):
-            text += "=" * (4 - len(text) % 4)
-        try:
-            data = base64.b64decode(text.encode("ascii"), validate=True)
-        except (UnicodeEncodeError, binascii.Error):
-            self.refuse("base64", label)
-        if base64.b64encode(data).decode("ascii") != text:
-            self.refuse("base64", label)
-        return data
-
-    def bytes_or_none(self, holder, name, label=None):
-        value = holder.get(name)
-        return b"" if value is None else self.bytes(value, label or name)
-
-    def state(self, holder, name):
-        data = self.bytes_or_none(holder, name)
-        if len(data) > MOST_STATE:
-            self.refuse(f"size {len(data)}", name)
-        return data
-
-    def rice(self, holder, name):
-        record = self.inner(holder, name)
-        first = self.number_or_zero(record, "firstValue", I64)
-        parameter = self.number_or_zero(record, "riceParameter", I32)
-        count = self.number_or_zero(record, "numEntries", I32)
-        return ("rice", first, parameter, count, self.bytes_or_none(record, "encodedData"))
-
-    def addition(self, value):
-        entry = self.object(value, "additions")
-        if self.word(entry, "compressionType", ("RAW", "RICE")) == "RICE":
-            return self.rice(entry, "riceHashes")
-        raw = self.inner(entry, "rawHashes")
-        size = self.number(self.needed(raw, "prefixSize"), "prefixSize", 4, 32)
-        data = self.bytes_or_none(raw, "rawHashes", "rawHashes.rawHashes")
-        if len(data) % size != 0:
-            self.refuse(f"size {len(data)}", "rawHashes.rawHashes")
-        return ("raw", [data[at : at + size] for at in range(0, len(data), size)])
-
-    def removal(self, value):
-        entry = self.object(value, "removals")
-        if self.word(entry, "compressionType", ("RAW", "RICE")) == "RICE":
-            return self.rice(entry, "riceIndices")
-        indices = self.list(self.inner(entry, "rawIndices"), "indices")
-        return ("raw", [self.number(index, "indices", 0, I32) for index in indices])
-
-    def update(self, value):
-        entry = self.object(value, "listUpdateResponses")
-        read = {
-            "name": "/".join(
-                self.word(entry, field, words)
-                for field, words in (
-                    ("threatType", THREATS),
-                    ("platformType", PLATFORMS),
-                    ("threatEntryType", ENTRIES),
-                )
-            )
-        }
-        kinds = ("FULL_UPDATE", "PARTIAL_UPDATE")
-        read["full"] = self.word(entry, "responseType", kinds) == "FULL_UPDATE"
-        read["additions"] = [self.addition(one) for one in self.list(entry, "additions")]
-        read["removals"] = [self.removal(one) for one in self.list(entry, "removals")]
-        read["state"] = self.state(entry, "newClientState")
-        read["base"] = self.state(entry, "baseState")
-        digest = self.bytes(self.needed(self.inner(entry, "checksum"), "sha256"), "sha256")
-        if len(digest) != 32:
-            self.refuse(f"size {len(digest)}", "sha256")
-        read["checksum"] = digest
-        return read
-
-    def duration(self, holder, name):
-        value = holder.get(name)
-        if value is None:
-            return
-        form = re.fullmatch(r"([0-9]+)(?:\.([0-9]{1,9}))?s", self.string(value, name), re.ASCII)
-        if form is None:
-            self.refuse("duration", name)
-        nanos = int((form[2] or "").ljust(9, "0"))
-        if int(form[1]) * 10**9 + nanos > MOST_SECONDS * 10**9:
-            self.refuse("duration", name)
-
-
-def read_body(line):
-    """The updates of a response."""
-    outside = Reader(0)
-    body = outside.object(read_json(line), "message")
-    items = outside.list(body, "listUpdateResponses")
-    updates = [Reader(number).update(item) for number, item in enumerate(items, 1)]
-    outside.duration(body, "minimumWaitDuration")
-    return updates
 
 
 # ---- the second program: updates
@@ -377,23 +155,6 @@ def replay(text, names):
 
 # ---- the inputs
 
-ODD_VALUES = [
-    None, True, False, 0, 4, 5, -1, 4.0, 2**31, 2**32, 2**63, 2**64, "", "0", "7", "07", "RAW", "RICE", "AA==", "AB==",
-    "AA", "A===", "-_-_", "\u00e9", "\u0000", "\ud800", [], {}, [[]], [{}], [None], {"a": 1}, "FULL_UPDATE",
-    "PARTIAL_UPDATE", "MALWARE", "1s", "1.5s", "s", "315576000001s",
-]  # fmt: skip
-
-ODD_NAMES = [
-    "extra", "removals", "baseState", "riceHashes", "riceIndices", "minimumWaitDuration", "threatType", "additions",
-    "rawHashes", "rawIndices", "raw_hashes", "checksum", "numEntries",
-]  # fmt: skip
-
-ODD_BYTES = [
-    b"\\u0041", b"\\ud800", b"\\ud83d\\ude00", b"\\x", b"\\/", b"1e999", b"-0", b"01", b"1.", b".5", b"1e5",
-    b"NaN", b"tru", b"null", b'"a":1,', b"[[", b"\xef\xbb\xbf", b"\xc0\x80", b"\xed\xa0\x80", b"4.0", b"4e0",
-    b"04", b"18446744073709551616", b"\x00", b"\t", b"\r", b" ", b'"', b"\\", b",", b":", b"=", b"}",
-]  # fmt: skip
-
 ODD_LINES = [b"", b" ", b"x", b"7", b"null", b'"a"', b"\xff", b"{}", b"[]", b"\r"]
 
 
@@ -478,43 +239,6 @@ def right_update(rand, name, versions):
     return update
 
 
-def places(value):
-    """Each place inside a value: a list or an object, and the key of one of its items."""
-    keys = range(len(value)) if isinstance(value, list) else list(value)
-    for key in keys:
-        yield value, key
-        if isinstance(value[key], (list, dict)):
-            yield from places(value[key])
-
-
-def change_field(rand, body):
-    inside = list(places(body))
-    if not inside:
-        return
-    holder, key = rand.choice(inside)
-    odd = copy.deepcopy(rand.choice(ODD_VALUES))
-    kind = rand.randrange(4)
-    if kind == 0:
-        holder[key] = odd
-    elif kind == 1:
-        del holder[key]
-    elif isinstance(holder, list):
-        holder.append(copy.deepcopy(holder[0]) if kind == 2 else odd)
-    elif kind == 2:
-        holder[rand.choice(ODD_NAMES)] = odd
-    else:
-        holder[rand.choice([key.upper(), key + " ", rand.choice(ODD_NAMES)])] = holder.pop(key)
-
-
-def change_bytes(rand, line):
-    changed = bytearray(line)
-    for _ in range(rand.choice([1, 1, 1, 2, 3])):
-        at = rand.randrange(len(changed) + 1)
-        over = rand.choice([0, 0, 1, 1, 2])
-        changed[at : at + over] = rand.choice([b"", bytes([rand.randrange(256)]), rand.choice(ODD_BYTES)])
-    return bytes(changed)
-
-
 def any_line(rand, histories):
     kind = rand.random()
     if kind < 0.03:
@@ -566,6 +290,22 @@ def show(names, text):
     return found.stdout, found.returncode
 
 
+def answered(data, text, wait):
+    with tempfile.NamedTemporaryFile() as journal:
+        journal.write(data)
+        journal.flush()
+        words = ["answer", "--journal", journal.name, "--kind", "fetch", "--wait", str(wait)]
+        found = subprocess.run([SBLISTD, *words], input=text, stdout=subprocess.PIPE, check=False)
+    return found.stdout, found.returncode
+
+
+def answers_differ(number, question):
+    wanted, found = server.answer(*question), answered(*question)
+    if found != wanted:
+        print(f"answer {number}: {question!r}\n  wanted {wanted}\n  found  {found}")
+    return found != wanted
+
+
 def differs(told, names, text, wanted, run=run):
     found = run(names, text)
     if found == wanted:
@@ -579,6 +319,7 @@ def main():
     parser = argparse.ArgumentParser(description=__doc__.splitlines()[0])
     parser.add_argument("--runs", type=int, default=5_000, help="how many inputs (5000)")
     parser.add_argument("--urls", type=int, default=20_000, help="how many URLs (20000)")
+    parser.add_argument("--answers", type=int, default=3_000, help="how many journals and requests (3000)")
     parser.add_argument("--seed", type=int, default=20_240_229, help="where they begin")
     options = parser.parse_args()
     differing = 0
@@ -605,6 +346,13 @@ def main():
         refused += sum(line.split(b" ")[1] == b"refused" for line in wanted.splitlines())
         differing += differs(f"URLs {number}", [], b"\n".join(lines) + b"\n", (wanted, status), run=show)
     print(f"{options.urls // 1_000 * 1_000:,} URLs, {refused:,} of them refused")
+    statuses = collections.Counter()
+    for number in range(options.answers):
+        question = server.any_question(rand)
+        statuses[server.answer(*question)[1]] += 1
+        differing += answers_differ(number, question)
+    told = ", ".join(f"{count:,} with status {status}" for status, count in sorted(statuses.items()))
+    print(f"{options.answers:,} journals and requests: {told}")
     print(f"{differing} differ")
     return 1 if differing else 0
 

@@ -1,0 +1,272 @@
+"""How the second program reads messages: JSON, and the fields of docs/FORMATS.md."""
+
+import base64
+import binascii
+import json
+import re
+
+THREATS = ["MALWARE", "SOCIAL_ENGINEERING", "UNWANTED_SOFTWARE", "POTENTIALLY_HARMFUL_APPLICATION"]
+PLATFORMS = ["WINDOWS", "LINUX", "ANDROID", "OSX", "IOS", "ANY_PLATFORM", "ALL_PLATFORMS", "CHROME"]
+ENTRIES = ["URL", "EXECUTABLE"]
+
+DEEPEST = 127
+MOST_STATE = 4_096
+MOST_SECONDS = 315_576_000_000
+MOST_ITEMS = 8
+I32, I64 = 2**31 - 1, 2**63 - 1
+
+
+# ---- JSON
+
+
+class Unreadable(Exception):
+    """A line has no reading, for the cause that is the exception's text."""
+
+
+def no_constant(name):
+    raise Unreadable("not-json")
+
+
+def read_float(text):
+    number = float(text)
+    if number in (float("inf"), float("-inf")):
+        raise Unreadable("not-json")
+    return number
+
+
+def read_integer(text):
+    """Numbers that no integer of 64 bits holds are floats, and so is -0."""
+    number = int(text)
+    if text == "-0" or not -(2**63) <= number < 2**64:
+        return read_float(text)
+    return number
+
+
+def is_text(value):
+    """Whether all characters are scalar values: an escaped half of a pair is none."""
+    return not any(0xD800 <= ord(character) <= 0xDFFF for character in value)
+
+
+def look_through(value, depth=0):
+    if isinstance(value, str) and not is_text(value):
+        raise Unreadable("not-json")
+    if isinstance(value, (list, dict)):
+        if depth == DEEPEST:
+            raise Unreadable("not-json")
+        for item in value:
+            look_through(item, depth + 1)
+    if isinstance(value, dict):
+        for item in value.values():
+            look_through(item, depth + 1)
+
+
+def read_object(pairs):
+    """The last field of a name counts; what stood in an earlier one has to be read all the same."""
+    for _, value in pairs:
+        look_through(value)
+    return dict(pairs)
+
+
+def read_json(line):
+    try:
+        value = json.loads(
+            line.decode("utf-8"),
+            parse_constant=no_constant,
+            parse_float=read_float,
+            parse_int=read_integer,
+            object_pairs_hook=read_object,
+        )
+    except (ValueError, RecursionError) as fault:
+        raise Unreadable("not-json") from fault
+    look_through(value)
+    return value
+
+
+# ---- fields
+
+
+class Reader:
+    """Reads the fields of the item with a number, and tells the first that is not as its table says."""
+
+    def __init__(self, item):
+        self.item = item
+
+    def refuse(self, what, label):
+        raise Unreadable(f"field {what} {label} {self.item}")
+
+    def object(self, value, label):
+        if not isinstance(value, dict):
+            self.refuse("wrong-kind", label)
+        return value
+
+    def needed(self, holder, name, label=None):
+        value = holder.get(name)
+        if value is None:
+            self.refuse("missing", label or name)
+        return value
+
+    def inner(self, holder, name):
+        return self.object(self.needed(holder, name), name)
+
+    def string(self, value, label):
+        if not isinstance(value, str):
+            self.refuse("wrong-kind", label)
+        return value
+
+    def word(self, holder, name, words):
+        value = self.string(self.needed(holder, name), name)
+        if value not in words:
+            self.refuse("name", name)
+        return value
+
+    def list(self, holder, name):
+        value = holder.get(name)
+        if value is None:
+            return []
+        if not isinstance(value, list):
+            self.refuse("wrong-kind", name)
+        return value
+
+    def number(self, value, label, low, high):
+        if isinstance(value, bool) or not isinstance(value, (int, float, str)):
+            self.refuse("wrong-kind", label)
+        if isinstance(value, str):
+            value = int(value) if re.fullmatch(r"0|[1-9][0-9]*", value, re.ASCII) else -1
+        if isinstance(value, float) or not low <= value <= high:
+            self.refuse("number", label)
+        return value
+
+    def number_or_zero(self, holder, name, high):
+        value = holder.get(name)
+        return 0 if value is None else self.number(value, name, 0, high)
+
+    def bytes(self, value, label):
+        text = self.string(value, label).replace("-", "+").replace("_", "/")
+        if "=" not in text and len(text) % 4 in (2, 3):
+            text += "=" * (4 - len(text) % 4)
+        try:
+            data = base64.b64decode(text.encode("ascii"), validate=True)
+        except (UnicodeEncodeError, binascii.Error):
+            self.refuse("base64", label)
+        if base64.b64encode(data).decode("ascii") != text:
+            self.refuse("base64", label)
+        return data
+
+    def bytes_or_none(self, holder, name, label=None):
+        value = holder.get(name)
+        return b"" if value is None else self.bytes(value, label or name)
+
+    def state(self, holder, name):
+        data = self.bytes_or_none(holder, name)
+        if len(data) > MOST_STATE:
+            self.refuse(f"size {len(data)}", name)
+        return data
+
+    def rice(self, holder, name):
+        record = self.inner(holder, name)
+        first = self.number_or_zero(record, "firstValue", I64)
+        parameter = self.number_or_zero(record, "riceParameter", I32)
+        count = self.number_or_zero(record, "numEntries", I32)
+        return ("rice", first, parameter, count, self.bytes_or_none(record, "encodedData"))
+
+    def addition(self, value):
+        entry = self.object(value, "additions")
+        if self.word(entry, "compressionType", ("RAW", "RICE")) == "RICE":
+            return self.rice(entry, "riceHashes")
+        raw = self.inner(entry, "rawHashes")
+        size = self.number(self.needed(raw, "prefixSize"), "prefixSize", 4, 32)
+        data = self.bytes_or_none(raw, "rawHashes", "rawHashes.rawHashes")
+        if len(data) % size != 0:
+            self.refuse(f"size {len(data)}", "rawHashes.rawHashes")
+        return ("raw", [data[at : at + size] for at in range(0, len(data), size)])
+
+    def removal(self, value):
+        entry = self.object(value, "removals")
+        if self.word(entry, "compressionType", ("RAW", "RICE")) == "RICE":
+            return self.rice(entry, "riceIndices")
+        indices = self.list(self.inner(entry, "rawIndices"), "indices")
+        return ("raw", [self.number(index, "indices", 0, I32) for index in indices])
+
+    def update(self, value):
+        entry = self.object(value, "listUpdateResponses")
+        read = {
+            "name": "/".join(
+                self.word(entry, field, words)
+                for field, words in (
+                    ("threatType", THREATS),
+                    ("platformType", PLATFORMS),
+                    ("threatEntryType", ENTRIES),
+                )
+            )
+        }
+        kinds = ("FULL_UPDATE", "PARTIAL_UPDATE")
+        read["full"] = self.word(entry, "responseType", kinds) == "FULL_UPDATE"
+        read["additions"] = [self.addition(one) for one in self.list(entry, "additions")]
+        read["removals"] = [self.removal(one) for one in self.list(entry, "removals")]
+        read["state"] = self.state(entry, "newClientState")
+        read["base"] = self.state(entry, "baseState")
+        digest = self.bytes(self.needed(self.inner(entry, "checksum"), "sha256"), "sha256")
+        if len(digest) != 32:
+            self.refuse(f"size {len(digest)}", "sha256")
+        read["checksum"] = digest
+        return read
+
+    def text_or_none(self, holder, name):
+        value = holder.get(name)
+        return "" if value is None else self.string(value, name)
+
+    def request(self, value):
+        entry = self.object(value, "listUpdateRequests")
+        read = {
+            "name": "/".join(
+                self.word(entry, field, words)
+                for field, words in (
+                    ("threatType", THREATS),
+                    ("platformType", PLATFORMS),
+                    ("threatEntryType", ENTRIES),
+                )
+            )
+        }
+        read["state"] = self.state(entry, "state")
+        constraints = entry.get("constraints")
+        constraints = {} if constraints is None else self.object(constraints, "constraints")
+        read["max_update"] = self.number_or_zero(constraints, "maxUpdateEntries", I32)
+        read["max_database"] = self.number_or_zero(constraints, "maxDatabaseEntries", I32)
+        words = self.list(constraints, "supportedCompressions")
+        read["rice"] = "RICE" in [self.string(word, "supportedCompressions") for word in words]
+        return read
+
+    def duration(self, holder, name):
+        value = holder.get(name)
+        if value is None:
+            return
+        form = re.fullmatch(r"([0-9]+)(?:\.([0-9]{1,9}))?s", self.string(value, name), re.ASCII)
+        if form is None:
+            self.refuse("duration", name)
+        nanos = int((form[2] or "").ljust(9, "0"))
+        if int(form[1]) * 10**9 + nanos > MOST_SECONDS * 10**9:
+            self.refuse("duration", name)
+
+
+def read_body(line):
+    """The updates of a response."""
+    outside = Reader(0)
+    body = outside.object(read_json(line), "message")
+    items = outside.list(body, "listUpdateResponses")
+    updates = [Reader(number).update(item) for number, item in enumerate(items, 1)]
+    outside.duration(body, "minimumWaitDuration")
+    return updates
+
+
+def read_request(text):
+    """The asked items of a fetch request."""
+    outside = Reader(0)
+    body = outside.object(read_json(text), "message")
+    client = body.get("client")
+    if client is not None:
+        for name in ("clientId", "clientVersion"):
+            outside.text_or_none(outside.object(client, "client"), name)
+    items = outside.list(body, "listUpdateRequests")
+    if len(items) > MOST_ITEMS:
+        raise Unreadable(f"too-many-items {len(items)}")
+    return [Reader(number).request(item) for number, item in enumerate(items, 1)]

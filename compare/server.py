@@ -1,0 +1,358 @@
+"""The second program's list server: it reads a journal and a fetch request, and answers.
+
+The rules are those of docs/FORMATS.md. A history is folded anew for each version, and a target is looked for from the
+newest version down.
+"""
+
+import base64
+import hashlib
+import json
+import re
+
+from changing import change_bytes, change_field
+from messages import ENTRIES, PLATFORMS, THREATS, Unreadable, read_request
+
+MOST_LINE = 128
+MOST_LISTS = 8
+MOST_CHANGES = 65_536
+MOST_HASH_LINES = 2_097_152
+MOST_HASHES = 1_048_576
+MOST_ALIKE = 16
+MOST_BYTES = 8_388_608
+MOST_REQUEST = 1_048_576
+
+HEX = "[0-9A-Fa-f]"
+
+
+class BadJournal(Exception):
+    """A journal is refused, for the cause that is the exception's text."""
+
+
+# ---- the journal
+
+
+def is_name(word):
+    parts = word.split("/")
+    return len(parts) == 3 and parts[0] in THREATS and parts[1] in PLATFORMS and parts[2] in ENTRIES
+
+
+def number_in(text, low, high):
+    """The decimal number that a text is, without a zero in front."""
+    if re.fullmatch("0|[1-9][0-9]{0,3}", text, re.ASCII) is None or not low <= int(text) <= high:
+        return None
+    return int(text)
+
+
+class Journal:
+    """A history, which is read line by line."""
+
+    def __init__(self):
+        self.epoch = 0
+        self.sized = False
+        self.declared = {}
+        self.changes = []
+        self.newest = {}
+        self.hash_lines = 0
+        self.begun = None
+
+    def first(self, line):
+        form = re.fullmatch(f"sblist ([12]) ({HEX}{{16}})", line, re.ASCII)
+        if form is None:
+            raise BadJournal("header")
+        self.sized, self.epoch = form[1] == "2", int(form[2], 16)
+
+    def head(self, line, number):
+        words = line.split(" ")
+        if len(words) == 3 and words[0] == "list" and is_name(words[1]):
+            size = number_in(words[2], 4, 32)
+            if size is not None:
+                return self.list(words[1], size, number)
+        if len(words) == 4 and words[0] == "change" and is_name(words[1]):
+            adds, removes = number_in(words[2], 0, 1024), number_in(words[3], 0, 1024)
+            if adds is not None and removes is not None and 1 <= adds + removes <= 1024:
+                return self.change(words[1], adds, removes, number)
+        raise BadJournal(f"line {number}")
+
+    def list(self, name, size, number):
+        if name in self.declared:
+            raise BadJournal(f"list-twice {number}")
+        if len(self.declared) == MOST_LISTS:
+            raise BadJournal(f"too-many {number}")
+        self.declared[name], self.newest[name] = size, {}
+
+    def change(self, name, adds, removes, number):
+        if name not in self.declared:
+            raise BadJournal(f"unknown-list {number}")
+        if len(self.changes) == MOST_CHANGES:
+            raise BadJournal(f"too-many {number}")
+        self.begun = name, adds, removes, [], []
+
+    def hash(self, line, number):
+        name, adds, removes, added, removed = self.begun
+        adds_next = len(added) < adds
+        form = re.fullmatch(f"[{'+' if adds_next else '-'}]({HEX}{{64}})(?: ([0-9]+))?", line, re.ASCII)
+        if form is None or form[2] is not None and not (adds_next and self.sized):
+            raise BadJournal(f"line {number}")
+        size = self.declared[name] if form[2] is None else number_in(form[2], 4, 32)
+        if size is None:
+            raise BadJournal(f"line {number}")
+        self.hash_lines += 1
+        if self.hash_lines > MOST_HASH_LINES:
+            raise BadJournal(f"too-many {number}")
+        if adds_next:
+            added.append((bytes.fromhex(form[1]), size))
+        else:
+            removed.append(bytes.fromhex(form[1]))
+        if len(added) == adds and len(removed) == removes:
+            self.complete(name, added, removed, number)
+
+    def complete(self, name, added, removed, number):
+        self.begun = None
+        self.changes.append((name, added, removed))
+        entries = self.newest[name]
+        apply_change(entries, added, removed)
+        heads = {}
+        for full in entries:
+            heads[full[:4]] = heads.get(full[:4], 0) + 1
+        if len(entries) > MOST_HASHES or any(count > MOST_ALIKE for count in heads.values()):
+            raise BadJournal(f"too-many {number}")
+        if sum(map(len, prefixes_of(entries))) > MOST_BYTES:
+            raise BadJournal(f"too-large {number}")
+
+    def line(self, line, number):
+        if number == 1:
+            self.first(line)
+        elif self.begun is None:
+            self.head(line, number)
+        else:
+            self.hash(line, number)
+
+
+def apply_change(entries, added, removed):
+    for full in removed:
+        entries.pop(full, None)
+    for full, size in added:
+        entries[full] = size
+
+
+def prefixes_of(entries):
+    return sorted({full[:size] for full, size in entries.items()})
+
+
+def read_journal(data):
+    journal = Journal()
+    *lines, part = data.split(b"\n")
+    for number, line in enumerate(lines, 1):
+        if len(line) > MOST_LINE:
+            raise BadJournal("header" if number == 1 else f"line {number}")
+        journal.line(line.decode("latin-1"), number)
+    if not lines:
+        raise BadJournal("header")
+    if len(part) > MOST_LINE:
+        raise BadJournal(f"line {len(lines) + 1}")
+    return journal
+
+
+# ---- answers
+
+
+def token_of(journal, name, version):
+    threat, platform, entry = name.split("/")
+    codes = [THREATS.index(threat) + 1, PLATFORMS.index(platform) + 1, ENTRIES.index(entry) + 1]
+    return bytes([1]) + journal.epoch.to_bytes(8, "big") + version.to_bytes(8, "big") + bytes(codes)
+
+
+def set_at(journal, name, version):
+    entries = {}
+    for changed, added, removed in journal.changes[:version]:
+        if changed == name:
+            apply_change(entries, added, removed)
+    return prefixes_of(entries)
+
+
+def is_within(limit, count):
+    return limit == 0 or count <= limit
+
+
+def target_of(journal, asked, held):
+    name, newest = asked["name"], len(journal.changes)
+    before = [] if held is None else set_at(journal, name, held)
+    for version in range(newest, -1 if held is None else held, -1):
+        after = set_at(journal, name, version)
+        differing = len(set(before) ^ set(after))
+        if is_within(asked["max_update"], differing) and is_within(asked["max_database"], len(after)):
+            return version
+    return 0 if held is None else held
+
+
+def rice_of(numbers):
+    """The one record that is written of rising numbers."""
+    first, *others = numbers
+    deltas = [number - before for before, number in zip(numbers, others)]
+    record = {"firstValue": str(first)} if first else {}
+    if not deltas:
+        return record
+    costs = {k: sum((delta >> k) + 1 + k for delta in deltas) for k in range(2, 29)}
+    parameter = min(costs, key=lambda k: (costs[k], k))
+    bits = []
+    for delta in deltas:
+        bits += [1] * (delta >> parameter) + [0] + [delta >> place & 1 for place in range(parameter)]
+    bits += [0] * (-len(bits) % 8)
+    coded = bytes(sum(bit << place for place, bit in enumerate(bits[at : at + 8])) for at in range(0, len(bits), 8))
+    return record | {
+        "riceParameter": parameter,
+        "numEntries": len(deltas),
+        "encodedData": base64.b64encode(coded).decode("ascii"),
+    }
+
+
+def additions_of(members, rice):
+    sets = []
+    for size in sorted(set(map(len, members))):
+        some = [member for member in members if len(member) == size]
+        if size == 4 and rice:
+            numbers = sorted(int.from_bytes(member, "little") for member in some)
+            sets.append({"compressionType": "RICE", "riceHashes": rice_of(numbers)})
+        else:
+            text = base64.b64encode(b"".join(some)).decode("ascii")
+            sets.append({"compressionType": "RAW", "rawHashes": {"prefixSize": size, "rawHashes": text}})
+    return sets
+
+
+def removals_of(places, rice):
+    if not places:
+        return []
+    if rice:
+        return [{"compressionType": "RICE", "riceIndices": rice_of(places)}]
+    return [{"compressionType": "RAW", "rawIndices": {"indices": places}}]
+
+
+def answer_item(journal, asked):
+    name, newest = asked["name"], len(journal.changes)
+    versions = {token_of(journal, name, version): version for version in range(newest + 1)}
+    held = versions.get(asked["state"])
+    target = target_of(journal, asked, held)
+    members = set_at(journal, name, target)
+    before = [] if held is None else set_at(journal, name, held)
+    threat, platform, entry = name.split("/")
+    item = {
+        "threatType": threat,
+        "platformType": platform,
+        "threatEntryType": entry,
+        "responseType": "FULL_UPDATE" if held is None else "PARTIAL_UPDATE",
+        "newClientState": base64.b64encode(token_of(journal, name, target)).decode("ascii"),
+        "checksum": {"sha256": base64.b64encode(hashlib.sha256(b"".join(members)).digest()).decode("ascii")},
+    }
+    if held is not None:
+        item["baseState"] = base64.b64encode(asked["state"]).decode("ascii")
+    additions = additions_of([member for member in members if member not in before], asked["rice"])
+    places = [place for place, member in enumerate(before) if member not in members]
+    removals = removals_of(places, asked["rice"] and journal.declared[name] == 4)
+    return item | ({"additions": additions} if additions else {}) | ({"removals": removals} if removals else {})
+
+
+def answer(data, text, wait):
+    """What `sblistd answer --kind fetch` prints, and its status."""
+    try:
+        journal = read_journal(data)
+    except BadJournal as fault:
+        return f"journal {fault}\n".encode("ascii"), 7
+    if len(text) > MOST_REQUEST:
+        return b"", 6
+    try:
+        items = read_request(text)
+    except Unreadable as fault:
+        return f"request {fault}\n".encode("ascii"), 5
+    for place, asked in enumerate(items):
+        if asked["name"] not in journal.declared:
+            return f"request unknown-list {place}\n".encode("ascii"), 5
+    body = {}
+    if items:
+        body["listUpdateResponses"] = [answer_item(journal, asked) for asked in items]
+    if wait:
+        body["minimumWaitDuration"] = f"{wait}s"
+    return json.dumps(body, sort_keys=True, separators=(",", ":")).encode("ascii") + b"\n", 0
+
+
+# ---- seeded journals and requests
+
+
+def some_hash(rand):
+    """A full hash that may share its first bytes with others."""
+    return bytes(rand.choices(b"\x00a\xff", k=4)) + bytes(rand.choices(b"\x00b", k=2)) + bytes(26)
+
+
+def hex_of(rand, data):
+    return data.hex().upper() if rand.random() < 0.1 else data.hex()
+
+
+def any_journal(rand, names):
+    form = rand.choice([1, 2])
+    lines = [f"sblist {form} {hex_of(rand, rand.choice([0, 1, 2**64 - 1]).to_bytes(8, 'big'))}"]
+    declared = rand.sample(names, rand.choice([1, 1, 2, len(names)]))
+    lines += [f"list {name} {rand.choice([4, 4, 5, 32])}" for name in declared]
+    for _ in range(rand.choice([0, 1, 3, 12])):
+        adds, removes = rand.choice([(1, 0), (4, 0), (8, 2), (0, 3), (2, 2)])
+        lines.append(f"change {rand.choice(declared)} {adds} {removes}")
+        for _ in range(adds):
+            size = f" {rand.choice([4, 6, 32])}" if form == 2 and rand.random() < 0.5 else ""
+            lines.append(f"+{hex_of(rand, some_hash(rand))}{size}")
+        lines += [f"-{hex_of(rand, some_hash(rand))}" for _ in range(removes)]
+    if rand.random() < 0.15:
+        at = rand.randrange(len(lines))
+        lines[at] = rand.choice([
+            "", "x" * 128, "x" * 129, lines[at] + " ", lines[at][:-1], lines[rand.randrange(len(lines))], "list X/Y/Z 4",
+            f"list {names[0]} 4", f"change {names[-1]} 1 0", f"change {names[0]} 0 0", f"change {names[0]} 01 0",
+        ])  # fmt: skip
+    data = "".join(line + "\n" for line in lines).encode("latin-1")
+    return data[: rand.randrange(len(data))] if rand.random() < 0.1 else data
+
+
+def any_state(rand, journal, name, names):
+    kind = rand.randrange(6)
+    version = rand.randrange(len(journal.changes) + 1)
+    if kind == 0:
+        return b""
+    if kind == 1:
+        return token_of(journal, rand.choice(names), version)
+    if kind == 2:
+        return token_of(journal, name, len(journal.changes) + 1)
+    token = token_of(journal, name, version)
+    return token[:-1] if kind == 3 and rand.random() < 0.3 else token
+
+
+def any_request(rand, journal, names):
+    items = []
+    for _ in range(rand.choice([0, 1, 1, 1, 2, 8, 9])):
+        known = rand.random() < 0.95 and journal.declared
+        name = rand.choice(list(journal.declared) if known else names)
+        threat, platform, entry = name.split("/")
+        item = {"threatType": threat, "platformType": platform, "threatEntryType": entry}
+        state = any_state(rand, journal, name, names)
+        if state:
+            item["state"] = base64.b64encode(state).decode("ascii")
+        constraints = {}
+        if rand.random() < 0.5:
+            constraints["maxUpdateEntries"] = rand.choice([0, 1, 2, 5, 2_097_151, 2**31 - 1])
+        if rand.random() < 0.3:
+            constraints["maxDatabaseEntries"] = rand.choice([1, 3, 6, 1_048_576])
+        constraints["supportedCompressions"] = rand.choice([["RAW"], ["RAW", "RICE"], ["RICE"], [], ["OTHER"]])
+        items.append(item | {"constraints": constraints})
+    body = {"client": {"clientId": "sblist", "clientVersion": "1"}, "listUpdateRequests": items}
+    kind = rand.random()
+    if kind < 0.1:
+        change_field(rand, body)
+    text = json.dumps(body).encode("ascii")
+    return change_bytes(rand, text) if kind > 0.93 else text
+
+
+def any_question(rand):
+    """A journal, a request and a wait."""
+    every = [f"{t}/{p}/{e}" for t in THREATS for p in PLATFORMS for e in ENTRIES]
+    names = rand.sample(every, 9)
+    data = any_journal(rand, names[: rand.choice([2, 9])])
+    try:
+        journal = read_journal(data)
+    except BadJournal:
+        journal = Journal()
+    return data, any_request(rand, journal, names), rand.choice([0, 1, 1_800, 86_400])
