@@ -1,5 +1,5 @@
 -- Trimmed texts, parts between commas, and members that are digests.
-use Rattle.std.proofs.Common.{◌≡◌, ◌≢◌, ℕ, ◌+◌, ◌-◌, ◌<◌, ◌≤◌, List, [], ◌∷◌, ◌++◌, length, take, drop, get_or, reverse, suc, Bool, true, false, cond, eqb, map, Option, Some, None, Ok, Err, refl, sym, ap, ◌∙◌, subst, inl, inr, arith, length-append, append_assoc, add-one}
+use Rattle.std.proofs.Common.{◌≡◌, ◌≢◌, ℕ, ◌+◌, ◌<◌, ◌≤◌, List, [], ◌∷◌, ◌++◌, length, take, drop, get_or, reverse, suc, true, false, cond, eqb, map, Option, Some, None, refl, sym, ap, ◌∙◌, subst, arith, append_assoc, add-one}
 use Rattle.std.specs.Prelude.{All, codes, MatchOption}
 use Rattle.std.specs.List.{flat_map, slice_split}
 use Rattle.std.proofs.lemmas.Grind.{common_steps}
@@ -19,7 +19,7 @@ use Rattle.httparse.specs.Grammar.{is_ows, skip_ows, trim_ows}
 use Rattle.base64.specs.Engines.{standard}
 use Rattle.base64.specs.GeneralPurpose.{encode_of, IsBytes}
 use Rattle.http_edge.specs.Responses.{digest_text}
-use Rattle.http_edge.specs.Digests.{members_in, IsDigestMember, IsNoDigest, IsDigestIn, HasFirst, IsMemberDigest}
+use Rattle.http_edge.specs.Digests.{members_in, IsDigestMember, IsNoDigest, HasFirst, IsMemberDigest}
 
 drop_next : (text : List ℕ) (i : ℕ) → i < length text → drop i text ≡ get_or text i 0 ∷ drop (i + 1) text
 drop_next text i less = drop-cons text i 0 less ∙ ap (λ n. get_or text i 0 ∷ drop n text) (sym (add-one i))

@@ -1,8 +1,8 @@
 -- Bytes that a sink takes, and that a source gives, one after the other.
-use Rattle.std.proofs.Common.{◌≡◌, ◌≢◌, ℕ, ◌<◌, List, [], ◌∷◌, ◌++◌, length, take, drop, Option, Some, None, refl, sym, ap, ◌∙◌, append_assoc, arith, length-append}
+use Rattle.std.proofs.Common.{◌≡◌, ◌≢◌, ℕ, ◌<◌, List, [], ◌++◌, length, take, drop, Option, Some, None, refl, sym, ap, ◌∙◌, append_assoc, arith, length-append}
 use Rattle.std.proofs.lemmas.List.{take-append-drop, length-drop, append-nil}
 use Rattle.std.specs.Prelude.{IfSome}
-use Rattle.sb_outside.specs.Outside.{appended, prepended, bytes_left, next_piece, left_after_end, GivesFront, AnswersEnd}
+use Rattle.sb_outside.specs.Outside.{appended, prepended, bytes_left, next_piece, GivesFront, AnswersEnd}
 use Rattle.sb_outside.specs.Reading.{ReadsToEnd}
 use Rattle.sb_outside.specs.Writing.{HasFront}
 

@@ -1,11 +1,11 @@
 -- What is known of the head of a request stands when more bytes follow.
-use Rattle.std.proofs.Common.{◌≡◌, ◌≢◌, ℕ, ◌+◌, ◌-◌, ◌<◌, ◌≤◌, List, [], ◌∷◌, ◌++◌, length, take, drop, Option, Some, Ok, Err, refl, sym, ap, ◌∙◌, subst, arith, inl, inr, append_assoc, length-append}
+use Rattle.std.proofs.Common.{◌≡◌, ◌≢◌, ℕ, ◌-◌, ◌<◌, ◌≤◌, List, ◌++◌, length, take, drop, Option, Some, Ok, Err, refl, sym, ap, ◌∙◌, subst, arith, inl, inr, append_assoc, length-append}
 use Rattle.std.proofs.lemmas.List.{take-append-drop, take-take, drop-append-le, take_rest}
 use Rattle.httparse.specs.Grammar.{RequestHead, print_request, NeverHasRequest}
 use Rattle.http_edge.specs.declared.receiving.Stop.{Stop}
 use Rattle.http_edge.specs.declared.receiving.Stop.TheVariants.{Ended, Failed}
 use Rattle.http_edge.specs.declared.receiving.Stop.TheVariants as stop
-use Rattle.http_edge.specs.Heads.{BeginsRequest, IsRefusedRequest, IsOpenRequest, HasBadFields, head_bytes}
+use Rattle.http_edge.specs.Heads.{BeginsRequest, IsRefusedRequest, IsOpenRequest, head_bytes}
 use Rattle.std.specs.Prelude.{Result, IfOk}
 use Rattle.sb_model.specs.declared.memory.OutOfMemory.{OutOfMemory}
 use Rattle.http_edge.specs.declared.messages.HttpRequest.{HttpRequest}

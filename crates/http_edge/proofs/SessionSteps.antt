@@ -1,5 +1,5 @@
 -- What calls on a link do to the session that its log tells last.
-use Rattle.std.proofs.Common.{◌≡◌, ℕ, List, [], ◌∷◌, ◌++◌, take, drop, length, Bool, true, false, Option, Some, None, refl, sym, ap, ◌∙◌, subst, append_assoc}
+use Rattle.std.proofs.Common.{◌≡◌, ℕ, List, [], ◌∷◌, ◌++◌, take, drop, Bool, true, false, Option, Some, None, sym, ap, ◌∙◌, subst, append_assoc}
 use Rattle.std.proofs.lemmas.List.{append-nil, take-append-drop}
 use Rattle.sb_outside.specs.Outside.{IfTold, with_entry}
 use Rattle.sb_outside.specs.Sessions.{with_sent, with_received, with_end, with_failure, last_changed, on_last, on_last-push}

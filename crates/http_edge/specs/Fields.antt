@@ -1,6 +1,6 @@
 -- The fields of a head: the values that stand under a name, and what they say of the length of the body
 -- (RFC 9110, sections 5 and 8.6).
-use Rattle.std.specs.Prelude.{ℕ, ◌-◌, ◌^◌, ◌&&◌, nat_lt, min, List, [], ◌∷◌, length, map, codes, Bool, true, false, if◌then◌else◌, Option, Some, None}
+use Rattle.std.specs.Prelude.{ℕ, ◌-◌, ◌^◌, ◌&&◌, nat_lt, min, List, [], ◌∷◌, length, map, codes, Bool, if◌then◌else◌, Option, Some, None}
 use Rattle.std.specs.List.{list_all, filter_map}
 use Rattle.std.specs.Char.{is_ascii_digit}
 use Rattle.std.specs.Str.{str_eq_ignore_ascii_case}

@@ -1,5 +1,5 @@
 -- How a request is received, piece by piece.
-use Rattle.std.specs.Prelude.{◌≡◌, ◌≢◌, ℕ, ◌<◌, ◌≤◌, List, [], ◌++◌, length, take, drop, map, All, Option, Some, None}
+use Rattle.std.specs.Prelude.{◌≡◌, ℕ, ◌<◌, ◌≤◌, List, ◌++◌, length, take, drop, map, All, Option}
 use Rattle.sb_outside.specs.Outside.{GivesFront}
 use Rattle.sb_outside.specs.Reading.{ReadsToEnd}
 use Rattle.httparse.specs.declared.spans.HeaderSpan.{HeaderSpan}

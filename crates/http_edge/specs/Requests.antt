@@ -1,6 +1,6 @@
 -- What the bytes of a request come to, whether its source has ended or not. A definition over all bytes received: how they
 -- were cut does not count.
-use Rattle.std.specs.Prelude.{◌≡◌, ◌≢◌, ℕ, ◌<◌, ◌≤◌, ◌⊎◌, List, [], ◌∷◌, length, take, codes, Bool, true, if◌then◌else◌, Option, Some, None, Result, Ok, Err, IsTrue, MatchBool, ⊤}
+use Rattle.std.specs.Prelude.{◌≡◌, ℕ, ◌<◌, ◌≤◌, ◌⊎◌, List, [], ◌∷◌, length, take, codes, Bool, if◌then◌else◌, Option, Some, None, Result, Ok, Err, IsTrue, MatchBool, ⊤}
 use Rattle.std.specs.Str.{bytes_eq}
 use Rattle.sb_outside.specs.Outside.{GivesFront}
 use Rattle.sb_outside.specs.Reading.{ReadsToEnd}

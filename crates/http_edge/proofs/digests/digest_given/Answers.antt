@@ -1,4 +1,4 @@
-use Rattle.std.proofs.Common.{codes, subst, take, ap}
+use Rattle.std.proofs.Common.{codes, subst}
 use Rattle.std.specs.Prelude.{All}
 use Rattle.std.proofs.lemmas.List.{take_all}
 use Rattle.std.specs.List.{flat_map}

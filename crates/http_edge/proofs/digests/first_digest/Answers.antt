@@ -1,9 +1,8 @@
-use Rattle.std.proofs.Common.{◌≡◌, ℕ, List, [], ◌∷◌, ◌++◌, ◌∙◌, ◌<◌, length, sym, ap, subst, eqb, arith}
-use Rattle.std.specs.List.{slice_split}
+use Rattle.std.proofs.Common.{[], ◌∷◌, ◌++◌, subst}
 use Rattle.std.proofs.lemmas.List.Elements.{All-push}
 use Rattle.httparse.specs.Grammar.{trim_ows}
-use Rattle.http_edge.specs.Digests.{IsNoDigest, IsMemberDigest}
-use Rattle.http_edge.proofs.DigestFacts.{first_parts, digest_here, none_here, one_more}
+use Rattle.http_edge.specs.Digests.{IsNoDigest}
+use Rattle.http_edge.proofs.DigestFacts.{none_here, one_more}
 use Rattle.http_edge.proofs.digests.first_digest.Goals as goal
 
 pub members-preserved : goal.members-preserved

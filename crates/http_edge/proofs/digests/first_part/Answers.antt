@@ -1,4 +1,4 @@
-use Rattle.std.proofs.Common.{◌≡◌, ◌<◌, ℕ, List, ◌∷◌, ◌+◌, ◌∙◌, sym, ap, length, take, drop, eqb, arith, length-drop}
+use Rattle.std.proofs.Common.{ℕ, List, ◌∷◌, ◌+◌, ◌∙◌, sym, ap, length, take, eqb, arith, length-drop}
 use Rattle.std.specs.List.{slice_split}
 use Rattle.std.proofs.lemmas.List.{take_rest}
 use Rattle.http_edge.proofs.DigestFacts.{part_at, part_whole, none_so_far}

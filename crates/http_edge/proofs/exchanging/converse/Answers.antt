@@ -1,6 +1,6 @@
 use Rattle.std.proofs.Common.{◌≡◌, ℕ, List, ◌++◌, ◌∙◌, ap, subst}
 use Rattle.sb_outside.specs.Sessions.{with_sent}
-use Rattle.http_edge.specs.Exchanges.{request_head, request_text}
+use Rattle.http_edge.specs.Exchanges.{request_text}
 use Rattle.http_edge.specs.Hearing.{Turns}
 use Rattle.http_edge.proofs.TalkFacts.{talk_heard, talk_part}
 use Rattle.http_edge.proofs.exchanging.converse.Goals as goal

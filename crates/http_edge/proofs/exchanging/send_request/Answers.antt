@@ -1,4 +1,3 @@
-use Rattle.std.proofs.Common.{◌++◌, take, drop}
 use Rattle.http_edge.proofs.SessionSteps.{sends_both, sends_front, sends_front_of_second}
 use Rattle.http_edge.proofs.exchanging.send_request.Goals as goal
 

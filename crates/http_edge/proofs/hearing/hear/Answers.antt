@@ -1,4 +1,4 @@
-use Rattle.std.proofs.Common.{ℕ, List, ◌<◌, take, length, ap, arith, false}
+use Rattle.std.proofs.Common.{◌<◌, take, arith}
 use Rattle.std.proofs.lemmas.List.{length-take}
 use Rattle.sb_outside.specs.Sessions.{with_end, with_failure, with_received}
 use Rattle.http_edge.proofs.SessionSteps.{turns_from}

@@ -1,4 +1,4 @@
-use Rattle.std.proofs.Common.{◌≡◌, ◌<◌, ◌-◌, ℕ, List, length, vec_len, false}
+use Rattle.std.proofs.Common.{◌≡◌, ◌<◌, ◌-◌, length, vec_len, false}
 use Rattle.http_edge.specs.Hearing.{Hears}
 use Rattle.http_edge.proofs.hearing.hear_head.Given as goal
 

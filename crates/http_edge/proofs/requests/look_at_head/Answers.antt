@@ -1,4 +1,4 @@
-use Rattle.std.proofs.Common.{ℕ, List, ◌≤◌, ◌∙◌, sym, ap, subst, length, inl, Err}
+use Rattle.std.proofs.Common.{ℕ, List, ◌≤◌, sym, ap, subst, length, inl, Err}
 use Rattle.httparse.specs.Grammar.{NeverHasRequest}
 use Rattle.httparse.specs.Spans.{RequestExceeds}
 use Rattle.http_edge.proofs.HeadSizes.{front_short, request_fits}

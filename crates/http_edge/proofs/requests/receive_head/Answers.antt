@@ -1,4 +1,4 @@
-use Rattle.std.proofs.Common.{ℕ, List, [], ◌++◌, false, true, refl, inl, subst, sym, ap, Err, arith}
+use Rattle.std.proofs.Common.{[], ◌++◌, false, true, refl, inl, subst, sym, ap, Err, arith}
 use Rattle.sb_outside.specs.Outside.{GivesFront}
 use Rattle.http_edge.proofs.Fronts.{gives_nothing, front_then, ends_after}
 use Rattle.http_edge.proofs.RequestFacts.{refused_step, open_step}

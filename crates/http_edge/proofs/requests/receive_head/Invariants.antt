@@ -1,4 +1,4 @@
-use Rattle.std.proofs.Common.{◌≡◌, ◌<◌, ◌-◌, ◌+◌, ℕ, List, ◌++◌, length, vec_len}
+use Rattle.std.proofs.Common.{◌≡◌, ◌<◌, ◌-◌, length, vec_len}
 use Rattle.sb_outside.specs.Outside.{GivesFront}
 use Rattle.http_edge.proofs.requests.receive_head.Given as goal
 

@@ -1,4 +1,4 @@
-use Rattle.std.proofs.Common.{◌≡◌, ℕ, List, ◌++◌, ◌∙◌, length, drop, ap, subst, false, true, refl, inr, Err}
+use Rattle.std.proofs.Common.{◌≡◌, ℕ, List, ◌++◌, drop, ap, subst, false, true, refl, inr, Err}
 use Rattle.http_edge.specs.Receiving.{FillsUp, EndsShort}
 use Rattle.http_edge.proofs.Fronts.{front_then, to_end_then}
 use Rattle.http_edge.proofs.RequestFacts.{request_whole, request_short, rest_of, failed_not_ended, refused_not_ended}

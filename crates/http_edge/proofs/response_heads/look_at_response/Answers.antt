@@ -1,4 +1,4 @@
-use Rattle.std.proofs.Common.{ℕ, List, ◌≤◌, ◌∙◌, sym, ap, subst, length, inl, Err}
+use Rattle.std.proofs.Common.{ℕ, List, ◌≤◌, sym, ap, subst, length, inl, Err}
 use Rattle.httparse.specs.Grammar.{NeverHasResponse}
 use Rattle.httparse.specs.Spans.{ResponseExceeds}
 use Rattle.http_edge.proofs.HeadSizes.{front_short, response_fits}
