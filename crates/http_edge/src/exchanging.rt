@@ -69,6 +69,7 @@ fn hear_length<L: Link>(
         → IsPartHeard start (L.log link.new)) }
     ensures failed { IfOk result (λ answer. IsErrOf answer ExchangeFault.Link → Rose (L.faults link.old) (L.faults link.new)) }
     ensures kept { IfOk result (λ answer. answer ≢ Err ExchangeFault.Link → L.faults link.new ≡ L.faults link.old) }
+    ensures unmoved { OnErr result (L.faults link.new ≡ L.faults link.old) }
     ensures counted { L.faults link.old ≤ L.faults link.new }
 {
     if size > BODY_LIMIT {
@@ -102,6 +103,7 @@ fn hear_answer<L: Link>(
         → IsPartHeard start (L.log link.new)) }
     ensures failed { IfOk result (λ answer. IsErrOf answer ExchangeFault.Link → Rose (L.faults link.old) (L.faults link.new)) }
     ensures kept { IfOk result (λ answer. answer ≢ Err ExchangeFault.Link → L.faults link.new ≡ L.faults link.old) }
+    ensures unmoved { OnErr result (L.faults link.new ≡ L.faults link.old) }
     ensures counted { L.faults link.old ≤ L.faults link.new }
 {
     if parts.status != 200 {
@@ -126,6 +128,7 @@ fn listen<L: Link>(
     ensures refused { OnErr result (IsPartHeard (L.log link.old) (L.log link.new)) }
     ensures failed { IfOk result (λ answer. IsErrOf answer ExchangeFault.Link → Rose (L.faults link.old) (L.faults link.new)) }
     ensures kept { IfOk result (λ answer. answer ≢ Err ExchangeFault.Link → L.faults link.new ≡ L.faults link.old) }
+    ensures unmoved { OnErr result (L.faults link.new ≡ L.faults link.old) }
     ensures counted { L.faults link.old ≤ L.faults link.new }
 {
     let Ok(mut buffer) = buffer_of(alloc) else {
@@ -234,6 +237,7 @@ fn converse<L: Link>(
     ensures refused { OnErr result (IsPartOfConversation target.now kind body.now at (L.log link.old) (L.log link.new)) }
     ensures failed { IfOk result (λ answer. IsErrOf answer ExchangeFault.Link → Rose (L.faults link.old) (L.faults link.new)) }
     ensures kept { IfOk result (λ answer. answer ≢ Err ExchangeFault.Link → L.faults link.new ≡ L.faults link.old) }
+    ensures unmoved { OnErr result (L.faults link.new ≡ L.faults link.old) }
     ensures counted { L.faults link.old ≤ L.faults link.new }
 {
     match link.begin(at, kind) {
@@ -267,7 +271,8 @@ pub fn exchange<L: Link, C: Clock>(
     // One session, begun and closed at these moments, whose outcome is the answer.
     ensures session { IfOk result (λ e. HoldsSession target.now kind body.now at need_digest e.ended (L.log link.old) (L.log link.new) e.answer) }
     ensures refused { OnErr result ((ended : Moment) × HoldsPart target.now kind body.now at ended (L.log link.old) (L.log link.new)
-        × IfTold (C.answers clock.new) (with_entry (C.answers clock.old) ended)) }
+        × IfTold (C.answers clock.new) (with_entry (C.answers clock.old) ended)
+        × (at.0 ≤ ended.0) × (C.last clock.new ≡ ended.0)) }
 
     // The session was closed at the clock's next answer.
     ensures ended { IfOk result (λ e. IfTold (C.answers clock.new) (with_entry (C.answers clock.old) e.ended)) }
@@ -276,6 +281,7 @@ pub fn exchange<L: Link, C: Clock>(
     // A fault is counted, and nothing else is.
     ensures failed { IfOk result (λ e. IsErrOf e.answer ExchangeFault.Link → Rose (L.faults link.old) (L.faults link.new)) }
     ensures kept { IfOk result (λ e. e.answer ≢ Err ExchangeFault.Link → L.faults link.new ≡ L.faults link.old) }
+    ensures unmoved { OnErr result (L.faults link.new ≡ L.faults link.old) }
     ensures counted { L.faults link.old ≤ L.faults link.new }
 {
     let heard = converse(alloc, link, at, target, kind, body, need_digest);

@@ -1,3 +1,4 @@
+use Rattle.std.proofs.Common.{rules}
 use Rattle.http_edge.proofs.TalkFacts.{session_closed, part_closed}
 use Rattle.http_edge.proofs.exchanging.exchange.Goals as goal
 
@@ -10,4 +11,6 @@ returns-in-Err-clause-refused g c = (
   c.now-ended.result,
   part_closed c.args.target.now c.args.kind c.args.body.now c.args.at c.now-ended.result _ _ _ c.in-Err.ensures.refused c.close.ensures.closed,
   c.now-ended.ensures.told,
+  search rules,
+  search rules,
 )
