@@ -1,11 +1,11 @@
 -- The front of a text in which a head stands, and how many fields it can have.
-use Rattle.std.proofs.Common.{◌≡◌, ℕ, ◌+◌, ◌*◌, ◌<◌, ◌≤◌, List, [], ◌∷◌, ◌++◌, length, take, drop, refl, sym, ap, ◌∙◌, arith, length-append, lit<}
+use Rattle.std.proofs.Common.{ℕ, ◌*◌, ◌<◌, ◌≤◌, List, [], ◌∷◌, ◌++◌, length, take, ap, arith, length-append, lit<}
 use Rattle.std.specs.Prelude.{All}
 use Rattle.std.specs.List.{flat_map}
-use Rattle.std.proofs.lemmas.List.{take-append-drop, length-take, take-take}
+use Rattle.std.proofs.lemmas.List.{length-take}
 use Rattle.std.proofs.lemmas.List.Elements.{All-head, All-tail}
 use Rattle.httparse.specs.Grammar.{LineEnd, crlf, lf, print_end, Field, IsField, print_field, print_section, RequestHead, print_request, ResponseHead, print_response}
-use Rattle.httparse.specs.Spans.{RequestExceeds, ResponseExceeds}
+use Rattle.httparse.specs.Spans.{RequestExceeds, ResponseExceeds, SectionExceeds}
 
 end_some : (end : LineEnd) → 0 < length (print_end end)
 end_some crlf = lit< tt
@@ -56,6 +56,12 @@ response_fits buffer short (front, rest, parts, head, reads, more) =
     let whole = response_size head in
     let printed = ap length reads.1 in
     omega (arith, length-append front rest, length-append front (10 ∷ []), length-append (print_response head) [], ap length parts, printed)
+
+pub section_fits : (buffer : List ℕ) → length buffer ≤ 16384 → SectionExceeds 5461 buffer → ⊥
+section_fits buffer short (front, rest, parts, fields, reads, more) =
+    let size = section_size fields lf reads.0 in
+    let printed = ap length reads.1 in
+    omega (arith, length-append front rest, length-append front (10 ∷ []), length-append (print_section fields lf) [], ap length parts, printed)
 
 pub front_short : (text : List ℕ) → length (take 16384 text) ≤ 16384
 front_short text = omega (arith, length-take 16384 text)

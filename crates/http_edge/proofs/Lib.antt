@@ -4,5 +4,7 @@ pub mod SessionSteps
 pub mod TalkFacts
 pub mod DigestFacts
 pub mod HeadSizes
+pub mod ChunkFacts
+pub mod ChunkStepFacts
 pub mod RequestFacts
 pub mod ResponseFacts

@@ -1,14 +1,15 @@
 -- What is known of the head of a response stands when more bytes follow.
-use Rattle.std.proofs.Common.{◌≡◌, ◌≢◌, ℕ, ◌+◌, ◌-◌, ◌<◌, ◌≤◌, List, [], ◌∷◌, ◌++◌, length, take, drop, Bool, true, false, Option, Some, None, Ok, Err, refl, sym, ap, ◌∙◌, subst, arith, inl, inr, append_assoc, length-append}
+use Rattle.std.proofs.Common.{◌≡◌, ◌≢◌, ℕ, ◌<◌, ◌≤◌, List, ◌++◌, length, take, drop, Bool, true, false, Option, Ok, Err, refl, sym, ap, ◌∙◌, subst, arith, inl, inr, append_assoc, length-append}
 use Rattle.std.proofs.lemmas.List.{take-append-drop, take-take, drop-append-le}
-use Rattle.std.specs.Prelude.{Result, IfOk, IsTrue}
-use Rattle.httparse.specs.Grammar.{ResponseHead, print_response, NeverHasResponse, status_code}
+use Rattle.std.specs.Prelude.{Result, IfOk}
+use Rattle.httparse.specs.Grammar.{ResponseHead, print_response, NeverHasResponse}
 use Rattle.sb_model.specs.declared.memory.OutOfMemory.{OutOfMemory}
-use Rattle.sha2.specs.Sha256.{sha256}
-use Rattle.http_edge.specs.Heads.{BeginsResponse, IsRefusedResponse, IsOpenResponse, HasBadFields, head_bytes}
-use Rattle.http_edge.specs.Outcomes.{HasResponse, HasSuccess, HasWhole, HasBody, framing_of, IsFault, BytesOutcome, OutcomeSoFar, LacksRest, HasLongBody, IsRightDigest, IsChunkedSuccess}
+use Rattle.http_edge.specs.Heads.{BeginsResponse, IsRefusedResponse, IsOpenResponse, head_bytes}
+use Rattle.http_edge.specs.Outcomes.{HasResponse, HasSuccess, HasWhole, HasBody, framing_of, IsFault, BytesOutcome, LacksRest, HasLongBody, HasWrongChunk, IsRightDigest}
+use Rattle.http_edge.specs.Chunks.{IsWholeBody}
+use Rattle.http_edge.specs.ChunkSteps.{IsFaultOfBody, IsFaultOfChunks}
 use Rattle.http_edge.specs.Hearing.{IsResponsePartsOf, IsResponseStep, IsJudged, IsFaultOfHead, HeardOutcome}
-use Rattle.http_edge.specs.declared.hearing.HeadFault.TheVariants.{Fault}
+use Rattle.http_edge.specs.declared.hearing.HearFault.TheVariants.{Fault}
 use Rattle.http_edge.specs.declared.faults.ExchangeFault.{ExchangeFault}
 use Rattle.http_edge.specs.declared.faults.ExchangeFault.TheVariants as fault
 use Rattle.http_edge.specs.declared.fields.Framing.TheVariants.{ByLength, Chunked, Unframed}
@@ -85,70 +86,107 @@ whole_of text given parts n is status framing allowed enough = record {
   gives = is.digest;
 }
 
+-- what the digest says of a whole body is the outcome
+judged_whole : (need ended : Bool) (bytes body : List ℕ) (given : Option (List ℕ)) (answer : Result (List ℕ) ExchangeFault) → HasWhole bytes body given
+    → IsJudged need body given answer → BytesOutcome need bytes ended answer
+judged_whole need ended bytes body given (Ok passed) whole says = (
+  given,
+  subst (λ b. HasWhole bytes b given) (sym says.0) whole,
+  subst (λ b. IsRightDigest need b given) (sym says.0) says.1,
+)
+judged_whole need ended bytes body given (Err fault.NoDigest) whole says = (body, subst (HasWhole bytes body) says.0 whole, says.1)
+judged_whole need ended bytes body given (Err (fault.Digest got other)) whole says = (body, subst (HasWhole bytes body) says.0 whole, says.1, says.2)
+judged_whole need ended bytes body given (Err fault.Link) whole says = absurd says
+judged_whole need ended bytes body given (Err fault.Head) whole says = absurd says
+judged_whole need ended bytes body given (Err fault.HeadLimit) whole says = absurd says
+judged_whole need ended bytes body given (Err (fault.Status other)) whole says = absurd says
+judged_whole need ended bytes body given (Err fault.NoLength) whole says = absurd says
+judged_whole need ended bytes body given (Err (fault.BodyLimit other)) whole says = absurd says
+judged_whole need ended bytes body given (Err fault.Cut) whole says = absurd says
+judged_whole need ended bytes body given (Err (fault.Chunk other)) whole says = absurd says
+
 pub judged : (need : Bool) (text given : List ℕ) (parts : ResponseParts) (n : ℕ) (body : List ℕ) (answer : Result (List ℕ) ExchangeFault) → IsResponsePartsOf text parts
     → parts.status ≡ 200 → parts.framing ≡ ByLength n → n ≤ 201326592 → n ≤ length (drop parts.start text ++ given) → body ≡ take n (drop parts.start text ++ given)
     → IsJudged need body parts.digest answer → BytesOutcome need (text ++ given) false answer
-judged need text given parts n body (Ok passed) is status framing allowed enough body-is says = (
-  parts.digest,
-  subst (λ b. HasWhole (text ++ given) b parts.digest) (sym (says.0 ∙ body-is)) (whole_of text given parts n is status framing allowed enough),
-  subst (λ b. IsRightDigest need b parts.digest) (sym says.0) says.1,
-)
-judged need text given parts n body (Err fault.NoDigest) is status framing allowed enough body-is says =
-    (take n (drop parts.start text ++ given), subst (HasWhole (text ++ given) (take n (drop parts.start text ++ given))) says.0 (whole_of text given parts n is status framing allowed enough), says.1)
-judged need text given parts n body (Err (fault.Digest got other)) is status framing allowed enough body-is says = (
-  take n (drop parts.start text ++ given),
-  subst (HasWhole (text ++ given) (take n (drop parts.start text ++ given))) says.0 (whole_of text given parts n is status framing allowed enough),
-  says.1 ∙ ap sha256 body-is,
-  says.2,
-)
-judged need text given parts n body (Err fault.Link) is status framing allowed enough body-is says = absurd says
-judged need text given parts n body (Err fault.Head) is status framing allowed enough body-is says = absurd says
-judged need text given parts n body (Err fault.HeadLimit) is status framing allowed enough body-is says = absurd says
-judged need text given parts n body (Err (fault.Status other)) is status framing allowed enough body-is says = absurd says
-judged need text given parts n body (Err fault.NoLength) is status framing allowed enough body-is says = absurd says
-judged need text given parts n body (Err (fault.BodyLimit other)) is status framing allowed enough body-is says = absurd says
-judged need text given parts n body (Err fault.Cut) is status framing allowed enough body-is says = absurd says
-judged need text given parts n body (Err (fault.Chunk other)) is status framing allowed enough body-is says = absurd says
+judged need text given parts n body answer is status framing allowed enough body-is says =
+    judged_whole need false (text ++ given) body parts.digest answer
+    (subst (λ b. HasWhole (text ++ given) b parts.digest) (sym body-is) (whole_of text given parts n is status framing allowed enough)) says
+
+-- the same of a chunked body
+pub judged_chunks : (need : Bool) (text given : List ℕ) (parts : ResponseParts) (body : List ℕ) (answer : Result (List ℕ) ExchangeFault) → IsResponsePartsOf text parts
+    → parts.status ≡ 200 → parts.framing ≡ Chunked → IsWholeBody (drop parts.start text ++ given) body → IsJudged need body parts.digest answer
+    → BytesOutcome need (text ++ given) false answer
+judged_chunks need text given parts body answer is status framing whole says =
+    judged_whole need false (text ++ given) body parts.digest answer
+    (record {
+      head = is.head;
+      rest = drop parts.start text ++ given;
+      success = success_of text parts given is status;
+      has = subst (λ f. HasBody f (drop parts.start text ++ given) body) (sym (is.framing ∙ framing)) whole;
+      gives = is.digest;
+    })
+    says
 
 success_here : (text : List ℕ) (parts : ResponseParts) (is : IsResponsePartsOf text parts) → parts.status ≡ 200 → HasSuccess text is.head (drop parts.start text)
 success_here text parts is status = record { response = is.has; success = sym is.status ∙ status }
 
 pub long_body : (need ended : Bool) (text : List ℕ) (parts : ResponseParts) (n : ℕ) → IsResponsePartsOf text parts → parts.status ≡ 200 → parts.framing ≡ ByLength n → 201326592 < n
-    → OutcomeSoFar need text ended (Err (fault.BodyLimit n))
-long_body need ended text parts n is status framing past =
-    inl (
-      is.head,
-      drop parts.start text,
-      success_here text parts is status,
-      subst (λ f. HasLongBody f (drop parts.start text) n) (sym (is.framing ∙ framing)) (refl, past),
-    )
+    → BytesOutcome need text ended (Err (fault.BodyLimit n))
+long_body need ended text parts n is status framing past = (
+  is.head,
+  drop parts.start text,
+  success_here text parts is status,
+  subst (λ f. HasLongBody f (drop parts.start text) n) (sym (is.framing ∙ framing)) (refl, past),
+)
 
 pub cut_body : (need : Bool) (text given : List ℕ) (parts : ResponseParts) (n : ℕ) → IsResponsePartsOf text parts → parts.status ≡ 200 → parts.framing ≡ ByLength n → n ≤ 201326592
-    → length (drop parts.start text ++ given) < n → OutcomeSoFar need (text ++ given) true (Err fault.Cut)
-cut_body need text given parts n is status framing allowed short =
-    inl (
-      refl,
-      inr (
-        is.head,
-        drop parts.start text ++ given,
-        success_of text parts given is status,
-        subst (λ f. LacksRest f (drop parts.start text ++ given)) (sym (is.framing ∙ framing)) (allowed, short),
-      ),
-    )
+    → length (drop parts.start text ++ given) < n → BytesOutcome need (text ++ given) true (Err fault.Cut)
+cut_body need text given parts n is status framing allowed short = (
+  refl,
+  inr (
+    is.head,
+    drop parts.start text ++ given,
+    success_of text parts given is status,
+    subst (λ f. LacksRest f (drop parts.start text ++ given)) (sym (is.framing ∙ framing)) (allowed, short),
+  ),
+)
 
 pub other_status : (need ended : Bool) (text : List ℕ) (parts : ResponseParts) → IsResponsePartsOf text parts → parts.status ≢ 200
-    → OutcomeSoFar need text ended (Err (fault.Status parts.status))
-other_status need ended text parts is other = inl (is.head, drop parts.start text, is.has, sym is.status, other)
+    → BytesOutcome need text ended (Err (fault.Status parts.status))
+other_status need ended text parts is other = (is.head, drop parts.start text, is.has, sym is.status, other)
 
 pub unframed : (need ended : Bool) (text : List ℕ) (parts : ResponseParts) → IsResponsePartsOf text parts → parts.status ≡ 200 → parts.framing ≡ Unframed
-    → OutcomeSoFar need text ended (Err fault.NoLength)
-unframed need ended text parts is status framing = inl (is.head, drop parts.start text, success_here text parts is status, is.framing ∙ framing)
+    → BytesOutcome need text ended (Err fault.NoLength)
+unframed need ended text parts is status framing = (is.head, drop parts.start text, success_here text parts is status, is.framing ∙ framing)
 
-pub chunked : (need ended : Bool) (text : List ℕ) (parts : ResponseParts) → IsResponsePartsOf text parts → parts.status ≡ 200 → parts.framing ≡ Chunked
-    → OutcomeSoFar need text ended (Err fault.NoLength)
-chunked need ended text parts is status framing = inr (refl, (is.head, drop parts.start text, success_here text parts is status, is.framing ∙ framing))
+-- a fault of a chunked body is the outcome
+pub chunked_fault : (need ended failed : Bool) (text given : List ℕ) (parts : ResponseParts) (why : ExchangeFault) → IsResponsePartsOf text parts → parts.status ≡ 200
+    → parts.framing ≡ Chunked → IsFaultOfChunks (drop parts.start text ++ given) ended failed (Fault why) → HeardOutcome need (text ++ given) ended failed (Err why)
+chunked_fault need ended true text given parts why is status framing says = ap Err says
+chunked_fault need ended false text given parts why is status framing says = of_body why says
+  where
+    rest : List ℕ
+    rest = drop parts.start text ++ given
+
+    success : HasSuccess (text ++ given) is.head rest
+    success = success_of text parts given is status
+
+    chunks : framing_of is.head.fields ≡ Chunked
+    chunks = is.framing ∙ framing
+
+    of_body : (why : ExchangeFault) → IsFaultOfBody rest ended why → IsFault need (text ++ given) ended why
+    of_body (fault.BodyLimit n) says = (is.head, rest, success, subst (λ f. HasLongBody f rest n) (sym chunks) says)
+    of_body fault.Cut says = (says.0, inr (is.head, rest, success, subst (λ f. LacksRest f rest) (sym chunks) says.1))
+    of_body (fault.Chunk number) says = (is.head, rest, success, subst (λ f. HasWrongChunk f rest number) (sym chunks) says)
+    of_body fault.Link says = absurd says
+    of_body fault.Head says = absurd says
+    of_body fault.HeadLimit says = absurd says
+    of_body (fault.Status status) says = absurd says
+    of_body fault.NoLength says = absurd says
+    of_body fault.NoDigest says = absurd says
+    of_body (fault.Digest got other) says = absurd says
 
 -- a fault of the head is the outcome
 pub heard_fault : (need : Bool) (bytes : List ℕ) (ended failed : Bool) (why : ExchangeFault) → IsFaultOfHead bytes ended failed (Fault why) → HeardOutcome need bytes ended failed (Err why)
 heard_fault need bytes ended true why is = ap Err is
-heard_fault need bytes ended false why is = inl (is need)
+heard_fault need bytes ended false why is = is need

@@ -1,5 +1,5 @@
 -- A session that was begun, in which a request was sent, and which was heard to some end.
-use Rattle.std.proofs.Common.{◌≡◌, ◌≢◌, ℕ, List, [], ◌∷◌, ◌++◌, Bool, true, false, Option, Some, None, Ok, Err, refl, sym, ap, ◌∙◌, subst}
+use Rattle.std.proofs.Common.{◌≡◌, ◌≢◌, ℕ, List, [], ◌∷◌, ◌++◌, Bool, true, false, Option, Ok, Err, refl, sym, ap, ◌∙◌}
 use Rattle.std.specs.Prelude.{Result, IfOk, OnErr, codes, encode_utf8_all, IsUtf8}
 use Rattle.std.specs.Str.{chars}
 use Rattle.std.proofs.lemmas.Str.{encodes-chars}
@@ -12,9 +12,9 @@ use Rattle.sb_outside.specs.declared.links.Kind.{Kind}
 use Rattle.sb_outside.specs.declared.links.Session.{Session}
 use Rattle.http_edge.specs.declared.messages.Target.{Target}
 use Rattle.http_edge.specs.declared.faults.ExchangeFault.{ExchangeFault}
-use Rattle.http_edge.specs.Outcomes.{SessionOutcomeSoFar}
+use Rattle.http_edge.specs.Outcomes.{SessionOutcome}
 use Rattle.http_edge.specs.Exchanges.{query_of, request_text, IsTalkOf, IsSessionOf, SendsWhole, HoldsSession, HoldsPart, IsConversation, IsPartOfConversation}
-use Rattle.http_edge.specs.Hearing.{Turns, Hears, heard, HeardOutcome, IsHeard, IsPartHeard}
+use Rattle.http_edge.specs.Hearing.{Turns, heard, HeardOutcome, IsHeard, IsPartHeard}
 use Rattle.http_edge.proofs.SessionSteps.{turns_from}
 
 -- the session after the whole request was sent and so much was heard
@@ -34,7 +34,7 @@ talk_sends target kind body at bytes false true = λ _. refl
 talk_sends target kind body at bytes false false = λ _. refl
 
 talk_outcome : (target : Target) (kind : Kind) (body : List ℕ) (at : Moment) (need : Bool) (bytes : List ℕ) (ended failed : Bool) (answer : Result (List ℕ) ExchangeFault)
-    → HeardOutcome need bytes ended failed answer → SessionOutcomeSoFar need (talk_of target kind body at bytes ended failed) answer
+    → HeardOutcome need bytes ended failed answer → SessionOutcome need (talk_of target kind body at bytes ended failed) answer
 talk_outcome target kind body at need bytes true true answer is = is
 talk_outcome target kind body at need bytes true false answer is = is
 talk_outcome target kind body at need bytes false true answer is = is

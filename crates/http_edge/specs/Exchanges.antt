@@ -2,7 +2,7 @@
 use Rattle.std.specs.Prelude.{◌≡◌, ℕ, List, [], ◌∷◌, ◌++◌, length, codes, decimal, encode_utf8_all, Bool, Option, Some, None, Result, IsFalse}
 use Rattle.sb_outside.specs.Outside.{IfTold, with_entry}
 use Rattle.http_edge.specs.declared.faults.ExchangeFault.{ExchangeFault}
-use Rattle.http_edge.specs.Outcomes.{SessionOutcomeSoFar}
+use Rattle.http_edge.specs.Outcomes.{SessionOutcome}
 use Rattle.sb_model.specs.declared.time.Moment.{Moment}
 use Rattle.sb_outside.specs.declared.links.Kind.{Kind}
 use Rattle.sb_outside.specs.declared.links.Kind.TheVariants.{Update, Find}
@@ -58,7 +58,7 @@ pub record HoldsSession (target : Target) (asked : Kind) (body : List ℕ) (at :
   pub told : IfTold after (with_entry before session)
   pub is : IsSessionOf target asked body at end session
   pub sends : SendsWhole target asked body session
-  pub outcome : SessionOutcomeSoFar need session answer
+  pub outcome : SessionOutcome need session answer
 
 -- A part of a session was held, and the session was closed.
 pub record HoldsPart (target : Target) (asked : Kind) (body : List ℕ) (at end : Moment) (before after : Option (List Session)) : Type 0 where
@@ -72,7 +72,7 @@ pub record IsConversation (target : Target) (asked : Kind) (body : List ℕ) (at
   pub told : IfTold after (with_entry before session)
   pub is : IsTalkOf target asked body at session
   pub sends : SendsWhole target asked body session
-  pub outcome : SessionOutcomeSoFar need session answer
+  pub outcome : SessionOutcome need session answer
 
 pub record IsPartOfConversation (target : Target) (asked : Kind) (body : List ℕ) (at : Moment) (before after : Option (List Session)) : Type 0 where
   pub session : Session

@@ -1,5 +1,5 @@
 -- How a response is heard over a link: what each step does to the session that began last, and to the bytes that wait.
-use Rattle.std.specs.Prelude.{◌≡◌, ◌≢◌, ℕ, ◌<◌, ◌≤◌, List, [], ◌++◌, length, take, drop, map, Bool, true, false, Option, Some, None, Result, Ok, Err, IsTrue, MatchBool, ⊤}
+use Rattle.std.specs.Prelude.{◌≡◌, ◌≢◌, ℕ, ◌<◌, ◌≤◌, List, ◌++◌, length, take, drop, map, Bool, true, false, Option, Some, None, Result, Ok, Err, IsTrue, MatchBool, ⊤}
 use Rattle.sha2.specs.Sha256.{sha256}
 use Rattle.httparse.specs.declared.spans.HeaderSpan.{HeaderSpan}
 use Rattle.httparse.specs.declared.spans.ResponseSpans.{ResponseSpans}
@@ -7,14 +7,14 @@ use Rattle.httparse.specs.Grammar.{ResponseHead, print_response, ReadsResponse, 
 use Rattle.httparse.specs.Spans.{header_bytes, name_and_value}
 use Rattle.http_edge.specs.Heads.{IsRefusedResponse, IsOpenResponse}
 use Rattle.http_edge.specs.Digests.{IsDigestGiven}
-use Rattle.http_edge.specs.Outcomes.{HasResponse, framing_of, IsFault, IsRightDigest, OutcomeSoFar}
+use Rattle.http_edge.specs.Outcomes.{HasResponse, framing_of, IsFault, IsRightDigest, BytesOutcome}
 use Rattle.http_edge.specs.declared.faults.ExchangeFault.{ExchangeFault}
 use Rattle.http_edge.specs.declared.faults.ExchangeFault.TheVariants.{Link, NoDigest, Digest}
 use Rattle.http_edge.specs.declared.response_heads.ResponseParts.{ResponseParts}
 use Rattle.http_edge.specs.declared.response_heads.ResponseStep.{ResponseStep}
 use Rattle.http_edge.specs.declared.response_heads.ResponseStep.TheVariants.{Whole, Refused, Open}
-use Rattle.http_edge.specs.declared.hearing.HeadFault.{HeadFault}
-use Rattle.http_edge.specs.declared.hearing.HeadFault.TheVariants.{Fault, OutOfMemory}
+use Rattle.http_edge.specs.declared.hearing.HearFault.{HearFault}
+use Rattle.http_edge.specs.declared.hearing.HearFault.TheVariants.{Fault, OutOfMemory}
 use Rattle.sb_outside.specs.Outside.{IfTold, with_entry}
 use Rattle.sb_outside.specs.Sessions.{with_sent, with_received, with_end, with_failure}
 use Rattle.sb_outside.specs.declared.links.Session.{Session}
@@ -45,6 +45,12 @@ pub record HearsMore (waiting grown : List ℕ) (before after : Option (List Ses
   pub some : 0 < length given
   pub whole : grown ≡ waiting ++ given
   pub hears : Turns (with_received given) before after
+
+-- Some bytes came, or none, and then perhaps the end of the session. They wait after those that waited.
+pub record HearsOn (waiting grown : List ℕ) (ended : Bool) (before after : Option (List Session)) : Type 0 where
+  pub given : List ℕ
+  pub whole : grown ≡ waiting ++ given
+  pub hears : Hears given ended false before after
 
 abbrev pub HearsEnd : Option (List Session) → Option (List Session) → Type 0
 HearsEnd before after = Turns with_end before after
@@ -99,7 +105,7 @@ IsResponseStep text Refused = IsRefusedResponse text
 IsResponseStep text Open = IsOpenResponse text
 
 -- A fault is known while the head is heard, whether a digest is needed or not.
-abbrev pub IsFaultOfHead : List ℕ → Bool → Bool → HeadFault → Type 0
+abbrev pub IsFaultOfHead : List ℕ → Bool → Bool → HearFault → Type 0
 IsFaultOfHead bytes ended failed (Fault fault) = MatchBool failed (fault ≡ Link) ((need : Bool) → IsFault need bytes ended fault)
 IsFaultOfHead bytes ended failed OutOfMemory = ⊤
 
@@ -112,7 +118,7 @@ IsJudged need body given (Err fault) = ⊥
 
 -- what the bytes heard come to, of a session that failed or did not
 abbrev pub HeardOutcome : Bool → List ℕ → Bool → Bool → Result (List ℕ) ExchangeFault → Type 0
-HeardOutcome need bytes ended failed answer = MatchBool failed (answer ≡ Err Link) (OutcomeSoFar need bytes ended answer)
+HeardOutcome need bytes ended failed answer = MatchBool failed (answer ≡ Err Link) (BytesOutcome need bytes ended answer)
 
 -- a session was heard to some end
 abbrev pub IsHeard : Bool → Option (List Session) → Option (List Session) → Result (List ℕ) ExchangeFault → Type 0

@@ -8,4 +8,5 @@ pub mod Chunks
 pub mod Outcomes
 pub mod Exchanges
 pub mod Receiving
+pub mod ChunkSteps
 pub mod Hearing

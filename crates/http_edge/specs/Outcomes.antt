@@ -113,17 +113,3 @@ BytesOutcome need bytes ended (Err fault) = IsFault need bytes ended fault
 abbrev pub SessionOutcome : Bool → Session → Result (List ℕ) ExchangeFault → Type 0
 SessionOutcome need session outcome =
     MatchBool session.failed (outcome ≡ Err Link) (BytesOutcome need session.received session.ended outcome)
-
--- A response with the status 200 has a chunked body.
-abbrev pub IsChunkedSuccess : List ℕ → Type 0
-IsChunkedSuccess bytes = (head : ResponseHead) × (rest : List ℕ) × HasSuccess bytes head rest × (framing_of head.fields ≡ Chunked)
-
--- What `exchange` makes of the bytes today: their outcome, but a chunked body is not read yet, and counts as one without a
--- length.
-abbrev pub OutcomeSoFar : Bool → List ℕ → Bool → Result (List ℕ) ExchangeFault → Type 0
-OutcomeSoFar need bytes ended outcome =
-    BytesOutcome need bytes ended outcome ⊎ ((outcome ≡ Err NoLength) × IsChunkedSuccess bytes)
-
-abbrev pub SessionOutcomeSoFar : Bool → Session → Result (List ℕ) ExchangeFault → Type 0
-SessionOutcomeSoFar need session outcome =
-    MatchBool session.failed (outcome ≡ Err Link) (OutcomeSoFar need session.received session.ended outcome)

@@ -8,18 +8,16 @@ ghost use Rattle.http_edge.specs.Exchanges.{path_of, query_of, request_head, Hol
 ghost use Rattle.http_edge.specs.Hearing.{Turns, Hears, IsResponsePartsOf, IsJudged, IsHeard, IsPartHeard, SendsFront};
 
 use crate::heads::buffer_of;
-use crate::hearing::{HeadFault, hear_body, hear_head};
+use crate::hearing::{BODY_LIMIT, HearFault, hear_body, hear_head};
 use crate::receiving::Stop;
 use crate::responding::{push_length, push_line};
 use crate::response_heads::ResponseParts;
+use crate::unchunking::hear_chunks;
 use crate::{ExchangeFault, Framing, Target};
 use hash_prefixes::full_hash;
 use sb_model::{Bytes, Moment, OutOfMemory, Text};
 use sb_outside::{Clock, Failed, Kind, Link};
 use std::alloc::Global;
-
-/// How many bytes the body of a response has at most.
-const BODY_LIMIT: u64 = 201_326_592;
 
 /// What came of an exchange, and when its session was closed.
 #[derive(Debug, Drop)]
@@ -86,7 +84,39 @@ fn hear_length<L: Link>(
     }
 }
 
-/// Hears what follows the head of a response. A chunked body is not read yet, and counts as one without a length.
+/// Hears a chunked body.
+fn hear_chunked<L: Link>(
+    alloc: Global,
+    link: &mut L,
+    buffer: &mut [u8],
+    text: &Bytes,
+    parts: ResponseParts,
+    need_digest: bool,
+) -> Result<Result<Bytes, ExchangeFault>, OutOfMemory>
+    requires room { 0 < length buffer.old }
+    requires parts { IsResponsePartsOf text.now parts }
+    requires success { parts.status ≡ 200 }
+    requires framing { parts.framing ≡ Framing.Chunked }
+    ensures heard { (start : Option (List Session)) → Hears text.now false false start (L.log link.old)
+        → IfOk result (λ answer. IsHeard need_digest start (L.log link.new) answer) }
+    ensures refused { OnErr result ((start : Option (List Session)) → Hears text.now false false start (L.log link.old)
+        → IsPartHeard start (L.log link.new)) }
+    ensures failed { IfOk result (λ answer. IsErrOf answer ExchangeFault.Link → Rose (L.faults link.old) (L.faults link.new)) }
+    ensures kept { IfOk result (λ answer. answer ≢ Err ExchangeFault.Link → L.faults link.new ≡ L.faults link.old) }
+    ensures unmoved { OnErr result (L.faults link.new ≡ L.faults link.old) }
+    ensures counted { L.faults link.old ≤ L.faults link.new }
+{
+    let Ok(body) = Bytes::from_slice(alloc, &text.as_slice()[parts.start..]) else {
+        return Err(OutOfMemory);
+    };
+    match hear_chunks(alloc, link, buffer, body) {
+        Ok(body) => Ok(judge(body, parts.digest, need_digest)),
+        Err(HearFault::Fault(fault)) => Ok(Err(fault)),
+        Err(HearFault::OutOfMemory) => Err(OutOfMemory),
+    }
+}
+
+/// Hears what follows the head of a response.
 fn hear_answer<L: Link>(
     alloc: Global,
     link: &mut L,
@@ -113,7 +143,7 @@ fn hear_answer<L: Link>(
         Framing::ByLength(length) => {
             hear_length(alloc, link, buffer, text, parts, length, need_digest)
         }
-        Framing::Chunked => Ok(Err(ExchangeFault::NoLength)),
+        Framing::Chunked => hear_chunked(alloc, link, buffer, text, parts, need_digest),
         Framing::Unframed => Ok(Err(ExchangeFault::NoLength)),
     }
 }
@@ -144,8 +174,8 @@ fn listen<L: Link>(
             parts,
             need_digest,
         ),
-        Err(HeadFault::Fault(fault)) => Ok(Err(fault)),
-        Err(HeadFault::OutOfMemory) => Err(OutOfMemory),
+        Err(HearFault::Fault(fault)) => Ok(Err(fault)),
+        Err(HearFault::OutOfMemory) => Err(OutOfMemory),
     }
 }
 
@@ -253,9 +283,9 @@ fn converse<L: Link>(
     }
 }
 
-/// Sends a request in a session of its own and hears the response (RFC 9112), whose body has at most 201,326,592
-/// bytes. The session is begun at `at`, which is the clock's last answer, and closed at its next one, in every
-/// case. A chunked body is not read yet, and counts as one without a length.
+/// Sends a request in a session of its own and hears the response (RFC 9112), whose body has a length or is
+/// chunked, and has at most 201,326,592 bytes. The session is begun at `at`, which is the clock's last answer, and
+/// closed at its next one, in every case.
 pub fn exchange<L: Link, C: Clock>(
     alloc: Global,
     link: &mut L,

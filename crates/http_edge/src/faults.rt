@@ -39,7 +39,7 @@ pub enum ExchangeFault {
     HeadLimit,
     /// The status, which is not 200.
     Status(u16),
-    /// The head gives neither a length nor the one encoding `chunked`.
+    /// The head gives neither a length alone nor the one encoding `chunked` alone.
     NoLength,
     /// The body has so many bytes, more than 201,326,592.
     BodyLimit(u64),

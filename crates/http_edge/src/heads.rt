@@ -1,20 +1,20 @@
-ghost use Rattle.std.specs.Prelude.{◌≡◌, take, vec_len, IfOk};
+ghost use Rattle.std.specs.Prelude.{◌≡◌, ◌≤◌, length, take, drop, vec_len, IfOk};
 
 use httparse::spans::{EMPTY_HEADER_SPAN, HeaderSpan};
 use sb_model::OutOfMemory;
 use std::alloc::Global;
 
-/// How many bytes a head has at most.
+/// How many bytes a head has at most, and a trailer.
 pub(crate) const HEAD_LIMIT: usize = 16_384;
 
-/// How many fields a head has at most.
+/// How many fields a head has at most, and a trailer.
 pub(crate) const FIELD_LIMIT: usize = 64;
 
 /// How many bytes a read asks for.
 const PIECE: usize = 65_536;
 
-/// Room for the fields of every head of 16,384 bytes, since a field has three bytes at least. So the parser
-/// never refuses a head for the number of its fields.
+/// Room for the fields of every head and trailer of 16,384 bytes, since a field has three bytes at least. So the
+/// parser never refuses one for the number of its fields.
 const ROOM: usize = 5_461;
 
 pub(crate) fn room_for_fields(alloc: Global) -> Result<Vec<HeaderSpan>, OutOfMemory>
@@ -29,9 +29,17 @@ pub(crate) fn buffer_of(alloc: Global) -> Result<Vec<u8>, OutOfMemory>
     Ok(vec![in alloc; 0; PIECE]?)
 }
 
-/// The first bytes of a text, as many as a head has at most.
-pub(crate) fn front_of(text: &[u8]) -> &[u8]
-    ensures { result.now ≡ take HEAD_LIMIT text.now }
+/// The first bytes of a text, so many at most.
+pub(crate) fn front_of(text: &[u8], limit: usize) -> &[u8]
+    ensures { result.now ≡ take limit text.now }
 {
-    &text[..text.len().min(HEAD_LIMIT)]
+    &text[..text.len().min(limit)]
+}
+
+/// The bytes of a text from a place on.
+pub(crate) fn rest_from(text: &[u8], at: usize) -> &[u8]
+    requires { at ≤ length text.now }
+    ensures { result.now ≡ drop at text.now }
+{
+    &text[at..]
 }

@@ -12,9 +12,12 @@ use sb_model::{Bytes, OutOfMemory};
 use sb_outside::{Failed, Link};
 use std::alloc::Global;
 
-/// Why the head of a response was not taken.
+/// How many bytes the body of a response has at most.
+pub(crate) const BODY_LIMIT: u64 = 201_326_592;
+
+/// Why a part of a response was not taken.
 #[derive(Clone, Copy, Debug)]
-pub(crate) enum HeadFault {
+pub(crate) enum HearFault {
     Fault(ExchangeFault),
     OutOfMemory,
 }
@@ -75,35 +78,35 @@ pub(crate) fn hear_head<L: Link>(
     link: &mut L,
     buffer: &mut [u8],
     text: &mut Bytes,
-) -> Result<ResponseParts, HeadFault>
+) -> Result<ResponseParts, HearFault>
     requires room { 0 < length buffer.old }
     requires none { text.old ≡ [] }
     ensures parts { IfOk result (λ parts. IsResponsePartsOf text.new parts) }
     ensures given { OnOk result (Hears text.new false false (L.log link.old) (L.log link.new)) }
     ensures fault { IfErr result (λ fault. (bytes : List ℕ) × (ended : Bool) × (failed : Bool)
         × Hears bytes ended failed (L.log link.old) (L.log link.new) × IsFaultOfHead bytes ended failed fault) }
-    ensures failed { IsErrOf result (HeadFault.Fault ExchangeFault.Link) → Rose (L.faults link.old) (L.faults link.new) }
-    ensures kept { result ≢ Err (HeadFault.Fault ExchangeFault.Link) → L.faults link.new ≡ L.faults link.old }
+    ensures failed { IsErrOf result (HearFault.Fault ExchangeFault.Link) → Rose (L.faults link.old) (L.faults link.new) }
+    ensures kept { result ≢ Err (HearFault.Fault ExchangeFault.Link) → L.faults link.new ≡ L.faults link.old }
     ensures counted { L.faults link.old ≤ L.faults link.new }
 {
     let Ok(mut room) = room_for_fields(alloc) else {
-        return Err(HeadFault::OutOfMemory);
+        return Err(HearFault::OutOfMemory);
     };
     'pieces: loop {
         match look_at_response(alloc, text.as_slice(), room.as_mut_slice()) {
             Ok(ResponseStep::Whole(parts)) => return Ok(parts),
-            Ok(ResponseStep::Refused) => return Err(HeadFault::Fault(ExchangeFault::Head)),
+            Ok(ResponseStep::Refused) => return Err(HearFault::Fault(ExchangeFault::Head)),
             Ok(ResponseStep::Open) => {}
-            Err(OutOfMemory) => return Err(HeadFault::OutOfMemory),
+            Err(OutOfMemory) => return Err(HearFault::OutOfMemory),
         }
         if text.len() >= HEAD_LIMIT {
-            return Err(HeadFault::Fault(ExchangeFault::HeadLimit));
+            return Err(HearFault::Fault(ExchangeFault::HeadLimit));
         }
         match hear(link, buffer, text) {
             Ok(()) => {}
-            Err(Stop::Ended) => return Err(HeadFault::Fault(ExchangeFault::Cut)),
-            Err(Stop::Failed) => return Err(HeadFault::Fault(ExchangeFault::Link)),
-            Err(Stop::OutOfMemory) => return Err(HeadFault::OutOfMemory),
+            Err(Stop::Ended) => return Err(HearFault::Fault(ExchangeFault::Cut)),
+            Err(Stop::Failed) => return Err(HearFault::Fault(ExchangeFault::Link)),
+            Err(Stop::OutOfMemory) => return Err(HearFault::OutOfMemory),
         }
     }
 }

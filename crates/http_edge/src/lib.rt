@@ -10,6 +10,7 @@ pub use printing::push_exchange_cause;
 pub use requests::read_request;
 pub use responding::write_response;
 
+mod chunks;
 mod digests;
 mod exchanging;
 mod faults;
@@ -22,3 +23,4 @@ mod receiving;
 mod requests;
 mod responding;
 mod response_heads;
+mod unchunking;

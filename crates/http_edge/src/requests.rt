@@ -101,7 +101,7 @@ fn look_at_head(
     requires { length room.old ≡ 5461 }
     ensures { IfOk result (λ step. IsRequestStep text.now step) }
 {
-    let front = front_of(text);
+    let front = front_of(text, HEAD_LIMIT);
     match parse_request(front, room) {
         Ok(httparse::Status::Complete(spans)) => {
             take_parts(alloc, front, &room[..spans.headers], spans)

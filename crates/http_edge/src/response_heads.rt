@@ -66,7 +66,7 @@ pub(crate) fn look_at_response(
     requires { length room.old ≡ 5461 }
     ensures { IfOk result (λ step. IsResponseStep text.now step) }
 {
-    let front = front_of(text);
+    let front = front_of(text, HEAD_LIMIT);
     match parse_response(front, room) {
         Ok(httparse::Status::Complete(spans)) => {
             take_response_parts(alloc, front, &room[..spans.headers], spans)

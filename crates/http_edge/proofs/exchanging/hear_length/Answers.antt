@@ -1,4 +1,4 @@
-use Rattle.std.proofs.Common.{◌≡◌, ℕ, List, ◌++◌, drop, ap, subst, false, true, refl, inl, Err}
+use Rattle.std.proofs.Common.{◌≡◌, ℕ, List, ◌++◌, drop, ap, subst, false, true, refl, Err}
 use Rattle.http_edge.specs.Hearing.{SessionFillsUp, SessionEndsShort}
 use Rattle.http_edge.proofs.RequestFacts.{rest_of}
 use Rattle.http_edge.proofs.SessionSteps.{hears_then, hears_and}
@@ -24,7 +24,7 @@ returns-in-Ok-hear_body-clause-heard g c = λ start heard.
       false,
       false,
       hears_then text filled.given _ _ _ heard filled.hears,
-      inl (judged c.args.need_digest text filled.given c.args.parts c.args.size c.hear_body.new.body c.judge.result c.requires.parts c.requires.success c.requires.framing
+      (judged c.args.need_digest text filled.given c.args.parts c.args.size c.hear_body.new.body c.judge.result c.requires.parts c.requires.success c.requires.framing
           c.if-size-gt-BODY_LIMIT.false filled.enough filled.is c.judge.ensures),
     )
 

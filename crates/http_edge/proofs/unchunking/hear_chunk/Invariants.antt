@@ -1,0 +1,16 @@
+use Rattle.std.proofs.Common.{◌≡◌, ◌<◌, ◌≤◌, ◌-◌, ◌+◌, length, false}
+use Rattle.http_edge.specs.Hearing.{HearsOn}
+use Rattle.http_edge.proofs.unchunking.hear_chunk.Given as goal
+
+abbrev pub invariant-pieces : goal.invariant-pieces
+invariant-pieces g l =
+    record {
+      buffer : 0 < length l.buffer;
+      room : length l.room ≡ 5461;
+      within : l.place.at ≤ length l.text;
+      so_far : HearsOn l.initial.text l.text false (g.L.Link.log l.initial.link) (g.L.Link.log l.link);
+      faults : g.L.Link.faults l.link ≡ g.L.Link.faults l.initial.link;
+    }
+
+abbrev pub decreases-pieces : goal.decreases-pieces
+decreases-pieces g l = l.place.at + 201327618 - length l.text
