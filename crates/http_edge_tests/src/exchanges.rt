@@ -1,89 +1,10 @@
 //! Exchanges of a client over a link in memory.
-use http_edge::{ExchangeFault, Exchanged, Target, exchange};
-use sb_model::{Bytes, Moment, OutOfMemory, Row, Text};
-use sb_outside::{Clock, Kind, Play, ScriptClock, ScriptLink, Session};
+use crate::asking::{answer_of, ask, clock_of, fails, link_of, passes, target_of};
+use http_edge::ExchangeFault;
+use sb_model::{Moment, OutOfMemory, Row};
+use sb_outside::{Kind, Session};
 use std::alloc::Global;
 use std::process::Abort;
-
-/// A link with one session, which gives this text at so many bytes a call. The listed calls fail.
-fn link_of(
-    alloc: Global,
-    gives: &[u8],
-    step: usize,
-    failing: &[u64],
-) -> Result<ScriptLink, OutOfMemory> {
-    let mut coming = Row::new(alloc);
-    let failing = Row::from_slice(alloc, failing)?;
-    coming.push(Play::new(alloc, Bytes::from_slice(alloc, gives)?, 1_000, failing)?)?;
-    Ok(ScriptLink::new(alloc, coming, 1)?.with_step(step.max(1)))
-}
-
-fn clock_of(alloc: Global) -> Result<ScriptClock, OutOfMemory> {
-    let readings = Row::from_slice(alloc, &[Moment(10), Moment(20)])?;
-    ScriptClock::new(alloc, readings, 2)
-}
-
-fn target_of(alloc: Global, key: &str) -> Result<Target, OutOfMemory> {
-    Ok(Target {
-        host: Text::from_str(alloc, "127.0.0.1:8080")?,
-        key: Text::from_str(alloc, key)?,
-    })
-}
-
-fn ask(
-    alloc: Global,
-    link: &mut ScriptLink,
-    clock: &mut ScriptClock,
-    target: &Target,
-    need_digest: bool,
-) -> Result<Exchanged, OutOfMemory> {
-    let at = clock.now();
-    exchange(
-        alloc,
-        link,
-        clock,
-        at,
-        target,
-        Kind::Find,
-        b"{}",
-        need_digest,
-    )
-}
-
-/// What a session with this response comes to.
-fn answer_of(
-    alloc: Global,
-    gives: &[u8],
-    step: usize,
-    failing: &[u64],
-    need_digest: bool,
-) -> Result<Result<Bytes, ExchangeFault>, OutOfMemory> {
-    let mut link = link_of(alloc, gives, step, failing)?;
-    let mut clock = clock_of(alloc)?;
-    let target = target_of(alloc, "")?;
-    let exchanged = ask(alloc, &mut link, &mut clock, &target, need_digest)?;
-    Ok(exchanged.answer)
-}
-
-/// Sees that a response is a failed exchange with this cause, however it comes.
-fn fails(rt: &impl Abort, alloc: Global, gives: &[u8], wanted: ExchangeFault) {
-    for step in [usize::MAX, 1] {
-        let Ok(answer) = answer_of(alloc, gives, step, &[], true) else {
-            panic!(rt; "out of memory");
-        };
-        assert_eq!(rt; answer.err(), Some(wanted), "{step} {:?}", gives);
-    }
-}
-
-/// Sees that a response passes with this body, however it comes.
-fn passes(rt: &impl Abort, alloc: Global, gives: &[u8], need_digest: bool, wanted: &[u8]) {
-    for step in [usize::MAX, 7, 1] {
-        let Ok(Ok(body)) = answer_of(alloc, gives, step, &[], need_digest) else {
-            panic!(rt; "it failed: {step} {:?}", gives);
-        };
-        assert_eq!(rt; body.as_slice(), wanted);
-    }
-}
 
 const WHOLE: &[u8] =
     b"HTTP/1.1 200 OK\r\nContent-Length: 2\r\nContent-Digest: sha-256=:RBNvo1WzZ4oRRq0W9+hknpT7T8If536DEMBg9hyq/4o=:\r\n\r\n{}";
@@ -165,9 +86,38 @@ fn what_is_wrong_with_a_response_is_told(rt: HostRuntime) {
 }
 
 #[test]
+fn malformed_lengths_of_a_response_are_refused(rt: HostRuntime) {
+    for text in [
+        b"HTTP/1.1 200 OK\r\nContent-Length: +2\r\n\r\n{}" as &[u8],
+        b"HTTP/1.1 200 OK\r\nContent-Length: -2\r\n\r\n{}",
+        b"HTTP/1.1 200 OK\r\nContent-Length: 2 2\r\n\r\n{}",
+        b"HTTP/1.1 200 OK\r\nContent-Length: 2, 2\r\n\r\n{}",
+        b"HTTP/1.1 200 OK\r\nContent-Length:\r\n\r\n{}",
+        b"HTTP/1.1 200 OK\r\nContent-Length: 2\r\ncontent-length: 3\r\n\r\n{}",
+        b"HTTP/1.1 200 OK\r\nTransfer-Encoding: chunked\r\nContent-Length: a\r\n\r\n",
+    ] {
+        fails(&rt, rt.alloc(), text, ExchangeFault::Head);
+    }
+}
+
+#[test]
+fn other_encodings_are_refused(rt: HostRuntime) {
+    for text in [
+        b"HTTP/1.1 200 OK\r\nTransfer-Encoding: identity\r\n\r\n{}" as &[u8],
+        b"HTTP/1.1 200 OK\r\nTransfer-Encoding: gzip, chunked\r\n\r\n0\r\n\r\n",
+        b"HTTP/1.1 200 OK\r\nTransfer-Encoding: chunked, chunked\r\n\r\n0\r\n\r\n",
+        b"HTTP/1.1 200 OK\r\nTransfer-Encoding: chunked\r\nTransfer-Encoding: chunked\r\n\r\n0\r\n\r\n",
+        b"HTTP/1.1 200 OK\r\nTransfer-Encoding: gzip\r\ntransfer-encoding: chunked\r\n\r\n0\r\n\r\n",
+        b"HTTP/1.1 200 OK\r\nTransfer-Encoding: chunked;a\r\n\r\n0\r\n\r\n",
+        b"HTTP/1.1 200 OK\r\nTransfer-Encoding:\r\nContent-Length: 2\r\n\r\n{}",
+        b"HTTP/1.1 200 OK\r\nContent-Length: 201326593\r\nTransfer-Encoding: chunked\r\n\r\n0\r\n\r\n",
+    ] {
+        fails(&rt, rt.alloc(), text, ExchangeFault::NoLength);
+    }
+}
+
+#[test]
 fn a_digest_of_other_bytes_is_told(rt: HostRuntime) {
-    let text =
-        b"HTTP/1.1 200 OK\r\nContent-Length: 0\r\nContent-Digest: sha-256=:RBNvo1WzZ4oRRq0W9+hknpT7T8If536DEMBg9hyq/4o=:\r\n\r\n";
     let got = [
         0xe3, 0xb0, 0xc4, 0x42, 0x98, 0xfc, 0x1c, 0x14, 0x9a, 0xfb, 0xf4, 0xc8, 0x99, 0x6f, 0xb9,
         0x24, 0x27, 0xae, 0x41, 0xe4, 0x64, 0x9b, 0x93, 0x4c, 0xa4, 0x95, 0x99, 0x1b, 0x78, 0x52,
@@ -178,7 +128,12 @@ fn a_digest_of_other_bytes_is_told(rt: HostRuntime) {
         0x9e, 0x94, 0xfb, 0x4f, 0xc2, 0x1f, 0xe7, 0x7e, 0x83, 0x10, 0xc0, 0x60, 0xf6, 0x1c, 0xaa,
         0xff, 0x8a,
     ];
-    fails(&rt, rt.alloc(), text, ExchangeFault::Digest { got, given });
+    for text in [
+        b"HTTP/1.1 200 OK\r\nContent-Length: 0\r\nContent-Digest: sha-256=:RBNvo1WzZ4oRRq0W9+hknpT7T8If536DEMBg9hyq/4o=:\r\n\r\n" as &[u8],
+        b"HTTP/1.1 200 OK\r\nContent-Digest: sha-256=:RBNvo1WzZ4oRRq0W9+hknpT7T8If536DEMBg9hyq/4o=:,sha-256=:47DEQpj8HBSa+/TImW+5JCeuQeRkm5NMpJWZG3hSuFU=:\r\nTransfer-Encoding: chunked\r\n\r\n0\r\n\r\n",
+    ] {
+        fails(&rt, rt.alloc(), text, ExchangeFault::Digest { got, given });
+    }
 }
 
 #[test]

@@ -2,7 +2,13 @@
 #![tactic(auto)]
 
 #[cfg(test)]
+mod asking;
+#[cfg(test)]
+mod chunks;
+#[cfg(test)]
 mod exchanges;
+#[cfg(test)]
+mod limits;
 #[cfg(test)]
 mod requests;
 #[cfg(test)]

@@ -1,4 +1,5 @@
 //! Requests as a server reads them.
+use crate::asking::text_of;
 use http_edge::{HttpRequest, RequestFault, read_request};
 use sb_model::{Bytes, OutOfMemory, Row};
 use sb_outside::MemorySource;
@@ -49,22 +50,6 @@ fn is_request(
         assert_eq!(rt; request.target.as_slice(), target);
         assert_eq!(rt; request.body.as_slice(), body);
     }
-}
-
-/// A text between two others, repeated.
-fn text_of(
-    alloc: Global,
-    first: &[u8],
-    part: &[u8],
-    count: usize,
-    last: &[u8],
-) -> Result<Bytes, OutOfMemory> {
-    let mut text = Bytes::from_slice(alloc, first)?;
-    for _ in 0..count {
-        text.append(part)?;
-    }
-    text.append(last)?;
-    Ok(text)
 }
 
 #[test]
