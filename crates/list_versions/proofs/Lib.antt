@@ -7,10 +7,12 @@ pub mod Hexes
 pub mod Holding
 pub mod LineEnds
 pub mod NameCodes
+pub mod Newests
 pub mod Parts
 pub mod PrefixBytes
 pub mod Reading
 pub mod Records
+pub mod Sources
 pub mod Splitting
 pub mod Starting
 pub mod Words

@@ -5,8 +5,10 @@
 pub use draft::{Draft, Listed};
 pub use fault::JournalFault;
 pub use heads::{Head, Header};
+pub use history::History;
 pub use lines::{read_add, read_head, read_header, read_remove};
 pub use live::Live;
+pub use newest::Newest;
 pub use printing::push_journal_cause;
 pub use split::{LongLine, next_line};
 
@@ -14,8 +16,10 @@ mod buckets;
 mod draft;
 mod fault;
 mod heads;
+mod history;
 mod lines;
 mod lists;
 mod live;
+mod newest;
 mod printing;
 mod split;
