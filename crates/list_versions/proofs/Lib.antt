@@ -5,6 +5,7 @@ pub mod Digits
 pub mod Finding
 pub mod Hexes
 pub mod Holding
+pub mod Keeping
 pub mod LineEnds
 pub mod NameCodes
 pub mod Newests

@@ -58,11 +58,12 @@ Waits draft before bytes = (seen : List ℕ) → before seen bytes ≡ Ok (kept_
 abbrev pub Fails : (List ℕ → List ℕ → Result Kept JournalFault) → List ℕ → JournalFault → Type 0
 Fails before bytes fault = (seen more : List ℕ) → before seen (bytes ++ more) ≡ Err fault
 
--- what stays also where a record is refused: the changes that were there are the first ones
+-- what stays also where a record is refused: the lists and the changes that were there are the first ones
 pub record KeepsFront (before after : Draft) : Type 0 where
   pub sized : after.sized ≡ before.sized
   pub epoch : after.epoch ≡ before.epoch
   pub changes : take (length before.changes.items) after.changes.items ≡ before.changes.items
+  pub declared : take (length before.lists.items) (declared_of after.lists.items) ≡ declared_of before.lists.items
 
 -- what bytes become after the line that begins a change, and before the next record
 abbrev pub after_begin : Draft → ListName → ℕ → ℕ → List ℕ → List ℕ → Result Kept JournalFault

@@ -393,8 +393,11 @@ impl Draft {
         requires draft { IsDraft self.old }
         ensures draft { OnOk result (IsDraft self.new) }
         ensures rest { IfOk result (λ rest. before_record self.old [] bytes.now ≡ Ok (kept_of_draft self.new rest.now)) }
+        ensures moves { IfOk result (λ rest. (more : List ℕ) → before_record self.old [] (bytes.now ++ more) ≡ before_record self.new [] (rest.now ++ more)) }
         ensures few { IfOk result (λ rest. length rest.now ≤ 132608) }
-        ensures fault { IfErr result (λ fault. (fault ≡ JournalFault.OutOfMemory) ⊎ (before_record self.old [] bytes.now ≡ Err fault)) }
+        ensures fault { IfErr result (λ fault. (fault ≡ JournalFault.OutOfMemory)
+            ⊎ ((more : List ℕ) → before_record self.old [] (bytes.now ++ more) ≡ Err fault)) }
+        ensures front { KeepsFront self.old self.new }
     {
         let mut rest = bytes;
         loop {

@@ -1,17 +1,31 @@
-use Rattle.std.proofs.Common.{◌∙◌, [], ap, sym}
+use Rattle.std.proofs.Common.{◌∙◌, [], ap, sym, refl, Ok}
 use Rattle.std.proofs.lemmas.List.{append-nil}
-use Rattle.list_versions.specs.Draft.{before_record}
+use Rattle.list_versions.specs.Draft.{before_record, kept_of_draft}
+use Rattle.list_versions.proofs.Keeping.{keeps_same, keeps_then}
 use Rattle.list_versions.proofs.Records.{map_fault}
 use Rattle.list_versions.proofs.draft.Draft.read_records.Goals as goal
+
+pub loop-next-init : goal.loop-next-init
+loop-next-init c = record { draft = c.requires.draft; same = λ more. refl; front = keeps_same c.args.self.now }
 
 pub loop-next-preserved : goal.loop-next-preserved
 loop-next-preserved c =
     let moves = rw c.in-Ok-Some.field-0-is at c.in-Ok-Some.ensures.moves in
     record {
       draft = c.in-Ok-Some.ensures.draft;
-      same = c.loop-next.invariant.same ∙ ap (before_record c.loop-next.self []) (sym (append-nil c.loop-next.rest.now)) ∙ moves [] ∙ ap (before_record c.read_record.new.self []) (append-nil c.in-Ok-Some.next.now);
+      same = λ more. c.loop-next.invariant.same more ∙ moves more;
+      front = keeps_then c.args.self.now c.loop-next.self c.read_record.new.self c.loop-next.invariant.front c.read_record.ensures.kept;
     }
 
 pub returns-in-Err-clause-fault : goal.returns-in-Err-clause-fault
-returns-in-Err-clause-fault c =
-    map_fault (λ fails. c.loop-next.invariant.same ∙ ap (before_record c.loop-next.self []) (sym (append-nil c.loop-next.rest.now)) ∙ fails []) c.in-Err.ensures.fault
+returns-in-Err-clause-fault c = map_fault (λ fails more. c.loop-next.invariant.same more ∙ fails more) c.in-Err.ensures.fault
+
+pub returns-in-Err-clause-front : goal.returns-in-Err-clause-front
+returns-in-Err-clause-front c = keeps_then c.args.self.now c.loop-next.self c.read_record.new.self c.loop-next.invariant.front c.read_record.ensures.kept
+
+pub returns-in-Ok-None-clause-rest : goal.returns-in-Ok-None-clause-rest
+returns-in-Ok-None-clause-rest c =
+    let same = rw c.in-Ok-None.field-0-is at c.in-Ok-None.ensures.same in
+    let waits = rw c.in-Ok-None.field-0-is at c.in-Ok-None.ensures.waits in
+    ap (before_record c.args.self.now []) (sym (append-nil c.args.bytes.now)) ∙ c.loop-next.invariant.same [] ∙ ap (before_record c.loop-next.self []) (append-nil c.loop-next.rest.now)
+    ∙ waits ∙ ap (λ draft. Ok (kept_of_draft draft c.loop-next.rest.now)) (sym same)
