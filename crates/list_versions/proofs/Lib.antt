@@ -1,12 +1,17 @@
 pub mod Applying
+pub mod Beginning
 pub mod Completing
 pub mod Crowds
 pub mod Digits
+pub mod Ending
 pub mod Finding
+pub mod Fronts
+pub mod Further
 pub mod Hexes
 pub mod Holding
 pub mod Keeping
 pub mod LineEnds
+pub mod LineFaults
 pub mod NameCodes
 pub mod Newests
 pub mod Parts

@@ -51,7 +51,7 @@ found_declared list (n ∷ newest) (l ∷ lists) names =
     let same : n.name ≡ l.name = cc in
     let others : map (λ (newest : Newest). newest.name) newest ≡ map (λ (listed : Listed). listed.name) lists = cc in
     one_more n (is_of list n) (same_name l.name list) (find (is_of list) newest) (list_any (λ (declared : ListName × ℕ). same_name declared.0 list) (declared_of lists))
-        (ap (λ name. same_name name list) same) (found_declared list newest lists others)
+    (ap (λ name. same_name name list) same) (found_declared list newest lists others)
 
 -- what the newest set of a list says
 pub record IsReady (versions : History) (list : ListName) (found : Newest) : Type 0 where

@@ -4,5 +4,6 @@ pub mod Limits
 pub mod Lines
 pub mod Live
 pub mod Loaded
+pub mod Pieces
 pub mod Printed
 pub mod Split

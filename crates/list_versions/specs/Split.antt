@@ -25,3 +25,8 @@ pub record IsLong (bytes : List ℕ) : Type 0 where
   pub whole : bytes ≡ front ++ others
   pub within : IsOneLine front
   pub long : most_line < length front
+
+-- the bytes end with these
+pub record EndsWith (bytes back : List ℕ) : Type 0 where
+  pub front : List ℕ
+  pub whole : bytes ≡ front ++ back

@@ -6,6 +6,7 @@ ghost use Rattle.list_versions.specs.Lines.{IsAdded};
 ghost use Rattle.list_versions.specs.Journal.{next_line, after_list, at_record, empty_history};
 ghost use Rattle.list_versions.specs.Limits.{most_hash_lines, most_changes};
 ghost use Rattle.list_versions.specs.Draft.{history_of, kept_of_draft, IsDraft, before_record, within_change, Moves, Waits, Fails, KeepsFront, after_begin, before_next};
+ghost use Rattle.list_versions.specs.Split.{EndsWith};
 
 use crate::JournalFault;
 use crate::heads::{Head, Header};
@@ -305,7 +306,7 @@ impl Draft {
         requires some { 1 ≤ to_add + to_remove }
         requires few { to_add + to_remove ≤ 1024 }
         ensures draft { OnOk result (IsDraft self.new) }
-        ensures shorter { IfOk result (λ found. IfSome found (λ rest. length rest.now ≤ length bytes.now)) }
+        ensures back { IfOk result (λ found. IfSome found (λ rest. EndsWith bytes.now rest.now)) }
         ensures moves { IfOk result (λ found. IfSome found (λ rest.
             Moves (after_begin self.old list to_add to_remove) (before_next self.new) bytes.now rest.now 132096)) }
         ensures waits { IfOk result (λ found. IfNone found (Waits self.old (after_begin self.old list to_add to_remove) bytes.now)) }
@@ -354,6 +355,7 @@ impl Draft {
         ensures draft { OnOk result (IsDraft self.new) }
         ensures moves { IfOk result (λ found. IfSome found (λ rest.
             (more : List ℕ) → before_record self.old [] (bytes.now ++ more) ≡ before_record self.new [] (rest.now ++ more))) }
+        ensures back { IfOk result (λ found. IfSome found (λ rest. EndsWith bytes.now rest.now)) }
         ensures shorter { IfOk result (λ found. IfSome found (λ rest. length rest.now < length bytes.now)) }
         ensures waits { IfOk result (λ found. IfNone found (before_record self.old [] bytes.now ≡ Ok (kept_of_draft self.old bytes.now))) }
         ensures front { IfOk result (λ found. IfNone found (length bytes.now ≤ 132608)) }
@@ -395,6 +397,7 @@ impl Draft {
         ensures rest { IfOk result (λ rest. before_record self.old [] bytes.now ≡ Ok (kept_of_draft self.new rest.now)) }
         ensures moves { IfOk result (λ rest. (more : List ℕ) → before_record self.old [] (bytes.now ++ more) ≡ before_record self.new [] (rest.now ++ more)) }
         ensures few { IfOk result (λ rest. length rest.now ≤ 132608) }
+        ensures back { IfOk result (λ rest. EndsWith bytes.now rest.now) }
         ensures fault { IfErr result (λ fault. (fault ≡ JournalFault.OutOfMemory)
             ⊎ ((more : List ℕ) → before_record self.old [] (bytes.now ++ more) ≡ Err fault)) }
         ensures front { KeepsFront self.old self.new }

@@ -75,11 +75,7 @@ impl History {
 
     /// Reads further bytes of the same journal to the end of its input. Lines are counted from the
     /// journal's first. An `Err` leaves the history as it was; what the source gave is gone then.
-    pub fn grow<S: Source>(
-        &mut self,
-        alloc: Global,
-        source: &mut S,
-    ) -> Result<(), JournalFault>
+    pub fn grow<S: Source>(&mut self, alloc: Global, source: &mut S) -> Result<(), JournalFault>
         ensures ok { OnOk result ((bytes : List ℕ) × Gives bytes true (S.left source.old) (S.left source.new)
             × (read_on self.old bytes ≡ Ok self.new)) }
         ensures fault { IfErr result (λ fault. (bytes : List ℕ) × (ended : Bool)
@@ -106,7 +102,7 @@ impl History {
         ensures few { result ≤ most_changes }
 
         // What holds of every history that was read.
-        ensures well_formed {IsWellFormed self.now.versions }
+        ensures well_formed { IsWellFormed self.now.versions }
         ensures within { WithinLimits self.now.versions }
     {
         self.draft.changes.len() as u64

@@ -21,5 +21,6 @@ mod lines;
 mod lists;
 mod live;
 mod newest;
+mod pieces;
 mod printing;
 mod split;

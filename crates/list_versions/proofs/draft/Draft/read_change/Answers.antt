@@ -5,6 +5,7 @@ use Rattle.list_versions.specs.Draft.{declared_of, history_of}
 use Rattle.list_versions.specs.Journal.{declared_size_of}
 use Rattle.list_versions.specs.declared.draft.Begin.{Begin}
 use Rattle.list_versions.proofs.Applying.{is_named}
+use Rattle.list_versions.proofs.Ending.{ends_moves}
 use Rattle.list_versions.proofs.Reading.{moves_then, waits_then, fails_then}
 use Rattle.list_versions.proofs.Records.{size_found, begin_same, moves_same, moves_to, waits_same, fails_same, fails_at_end, map_fault}
 use Rattle.list_versions.proofs.draft.Draft.read_change.Goals as goal
@@ -66,3 +67,9 @@ returns-in-Err-complete-clause-fault c =
     let second = rw (c.in-Ok-Some-read_removes.field-0-is, c.as_slice.ensures) at c.in-Ok-Some-read_removes.ensures.moves in
     let both = moves_then 132096 first second (omega (arith, c.requires.few)) in
     map_fault (λ fails. fails_same c.args.bytes.now c.in-Err-complete.fault same (fails_then c.in-Err-complete.fault both (fails_at_end c.in-Ok-Some-read_removes.taken.1.now c.in-Err-complete.fault fails))) c.in-Err-complete.ensures.fault
+
+pub returns-in-Ok-clause-back : goal.returns-in-Ok-clause-back
+returns-in-Ok-clause-back c =
+    let first = rw c.in-Ok-Some.field-0-is at c.in-Ok-Some.ensures.moves in
+    let second = rw (c.in-Ok-Some-read_removes.field-0-is, c.as_slice.ensures) at c.in-Ok-Some-read_removes.ensures.moves in
+    ends_moves (moves_then 132096 first second (omega (arith, c.requires.few)))

@@ -1,6 +1,7 @@
 use Rattle.std.proofs.Common.{◌≡◌, ◌∙◌, [], ap, sym, arith, inr, Some, Ok, Err}
 use Rattle.list_versions.specs.Draft.{kept_of_draft}
 use Rattle.list_versions.specs.Journal.{at_record}
+use Rattle.list_versions.proofs.Ending.{ends_line, ends_then, ends_longer, shorter_line}
 use Rattle.list_versions.proofs.Records.{record_front, record_long, record_bad, record_list, change_moves, change_waits, change_fails, map_fault}
 use Rattle.list_versions.proofs.draft.Draft.read_record.Goals as goal
 
@@ -44,3 +45,23 @@ returns-in-Err-read_change-clause-fault c =
     let line = rw c.in-Ok-Some.field-0-is at c.in-Ok-Some.ensures.whole in
     let is = ap Some (sym c.in-Some-Change.field-0-is) ∙ sym c.in-Some-Change.is ∙ c.read_head.ensures.value in
     map_fault (λ fails. change_fails c.args.self.now c.args.bytes.now c.in-Ok-Some.halves.0.now c.in-Ok-Some.halves.1.now c.in-Some-Change.list c.in-Some-Change.to_add c.in-Some-Change.to_remove c.in-Err-read_change.fault line is fails) c.in-Err-read_change.ensures.fault
+
+pub returns-in-Ok-clause-back : goal.returns-in-Ok-clause-back
+returns-in-Ok-clause-back c = ends_line c.args.bytes.now c.in-Ok-Some.halves.0.now c.in-Ok-Some.halves.1.now (rw c.in-Ok-Some.field-0-is at c.in-Ok-Some.ensures.whole)
+
+pub returns-in-Ok-Some-read_change-clause-back : goal.returns-in-Ok-Some-read_change-clause-back
+returns-in-Ok-Some-read_change-clause-back c =
+    ends_then c.args.bytes.now c.in-Ok-Some.halves.1.now c.in-Ok-Some-read_change.last.now
+    (ends_line c.args.bytes.now c.in-Ok-Some.halves.0.now c.in-Ok-Some.halves.1.now (rw c.in-Ok-Some.field-0-is at c.in-Ok-Some.ensures.whole))
+    (rw c.in-Ok-Some-read_change.field-0-is at c.in-Ok-Some-read_change.ensures.back)
+
+pub returns-in-Ok-clause-shorter : goal.returns-in-Ok-clause-shorter
+returns-in-Ok-clause-shorter c = shorter_line c.args.bytes.now c.in-Ok-Some.halves.0.now c.in-Ok-Some.halves.1.now (rw c.in-Ok-Some.field-0-is at c.in-Ok-Some.ensures.whole)
+
+pub returns-in-Ok-Some-read_change-clause-shorter : goal.returns-in-Ok-Some-read_change-clause-shorter
+returns-in-Ok-Some-read_change-clause-shorter c =
+    omega (
+      arith,
+      shorter_line c.args.bytes.now c.in-Ok-Some.halves.0.now c.in-Ok-Some.halves.1.now (rw c.in-Ok-Some.field-0-is at c.in-Ok-Some.ensures.whole),
+      ends_longer c.in-Ok-Some.halves.1.now c.in-Ok-Some-read_change.last.now (rw c.in-Ok-Some-read_change.field-0-is at c.in-Ok-Some-read_change.ensures.back),
+    )

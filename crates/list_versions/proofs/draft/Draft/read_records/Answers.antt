@@ -1,12 +1,13 @@
 use Rattle.std.proofs.Common.{◌∙◌, [], ap, sym, refl, Ok}
 use Rattle.std.proofs.lemmas.List.{append-nil}
 use Rattle.list_versions.specs.Draft.{before_record, kept_of_draft}
+use Rattle.list_versions.proofs.Ending.{ends_same, ends_then}
 use Rattle.list_versions.proofs.Keeping.{keeps_same, keeps_then}
 use Rattle.list_versions.proofs.Records.{map_fault}
 use Rattle.list_versions.proofs.draft.Draft.read_records.Goals as goal
 
 pub loop-next-init : goal.loop-next-init
-loop-next-init c = record { draft = c.requires.draft; same = λ more. refl; front = keeps_same c.args.self.now }
+loop-next-init c = record { draft = c.requires.draft; same = λ more. refl; back = ends_same c.args.bytes.now; front = keeps_same c.args.self.now }
 
 pub loop-next-preserved : goal.loop-next-preserved
 loop-next-preserved c =
@@ -14,6 +15,7 @@ loop-next-preserved c =
     record {
       draft = c.in-Ok-Some.ensures.draft;
       same = λ more. c.loop-next.invariant.same more ∙ moves more;
+      back = ends_then c.args.bytes.now c.loop-next.rest.now c.in-Ok-Some.next.now c.loop-next.invariant.back (rw c.in-Ok-Some.field-0-is at c.in-Ok-Some.ensures.back);
       front = keeps_then c.args.self.now c.loop-next.self c.read_record.new.self c.loop-next.invariant.front c.read_record.ensures.kept;
     }
 

@@ -29,8 +29,8 @@ found : (c : goal.After-newest_of) → Answers c.args.self.now.versions c.args.l
 found c =
     subst (λ kept. Answers kept.versions c.args.list c.newest_of.result) c.self.view_is
     (answers (λ a b. (c.names_go_by_their_codes.ensures.same a b).0) (history_of c.self.inside.draft) c.args.list c.self.inside.newest.items c.self.inside.draft.lists.items c.newest_of.result
-        c.self.invariant.each c.self.invariant.names refl
-        (c.newest_of.ensures ∙ ap (find (is_of c.args.list)) c.deref.ensures.value))
+    c.self.invariant.each c.self.invariant.names refl
+    (c.newest_of.ensures ∙ ap (find (is_of c.args.list)) c.deref.ensures.value))
 
 pub returns-clause-declared : goal.returns-clause-declared
 returns-clause-declared c = declared_in c.args.self.now.versions c.args.list c.newest_of.result (found c)
