@@ -12,12 +12,14 @@ pub mod Holding
 pub mod Keeping
 pub mod LineEnds
 pub mod LineFaults
+pub mod Membership
 pub mod NameCodes
 pub mod Newests
 pub mod Parts
 pub mod PrefixBytes
 pub mod Reading
 pub mod Records
+pub mod Shown
 pub mod Sources
 pub mod Splitting
 pub mod Starting

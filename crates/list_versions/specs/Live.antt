@@ -1,6 +1,7 @@
 -- How the newest full hashes of a list are kept: in buckets, one for each four bytes that a hash begins with.
-use Rattle.std.specs.Prelude.{◌≡◌, ℕ, ◌+◌, ◌-◌, ◌^◌, ◌<◌, ◌≤◌, List, [], ◌∷◌, length, filter, take, All, Option, Some, IsSome, cond}
+use Rattle.std.specs.Prelude.{◌≡◌, ℕ, ◌+◌, ◌-◌, ◌^◌, ◌<◌, ◌≤◌, List, [], ◌∷◌, length, filter, take, All, Option, Some, IsSome, cond, min, max}
 use Rattle.std.specs.BTreeMap.{is_at}
+use Rattle.std.specs.List.{flat_map}
 use Rattle.std.specs.Map.{lookup}
 use Rattle.std.specs.Option.{unwrap_or}
 use Rattle.sb_model.specs.declared.history.Added.{Added}
@@ -43,3 +44,11 @@ pub record Replaces (before after : Live) (head : List ℕ) (next : List Added) 
   pub count : before.count + length next < 2 ^ 64 → after.count ≡ before.count + length next - length (bucket_in before.buckets.entries head)
   pub bytes : prefix_bytes (bucket_in before.buckets.entries head) < 2 ^ 64 → before.bytes + prefix_bytes next < 2 ^ 64
       → after.bytes ≡ before.bytes + prefix_bytes next - prefix_bytes (bucket_in before.buckets.entries head)
+
+-- the prefix that is made of a full hash; where its size is from 4 to 32, the one that is published
+abbrev pub shown : Added → List ℕ
+shown entry = take (min (max entry.size 4) 32) entry.hash
+
+-- the full hashes of some buckets, one after the other
+abbrev pub in_buckets : List (List Added) → List Added
+in_buckets buckets = flat_map (λ bucket. bucket) buckets

@@ -23,4 +23,5 @@ mod live;
 mod newest;
 mod pieces;
 mod printing;
+mod published;
 mod split;
