@@ -5,6 +5,7 @@ pub mod Crowds
 pub mod Digits
 pub mod Ending
 pub mod Finding
+pub mod Folds
 pub mod Fronts
 pub mod Further
 pub mod Hexes

@@ -1,4 +1,5 @@
 pub mod Draft
+pub mod Folding
 pub mod Journal
 pub mod Limits
 pub mod Lines

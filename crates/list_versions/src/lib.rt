@@ -15,6 +15,7 @@ pub use split::{LongLine, next_line};
 mod buckets;
 mod draft;
 mod fault;
+mod folding;
 mod heads;
 mod history;
 mod lines;

@@ -1,0 +1,99 @@
+-- Folding the changes of a history.
+use Rattle.std.proofs.Common.{◌≡◌, ◌≢◌, ℕ, ◌+◌, ◌^◌, ◌<◌, ◌≤◌, ◌⊎◌, inl, inr, List, [], ◌∷◌, length, take, map, get_or, fold, refl, sym, ap, subst, ◌∙◌, arith, Bool, true, false, nat_le, get_or-set_other, get_or-set_same}
+use Rattle.std.specs.Prelude.{All, sum_by, slice_set}
+use Rattle.std.proofs.Math.ListN.{set}
+use Rattle.std.proofs.lemmas.Bool.Decides.{nat_tests}
+use Rattle.std.proofs.lemmas.List.{take_all, take-take, length-map, length-take}
+use Rattle.std.proofs.lemmas.List.Elements.{All-weaker, All-cons, All-nil, All-get_or, All-from_get_or, All-head, All-tail}
+use Rattle.std.proofs.lemmas.List.Sums.{sum_by-append}
+use borrow.Author.Count.{below_more}
+use Rattle.sb_model.specs.declared.history.Added.{Added}
+use Rattle.sb_model.specs.declared.history.Change.{Change}
+use Rattle.sb_model.specs.declared.names.ListName.{ListName}
+use Rattle.sb_model.specs.History.{History, after_change, declares, sizes_at, version_count, IsPrefixSize, IsWellFormed}
+use Rattle.list_versions.specs.declared.draft.Draft.{Draft}
+use Rattle.list_versions.specs.declared.draft.Listed.{Listed}
+use Rattle.list_versions.specs.Draft.{declared_of, history_of, IsDraft, KeepsFront}
+use Rattle.list_versions.specs.Folding.{after_changes, IsFoldable, StaysSmall}
+use Rattle.list_versions.specs.Limits.{hash_lines, WithinLimits}
+use Rattle.list_versions.specs.Live.{Holds}
+use Rattle.list_versions.specs.Loaded.{IsStem}
+
+few_adds : (changes : List Change) → All (λ (c : Change). length c.adds ≤ hash_lines changes) changes
+few_adds [] = All-nil (λ (c : Change). length c.adds ≤ 0)
+few_adds (change ∷ changes) =
+    let sum : hash_lines (change ∷ changes) ≡ (0 + (length change.adds + length change.removes)) + hash_lines changes = sum_by-append (λ (c : Change). length c.adds + length c.removes) (change ∷ []) changes in
+    let here : length change.adds ≤ hash_lines (change ∷ changes) = omega (arith, sum) in
+    All-cons (λ (c : Change). length c.adds ≤ hash_lines (change ∷ changes)) change changes here
+    (All-weaker (λ (c : Change). length c.adds ≤ hash_lines changes) (λ (c : Change). length c.adds ≤ hash_lines (change ∷ changes)) (λ c h. omega (arith, sum, h)) changes (few_adds changes))
+
+foldable_one : (n : ℕ) (c : Change) → n ≤ 2097152 → All (λ (added : Added). (length added.hash ≡ 32) × IsPrefixSize added.size) c.adds → length c.adds ≤ n → IsFoldable c
+foldable_one n c few sizes count = record {
+  sizes = All-weaker (λ (added : Added). (length added.hash ≡ 32) × IsPrefixSize added.size) (λ (added : Added). 4 ≤ added.size) (λ added h. h.1.low) c.adds sizes;
+  few = omega arith;
+}
+
+pub foldable : (draft : Draft) → IsStem draft → All IsFoldable draft.changes.items
+foldable draft h = λ i d lt.
+    foldable_one (hash_lines draft.changes.items) (get_or draft.changes.items i d) (omega (arith, h.hashes, h.few_hashes)) (h.well_formed.adds i d lt) (few_adds draft.changes.items i d lt)
+
+small_at : (draft : Draft) (list : ListName) (version k : ℕ) (b : Bool) → nat_le k version ≡ b → IsStem draft → version ≤ length draft.changes.items → length (after_changes list (take k (take version draft.changes.items))) < 2 ^ 32
+small_at draft list version k true e h fits =
+    let below : k ≤ version = grind (arith, nat_tests) in
+    let w = (h.within list k (omega arith)).count in
+    let same = ap (λ cs. length (after_changes list cs)) (take-take k version draft.changes.items below) in
+    omega arith
+small_at draft list version k false e h fits =
+    let above : version ≤ k = grind (arith, nat_tests) in
+    let w = (h.within list version fits).count in
+    let same = ap (λ cs. length (after_changes list cs)) (take_all k (take version draft.changes.items) (omega (arith, length-take version draft.changes.items))) in
+    omega arith
+
+pub stays_small : (draft : Draft) (list : ListName) (version : ℕ) → IsStem draft → version ≤ length draft.changes.items → StaysSmall list (take version draft.changes.items)
+stays_small draft list version h fits = record { small = λ k. small_at draft list version k (nat_le k version) refl h fits }
+
+pub all_stay_small : (draft : Draft) (list : ListName) → IsStem draft → StaysSmall list draft.changes.items
+all_stay_small draft list h =
+    subst (StaysSmall list) (take_all (length draft.changes.items) draft.changes.items (omega arith)) (stays_small draft list (length draft.changes.items) h (omega arith))
+
+-- the tables of a list that are made anew
+abbrev pub IsRefreshed : List Change → Listed → Type 0
+IsRefreshed changes list = Holds list.live (after_changes list.name changes)
+
+pub refreshed_more : (changes : List Change) (lists : List Listed) (i : ℕ) (v d : Listed) → i < length lists → v.name ≡ (get_or lists i d).name → Holds v.live (after_changes (get_or lists i d).name changes)
+    → ((k : ℕ) (e : Listed) → k < i → IsRefreshed changes (get_or lists k e)) → (k : ℕ) (e : Listed) → k < i + 1 → IsRefreshed changes (get_or (set lists i v) k e)
+refreshed_more changes lists i v d lt name holds before k e =
+    below_more (λ (j : ℕ). IsRefreshed changes (get_or (set lists i v) j e)) i
+    (λ j h. let ne : j ≢ i = omega arith in rw get_or-set_other (before j e h))
+    (rw get_or-set_same (let P : ListName → Type 0 = λ n. Holds v.live (after_changes n changes) in subst P (sym name) holds))
+    k
+
+-- a history whose tables are made anew
+pub draft_refreshed : (old new : Draft) → IsStem old → declared_of new.lists.items ≡ declared_of old.lists.items → new.epoch ≡ old.epoch → new.changes ≡ old.changes → new.hashes ≡ old.hashes
+    → All (IsRefreshed old.changes.items) new.lists.items → IsDraft new
+draft_refreshed old new h declared epoch changes hashes all =
+    let items = ap (λ cs. cs.items) changes in
+    let history : history_of new ≡ history_of old = λ i. record { epoch = epoch i; declared = declared i; changes = items i } in
+    let whole : take (length new.changes.items) new.changes.items ≡ old.changes.items = take_all (length new.changes.items) new.changes.items (omega arith) ∙ items in
+    record {
+      hashes = hashes ∙ h.hashes ∙ ap hash_lines (sym items);
+      few_lists = omega (arith, ap length declared, h.few_lists, length-map {B = ListName × ℕ} new.lists.items (λ (l : Listed). (l.name, l.size)), length-map {B = ListName × ℕ} old.lists.items (λ (l : Listed). (l.name, l.size)));
+      few_changes = omega (arith, ap length items, h.few_changes);
+      few_hashes = omega (arith, hashes, h.few_hashes);
+      live = All-weaker (IsRefreshed old.changes.items) (λ (list : Listed). Holds list.live (sizes_at (history_of new) list.name (length new.changes.items)))
+          (λ list k. subst (λ cs. Holds list.live (after_changes list.name cs)) (sym whole) k) new.lists.items all;
+      declared = subst (λ (v : History). All (λ (c : Change). declares v c.list ≡ true) v.changes) (sym history) h.declared;
+      within = subst (λ (v : History). WithinLimits v) (sym history) h.within;
+      well_formed = subst (λ (v : History). IsWellFormed v) (sym history) h.well_formed;
+    }
+
+pub draft_stem : (draft : Draft) → IsDraft draft → IsStem draft
+draft_stem draft h = record {
+  hashes = h.hashes;
+  few_lists = h.few_lists;
+  few_changes = h.few_changes;
+  few_hashes = h.few_hashes;
+  declared = h.declared;
+  within = h.within;
+  well_formed = h.well_formed;
+}
