@@ -1,8 +1,7 @@
 -- Lists to which a change is applied.
-use Rattle.std.proofs.Common.{◌≡◌, ℕ, suc, zero, ◌+◌, ◌^◌, ◌<◌, ◌≤◌, List, [], ◌∷◌, Bool, true, false, cond, length, get_or, set, refl, sym, ap, ◌∙◌, subst, arith, rules, fold, map, Option, below_more, get_or-set_other, get_or-set_same, ◌≢◌, drop, add-one, Some, None}
+use Rattle.std.proofs.Common.{◌≡◌, ℕ, suc, zero, ◌+◌, ◌^◌, ◌<◌, ◌≤◌, List, [], ◌∷◌, Bool, true, false, cond, length, get_or, set, refl, sym, ap, ◌∙◌, subst, arith, fold, Option, below_more, get_or-set_other, get_or-set_same, ◌≢◌, drop, add-one, Some}
 use Rattle.std.specs.Prelude.{All, find}
 use Rattle.std.proofs.Math.Seq.{drop-cons}
-use Rattle.std.proofs.lemmas.Grind.{common_steps}
 use Rattle.sb_model.specs.declared.history.Added.{Added}
 use Rattle.sb_model.specs.declared.history.Change.{Change}
 use Rattle.sb_model.specs.declared.names.ListName.{ListName}

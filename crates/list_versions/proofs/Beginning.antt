@@ -1,11 +1,10 @@
 -- The first line of a journal.
-use Rattle.std.proofs.Common.{◌≡◌, ℕ, ◌<◌, ◌≤◌, List, [], ◌∷◌, ◌++◌, Bool, true, false, length, nat_lt, if◌then◌else◌, Option, Some, None, Result, Ok, Err, refl, sym, ap, ◌∙◌, arith}
+use Rattle.std.proofs.Common.{◌≡◌, ℕ, ◌<◌, ◌≤◌, List, [], ◌∷◌, ◌++◌, Bool, true, false, length, nat_lt, if◌then◌else◌, Some, None, Err, refl, sym, ap, ◌∙◌, arith}
 use Rattle.std.specs.List.{slice_split}
 use Rattle.std.proofs.lemmas.Bool.Decides.{nat_tests}
-use Rattle.list_versions.specs.declared.fault.JournalFault.{JournalFault}
 use Rattle.list_versions.specs.declared.fault.JournalFault.TheVariants as fault
 use Rattle.list_versions.specs.declared.heads.Header.{Header}
-use Rattle.list_versions.specs.Journal.{Kept, kept_of, after_first, after_header, after_parts, after_bytes, if_short, most_line}
+use Rattle.list_versions.specs.Journal.{kept_of, after_first, after_header, after_bytes, if_short, most_line}
 use Rattle.list_versions.specs.Lines.{is_newline, header_of}
 use Rattle.list_versions.specs.Pieces.{reading_of}
 use Rattle.list_versions.specs.Split.{IsLine, IsLong}

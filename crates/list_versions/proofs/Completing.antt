@@ -1,6 +1,6 @@
 -- A change that has come whole.
-use Rattle.std.proofs.Common.{◌≡◌, ℕ, ◌+◌, ◌^◌, ◌<◌, ◌≤◌, nat_lt, nat_le, nat_eq, List, [], ◌∷◌, ◌++◌, Bool, true, false, not, ◌||◌, ◌&&◌, cond, if◌then◌else◌, length, get_or, take, refl, sym, ap, ◌∙◌, subst, arith, rules, fold, map, Option, Some, None, Result, Ok, Err, length-append, eq-eqb, ◌⊎◌, inl, inr}
-use Rattle.std.specs.Prelude.{All, sum_by}
+use Rattle.std.proofs.Common.{◌≡◌, ℕ, ◌+◌, ◌<◌, ◌≤◌, nat_lt, nat_le, List, [], ◌∷◌, ◌++◌, Bool, true, false, ◌||◌, if◌then◌else◌, length, take, refl, sym, ap, ◌∙◌, subst, arith, fold, Option, Some, None, Result, Ok, Err, length-append, eq-eqb, ◌⊎◌, inl, inr}
+use Rattle.std.specs.Prelude.{All}
 use Rattle.std.specs.List.{list_any}
 use Rattle.std.proofs.lemmas.Bool.{cases_lt}
 use Rattle.std.proofs.lemmas.Bool.Decides.{nat_tests}
@@ -10,19 +10,19 @@ use Rattle.std.proofs.lemmas.List.Sums.{sum_by-append}
 use Rattle.sb_model.specs.declared.history.Added.{Added}
 use Rattle.sb_model.specs.declared.history.Change.{Change}
 use Rattle.sb_model.specs.declared.names.ListName.{ListName}
-use Rattle.sb_model.specs.History.{History, after_change, sizes_at, version_count, declares, IsWellFormed, IsPrefixSize}
+use Rattle.sb_model.specs.History.{History, after_change, sizes_at, version_count, declares, IsPrefixSize}
 use Rattle.sb_model.specs.Names.{same_name}
 use Rattle.list_versions.specs.Lines.{IsAdded}
-use Rattle.list_versions.specs.Limits.{IsUncrowded, IsWithin, WithinLimits, limit_fault, is_crowded, prefix_bytes, most_hashes, most_prefix_bytes, hash_lines, most_lists}
-use Rattle.list_versions.specs.Journal.{Kept, Begun, Reading, ◌>>=◌, after_bytes, at_record, settled, completed, is_complete, if_within_limits, with_change, change_of, next_line, lines_begun, after_list}
-use Rattle.list_versions.specs.Draft.{declared_of, history_of, kept_of_draft, IsDraft, begun_of, before_record, within_change}
+use Rattle.list_versions.specs.Limits.{IsWithin, WithinLimits, limit_fault, is_crowded, prefix_bytes, most_hashes, most_prefix_bytes, hash_lines, most_lists}
+use Rattle.list_versions.specs.Journal.{Reading, settled, is_complete, if_within_limits, with_change, change_of, next_line, lines_begun, after_list}
+use Rattle.list_versions.specs.Draft.{declared_of, history_of, kept_of_draft, IsDraft, begun_of}
 use Rattle.list_versions.specs.Live.{Holds}
 use Rattle.list_versions.specs.declared.draft.Begin.{Begin}
 use Rattle.list_versions.specs.declared.draft.Draft.{Draft}
 use Rattle.list_versions.specs.declared.draft.Listed.{Listed}
 use Rattle.list_versions.specs.declared.fault.JournalFault.{JournalFault}
 use Rattle.list_versions.specs.declared.fault.JournalFault.TheVariants as fault
-use Rattle.list_versions.proofs.Applying.{IsApplied, own_change}
+use Rattle.list_versions.proofs.Applying.{IsApplied}
 use Rattle.list_versions.proofs.Crowds.{uncrowded}
 use Rattle.list_versions.proofs.NameCodes.{names_same}
 

@@ -1,5 +1,5 @@
 -- Bytes that end with others.
-use Rattle.std.proofs.Common.{◌≡◌, ℕ, ◌-◌, ◌+◌, ◌<◌, ◌≤◌, List, [], ◌∷◌, ◌++◌, length, drop, refl, sym, ap, ◌∙◌, append_assoc, length-append, arith, Result}
+use Rattle.std.proofs.Common.{◌≡◌, ℕ, ◌-◌, ◌<◌, ◌≤◌, List, [], ◌∷◌, ◌++◌, length, drop, refl, sym, ap, ◌∙◌, append_assoc, length-append, arith, Result}
 use Rattle.std.proofs.lemmas.List.{drop_at}
 use Rattle.list_versions.specs.Lines.{newline}
 use Rattle.list_versions.specs.declared.fault.JournalFault.{JournalFault}

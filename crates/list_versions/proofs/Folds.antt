@@ -1,19 +1,19 @@
 -- Folding the changes of a history.
-use Rattle.std.proofs.Common.{◌≡◌, ◌≢◌, ℕ, ◌+◌, ◌^◌, ◌<◌, ◌≤◌, ◌⊎◌, inl, inr, List, [], ◌∷◌, length, take, map, get_or, fold, refl, sym, ap, subst, ◌∙◌, arith, Bool, true, false, nat_le, get_or-set_other, get_or-set_same}
-use Rattle.std.specs.Prelude.{All, sum_by, slice_set}
+use Rattle.std.proofs.Common.{◌≡◌, ◌≢◌, ℕ, ◌+◌, ◌^◌, ◌<◌, ◌≤◌, List, [], ◌∷◌, length, take, get_or, refl, sym, ap, subst, ◌∙◌, arith, Bool, true, false, nat_le, get_or-set_other, get_or-set_same}
+use Rattle.std.specs.Prelude.{All}
 use Rattle.std.proofs.Math.ListN.{set}
 use Rattle.std.proofs.lemmas.Bool.Decides.{nat_tests}
 use Rattle.std.proofs.lemmas.List.{take_all, take-take, length-map, length-take}
-use Rattle.std.proofs.lemmas.List.Elements.{All-weaker, All-cons, All-nil, All-get_or, All-from_get_or, All-head, All-tail}
+use Rattle.std.proofs.lemmas.List.Elements.{All-weaker, All-cons, All-nil}
 use Rattle.std.proofs.lemmas.List.Sums.{sum_by-append}
 use borrow.Author.Count.{below_more}
 use Rattle.sb_model.specs.declared.history.Added.{Added}
 use Rattle.sb_model.specs.declared.history.Change.{Change}
 use Rattle.sb_model.specs.declared.names.ListName.{ListName}
-use Rattle.sb_model.specs.History.{History, after_change, declares, sizes_at, version_count, IsPrefixSize, IsWellFormed}
+use Rattle.sb_model.specs.History.{History, declares, sizes_at, IsPrefixSize, IsWellFormed}
 use Rattle.list_versions.specs.declared.draft.Draft.{Draft}
 use Rattle.list_versions.specs.declared.draft.Listed.{Listed}
-use Rattle.list_versions.specs.Draft.{declared_of, history_of, IsDraft, KeepsFront}
+use Rattle.list_versions.specs.Draft.{declared_of, history_of, IsDraft}
 use Rattle.list_versions.specs.Folding.{after_changes, IsFoldable, StaysSmall}
 use Rattle.list_versions.specs.Limits.{hash_lines, WithinLimits}
 use Rattle.list_versions.specs.Live.{Holds}

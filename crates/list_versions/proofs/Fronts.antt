@@ -1,9 +1,9 @@
 -- Bytes that a source gives one after the other.
-use Rattle.std.proofs.Common.{◌≡◌, ℕ, List, [], ◌∷◌, ◌++◌, Option, Some, None, Bool, true, false, refl, sym, ap, ◌∙◌, append_assoc}
+use Rattle.std.proofs.Common.{◌≡◌, ℕ, List, [], ◌++◌, Option, Some, None, Bool, true, false, refl, sym, ap, ◌∙◌, append_assoc}
 use Rattle.std.proofs.lemmas.List.{append-nil}
 use Rattle.std.specs.Prelude.{IfSome}
 use Rattle.sb_outside.specs.Outside.{prepended, bytes_left, next_piece, left_after_end, GivesFront, AnswersEnd}
-use Rattle.sb_outside.specs.Reading.{ReadsToEnd, GivesSome}
+use Rattle.sb_outside.specs.Reading.{ReadsToEnd}
 use Rattle.list_versions.specs.Loaded.{Gives}
 
 prepended-prepended : (front back : List ℕ) (known : Option (List ℕ)) → prepended front (prepended back known) ≡ prepended (front ++ back) known

@@ -1,5 +1,5 @@
 -- Texts of hexadecimal digits.
-use Rattle.std.proofs.Common.{◌≡◌, ℕ, ◌*◌, List, Bool, true, false, nat_eq, length, refl, sym, ◌∙◌, eq-eqb, Option, Some, None, Result, Ok, Err, if◌then◌else◌, arith, rules}
+use Rattle.std.proofs.Common.{◌≡◌, ℕ, List, Bool, true, false, nat_eq, length, refl, sym, ◌∙◌, eq-eqb, Some, None, Result, Ok, Err, if◌then◌else◌, arith}
 use Rattle.std.specs.Int.{w64, from_be_bytes}
 use Rattle.std.specs.Option.{option_map}
 use Rattle.std.specs.Result.{result_ok, MatchResult}

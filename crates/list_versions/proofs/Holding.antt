@@ -1,6 +1,6 @@
 -- What is held where a bucket takes the place of another.
-use Rattle.std.proofs.Common.{◌≡◌, ℕ, ◌+◌, ◌-◌, ◌*◌, ◌^◌, ◌<◌, ◌≤◌, List, [], ◌∷◌, ◌++◌, Bool, true, false, not, ◌||◌, cond, length, take, drop, map, refl, sym, ap, ◌∙◌, subst, arith, rules, get_or, add-one, length-append}
-use Rattle.std.specs.List.{list_any, filter}
+use Rattle.std.proofs.Common.{◌≡◌, ℕ, ◌+◌, ◌-◌, ◌^◌, ◌<◌, ◌≤◌, List, [], ◌∷◌, Bool, true, false, not, cond, length, take, drop, refl, sym, ap, ◌∙◌, arith, get_or, add-one, length-append}
+use Rattle.std.specs.List.{filter}
 use Rattle.std.specs.Str.{bytes_eq}
 use Rattle.std.specs.Prelude.{All, fold, OnOk, Result, Ok, Err}
 use Rattle.std.proofs.lemmas.Grind.{common_steps}

@@ -20,8 +20,8 @@ pub mod Parts
 pub mod PrefixBytes
 pub mod Reading
 pub mod Records
+pub mod Renewed
 pub mod Shown
-pub mod Sources
 pub mod Splitting
 pub mod Starting
 pub mod Words

@@ -1,5 +1,5 @@
 -- Lines have no other faults than those of lines.
-use Rattle.std.proofs.Common.{◌≡◌, ◌≢◌, ℕ, ◌+◌, Bool, true, false, ◌||◌, ◌&&◌, nat_lt, nat_le, if◌then◌else◌, List, [], ◌∷◌, ◌++◌, length, Option, Some, None, Result, Ok, Err, subst, ◌⊎◌, inl, inr, sym, ◌∙◌}
+use Rattle.std.proofs.Common.{◌≡◌, ◌≢◌, ℕ, ◌+◌, Bool, true, false, ◌||◌, nat_lt, nat_le, if◌then◌else◌, List, [], ◌∷◌, ◌++◌, length, Option, Some, None, Result, Ok, Err, subst, ◌⊎◌, inl, inr, sym, ◌∙◌}
 use Rattle.std.specs.Prelude.{⊤}
 use Rattle.std.specs.List.{slice_split}
 use Rattle.sb_model.specs.declared.history.Added.{Added}
@@ -12,7 +12,7 @@ use Rattle.list_versions.specs.declared.heads.Head.{Head}
 use Rattle.list_versions.specs.declared.heads.Head.TheVariants as head
 use Rattle.list_versions.specs.Draft.{before_record}
 use Rattle.list_versions.specs.Journal.{Kept, Begun, Reading, ◌>>=◌, after_list, after_change_line, after_head, if_within_limits, completed, settled, counted, with_add, with_remove, after_line_of, after_line, line_fault, after_front, after_part, after_parts, after_bytes, if_short, declared_size_of, with_bytes, adds_next, is_complete, with_change, change_of, next_line, lines_begun, most_line, at_record, with_list}
-use Rattle.list_versions.specs.Limits.{limit_fault, is_crowded, prefix_bytes, most_hashes, most_prefix_bytes, most_changes, most_lists, most_hash_lines, hash_lines}
+use Rattle.list_versions.specs.Limits.{is_crowded, prefix_bytes, most_hashes, most_prefix_bytes, most_changes, most_lists, most_hash_lines, hash_lines}
 use Rattle.list_versions.specs.Lines.{newline, is_newline, head_of, added_of, removed_of}
 use Rattle.list_versions.specs.Pieces.{Further, IsBad, FaultAt}
 

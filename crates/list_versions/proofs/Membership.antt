@@ -1,5 +1,5 @@
 -- What is in a list, by recursion on it.
-use Rattle.std.proofs.Common.{◌≡◌, ℕ, zero, suc, ◌+◌, ◌<◌, ◌≤◌, ◌⊎◌, inl, inr, Bool, true, false, cond, List, [], ◌∷◌, ◌++◌, length, map, get_or, refl, sym, ap, subst, ◌∙◌, arith, Some}
+use Rattle.std.proofs.Common.{◌≡◌, ℕ, zero, suc, ◌<◌, ◌⊎◌, inl, inr, Bool, true, false, cond, List, [], ◌∷◌, ◌++◌, length, map, get_or, refl, sym, ap, subst, ◌∙◌, arith, Some}
 use Rattle.std.specs.Prelude.{Contains, filter, slice_get}
 use Rattle.std.specs.List.{flat_map}
 
@@ -61,8 +61,9 @@ pub record Shows {S : Type 0} (P : S → Type 0) (ss : List S) : Type 0 where
 pub from_flat_map : {S X : Type 0} (f : S → List X) (x : X) (ss : List S) → In x (flat_map f ss) → Shows (λ s. In x (f s)) ss
 from_flat_map f x [] h = absurd h
 from_flat_map {S} {X} f x (s ∷ ss) h = elim (in_either x (f s) (flat_map f ss) h) [
-    inl a ↦ record { item = s; there = inl refl; holds = a }
-  | inr b ↦ (let more : Shows (λ (s : S). In x (f s)) ss = from_flat_map f x ss b in record { item = more.item; there = inr more.there; holds = more.holds }) ]
+  | inl a ↦ record { item = s; there = inl refl; holds = a }
+  | inr b ↦ (let more : Shows (λ (s : S). In x (f s)) ss = from_flat_map f x ss b in record { item = more.item; there = inr more.there; holds = more.holds })
+]
 
 pub in_map : {S X : Type 0} (f : S → X) (s : S) (ss : List S) → In s ss → In (f s) (map f ss)
 in_map f s [] h = absurd h

@@ -1,9 +1,6 @@
 -- Names that have the same codes are the same.
-use Rattle.std.proofs.Common.{◌≡◌, ℕ, List, [], ◌∷◌, Bool, true, false, ◌&&◌, ◌||◌, nat_eq, refl, sym, ap, ◌∙◌, Option, Some, None, arith, get_or, length, ◌<◌, eq-eqb}
-use Rattle.std.specs.Prelude.{position, All}
-use Rattle.std.specs.List.{list_any}
+use Rattle.std.proofs.Common.{◌≡◌, ℕ, Bool, true, false, ◌&&◌, nat_eq, refl, sym, ap, ◌∙◌, Some, eq-eqb}
 use Rattle.std.proofs.lemmas.Bool.{eqb-true}
-use Rattle.std.proofs.lemmas.List.Quantifiers.{position-Some}
 use Rattle.sb_model.specs.declared.names.ThreatType.{ThreatType}
 use Rattle.sb_model.specs.declared.names.ThreatType.TheVariants as threat
 use Rattle.sb_model.specs.declared.names.PlatformType.{PlatformType}

@@ -1,6 +1,6 @@
 -- What is found among the newest sets of the declared lists.
-use Rattle.std.proofs.Common.{◌≡◌, ℕ, Bool, true, false, cond, ◌||◌, List, [], ◌∷◌, map, refl, sym, ap, ◌∙◌, subst, rules, Bor}
-use Rattle.std.specs.Prelude.{All, find, option_copied, Option, Some, None, IfSome, IfNone, length}
+use Rattle.std.proofs.Common.{◌≡◌, ℕ, Bool, true, false, cond, ◌||◌, List, [], ◌∷◌, map, refl, sym, ap, ◌∙◌, subst, Bor}
+use Rattle.std.specs.Prelude.{All, find, option_copied, Option, Some, None}
 use Rattle.std.specs.List.{list_any}
 use Rattle.std.proofs.lemmas.List.Elements.{All-head, All-tail}
 use Rattle.sha2.specs.Sha256.{sha256}

@@ -1,6 +1,6 @@
 -- The parts of a text between the bytes that pass a test.
-use Rattle.std.proofs.Common.{◌≡◌, ℕ, ◌+◌, ◌-◌, ◌<◌, ◌≤◌, List, [], ◌∷◌, Bool, true, false, length, take, drop, refl, ap, ◌∙◌, subst, cond, Option, Some, None, arith, nat_lt}
-use Rattle.std.specs.Prelude.{position, is_some}
+use Rattle.std.proofs.Common.{◌≡◌, ℕ, ◌+◌, ◌-◌, ◌<◌, ◌≤◌, List, [], ◌∷◌, Bool, true, false, length, take, drop, refl, subst, cond, Some, None, arith, nat_lt}
+use Rattle.std.specs.Prelude.{position}
 use Rattle.std.specs.List.{slice_split, position_or_len}
 use Rattle.std.proofs.lemmas.List.Quantifiers.{position-Some}
 use Rattle.std.proofs.lemmas.List.Sums.{position_or_len_is, fails_before_first}

@@ -1,10 +1,10 @@
 -- How many bytes the prefixes of full hashes have, each counted once.
-use Rattle.std.proofs.Common.{◌≡◌, ℕ, ◌+◌, ◌*◌, ◌<◌, ◌≤◌, List, [], ◌∷◌, ◌++◌, Bool, true, false, not, ◌||◌, cond, length, take, drop, map, refl, sym, ap, ◌∙◌, subst, arith, rules, Ordering, get_or, length-append, zero-add}
+use Rattle.std.proofs.Common.{◌≡◌, ℕ, ◌+◌, ◌*◌, ◌≤◌, List, [], ◌∷◌, ◌++◌, Bool, true, false, ◌||◌, cond, length, map, refl, sym, ap, ◌∙◌, arith, Ordering, length-append, zero-add}
 use Rattle.std.specs.declared.cmp.Ordering.TheVariants.{Less, Equal, Greater}
 use Rattle.std.specs.Cmp.Lexicographic.{nat_list_cmp_total}
-use Rattle.std.specs.List.{list_any, filter, flat_map, AllByRecursion}
+use Rattle.std.specs.List.{list_any, AllByRecursion}
 use Rattle.std.specs.List.Sorted.{IsStrictlySortedBy}
-use Rattle.std.specs.Ordering.{nat_cmp, match_ordering, ordering_reverse, is_eq}
+use Rattle.std.specs.Ordering.{match_ordering, ordering_reverse, is_eq}
 use Rattle.std.specs.Str.{bytes_eq}
 use Rattle.std.specs.Prelude.{All}
 use Rattle.std.proofs.lemmas.Map.Text.{is_eq-slice_cmp}
@@ -14,7 +14,7 @@ use Rattle.sb_model.specs.History.{prefix_of}
 use Rattle.sb_model.specs.Prefixes.{bytes_cmp, IsRising, with_member, set_of, concatenation}
 use Rattle.list_versions.specs.Limits.{prefix_bytes}
 use Rattle.list_versions.specs.Live.{IsPublishable}
-use Rattle.list_versions.proofs.Finding.{same_bytes, bytes_are_same}
+use Rattle.list_versions.proofs.Finding.{same_bytes}
 
 -- whether some bytes are a member
 abbrev pub has_member : List (List ℕ) → List ℕ → Bool

@@ -1,20 +1,20 @@
 -- What lines do to a reading.
-use Rattle.std.proofs.Common.{◌≡◌, ℕ, ◌+◌, ◌-◌, ◌<◌, ◌≤◌, nat_lt, nat_eq, List, [], ◌∷◌, ◌++◌, Bool, true, false, ◌&&◌, cond, if◌then◌else◌, length, refl, sym, ap, ◌∙◌, subst, arith, rules, length-append, append_assoc, Option, Some, None, Result, Ok, Err, eq-eqb}
+use Rattle.std.proofs.Common.{◌≡◌, ℕ, ◌+◌, ◌<◌, ◌≤◌, nat_lt, nat_eq, List, [], ◌∷◌, ◌++◌, Bool, true, false, ◌&&◌, if◌then◌else◌, length, refl, sym, ap, ◌∙◌, arith, length-append, append_assoc, Option, Some, None, Result, Ok, Err}
 use Rattle.std.specs.List.{slice_split}
 use Rattle.std.proofs.lemmas.Bool.Decides.{nat_tests}
 use Rattle.std.proofs.lemmas.List.{append-nil}
 use Rattle.sb_model.specs.declared.history.Added.{Added}
-use Rattle.list_versions.specs.Lines.{newline, is_newline, added_of, removed_of, head_of}
+use Rattle.list_versions.specs.Lines.{newline, is_newline, added_of, removed_of}
 use Rattle.list_versions.specs.Limits.{hash_lines, most_hash_lines}
-use Rattle.list_versions.specs.Journal.{Kept, Begun, Reading, ◌>>=◌, after_line, after_line_of, after_part, after_parts, after_bytes, after_front, after_head, if_short, with_add, with_remove, counted, settled, is_complete, adds_next, with_bytes, line_fault, most_line, next_line, next_hash_line, lines_begun}
+use Rattle.list_versions.specs.Journal.{Kept, Begun, Reading, ◌>>=◌, after_line, after_line_of, after_part, after_parts, after_bytes, if_short, with_add, with_remove, settled, is_complete, adds_next, with_bytes, line_fault, most_line, next_line, next_hash_line, lines_begun}
 use Rattle.list_versions.specs.Split.{IsLine, IsFront, IsLong}
-use Rattle.list_versions.specs.Draft.{before_record, within_change, begun_of, kept_of_draft, history_of, Moves, Waits, Fails}
+use Rattle.list_versions.specs.Draft.{within_change, begun_of, kept_of_draft, history_of, Moves, Waits, Fails}
 use Rattle.list_versions.specs.declared.draft.Begin.{Begin}
 use Rattle.list_versions.specs.declared.draft.Draft.{Draft}
 use Rattle.list_versions.specs.declared.fault.JournalFault.{JournalFault}
 use Rattle.list_versions.specs.declared.fault.JournalFault.TheVariants as fault
 use Rattle.list_versions.proofs.Parts.{parts_some}
-use Rattle.list_versions.proofs.LineEnds.{parts_line, parts_front, parts_long, FirstIsLong}
+use Rattle.list_versions.proofs.LineEnds.{parts_line, parts_front, parts_long}
 
 after_parts_line : (reading : Reading) (line : List ℕ) (parts : List (List ℕ)) → 0 < length parts → after_parts reading (line ∷ parts) ≡ (after_line reading line >>= λ next. after_parts next parts)
 after_parts_line reading line [] h = absurd (omega arith)

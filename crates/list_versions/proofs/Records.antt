@@ -1,28 +1,24 @@
 -- Records: a line that declares a list, or a change.
-use Rattle.std.proofs.Common.{◌≡◌, ℕ, ◌+◌, ◌<◌, ◌≤◌, nat_lt, nat_le, List, [], ◌∷◌, ◌++◌, Bool, true, false, ◌||◌, cond, if◌then◌else◌, length, refl, sym, ap, ◌∙◌, subst, arith, rules, Option, Some, None, Result, Ok, Err, append_assoc, ◌⊎◌, inl, inr}
+use Rattle.std.proofs.Common.{◌≡◌, ℕ, ◌+◌, ◌<◌, ◌≤◌, nat_lt, nat_le, List, [], ◌∷◌, ◌++◌, Bool, true, false, ◌||◌, cond, if◌then◌else◌, length, refl, sym, ap, ◌∙◌, subst, arith, Some, None, Result, Ok, Err, append_assoc, ◌⊎◌, inl, inr}
 use Rattle.std.specs.Prelude.{All, find, option_map}
 use Rattle.std.specs.List.{list_any}
 use Rattle.std.proofs.lemmas.Bool.Decides.{nat_tests}
-use Rattle.std.proofs.lemmas.List.{append-nil, length-map}
+use Rattle.std.proofs.lemmas.List.{append-nil}
 use Rattle.std.proofs.lemmas.List.Elements.{All-head, All-tail}
-use Rattle.sb_model.specs.declared.history.Added.{Added}
 use Rattle.sb_model.specs.declared.names.ListName.{ListName}
-use Rattle.sb_model.specs.History.{History, declares, IsPrefixSize}
-use Rattle.sb_model.specs.Names.{same_name}
+use Rattle.sb_model.specs.History.{declares, IsPrefixSize}
 use Rattle.list_versions.specs.Lines.{newline, head_of}
 use Rattle.list_versions.specs.Limits.{most_changes}
-use Rattle.list_versions.specs.Journal.{Kept, Begun, Reading, ◌>>=◌, after_line, after_bytes, after_head, after_list, after_change_line, declared_size_of, if_short, most_line, next_line, with_bytes, at_record, settled}
+use Rattle.list_versions.specs.Journal.{Kept, Reading, ◌>>=◌, after_line, after_bytes, after_head, after_list, after_change_line, declared_size_of, most_line, next_line, settled}
 use Rattle.list_versions.specs.Split.{IsLine, IsFront, IsLong}
 use Rattle.list_versions.specs.Draft.{declared_of, history_of, kept_of_draft, IsDraft, begun_of, before_record, within_change, after_begin, before_next, Moves, Waits, Fails}
 use Rattle.list_versions.specs.declared.draft.Begin.{Begin}
 use Rattle.list_versions.specs.declared.draft.Draft.{Draft}
-use Rattle.list_versions.specs.declared.draft.Listed.{Listed}
-use Rattle.list_versions.specs.declared.heads.Head.{Head}
 use Rattle.list_versions.specs.declared.heads.Head.TheVariants as head
 use Rattle.list_versions.specs.declared.fault.JournalFault.{JournalFault}
 use Rattle.list_versions.specs.declared.fault.JournalFault.TheVariants as fault
 use Rattle.list_versions.proofs.Applying.{is_named}
-use Rattle.list_versions.proofs.Reading.{bytes_line, bytes_front, bytes_long, open_adds, open_removes, moves_then, waits_then, fails_then}
+use Rattle.list_versions.proofs.Reading.{bytes_line, bytes_front, bytes_long, open_adds, open_removes}
 
 -- ---- the declared size
 

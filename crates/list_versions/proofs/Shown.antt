@@ -1,11 +1,11 @@
 -- The full hashes that are kept, and the prefixes that are published of them.
-use Rattle.std.proofs.Common.{◌≡◌, ℕ, ◌+◌, ◌-◌, ◌<◌, ◌≤◌, min, max, List, [], ◌∷◌, length, take, map, refl, sym, ap, subst, ◌∙◌, arith, ◌⊎◌, inl, inr, Bool, true, false, Option, Some, None, nat_lt}
-use Rattle.std.specs.Prelude.{All, Contains, filter, slice_get, ◌↔◌}
+use Rattle.std.proofs.Common.{◌≡◌, ℕ, ◌<◌, ◌≤◌, min, max, List, [], length, take, map, refl, sym, ap, subst, ◌∙◌, arith, Bool, true, false, Option, Some, None, nat_lt}
+use Rattle.std.specs.Prelude.{Contains, filter, slice_get, ◌↔◌}
 use Rattle.std.specs.BTreeMap.{is_at}
 use Rattle.std.specs.Cmp.{eq_by_cmp_equiv}
 use Rattle.std.specs.Cmp.Lexicographic.{nat_list_cmp_total}
 use Rattle.std.specs.List.Sorted.{IsStrictlySortedBy}
-use Rattle.std.specs.Map.{keys_of, values_of, lookup}
+use Rattle.std.specs.Map.{keys_of, values_of}
 use Rattle.std.specs.Option.{unwrap_or}
 use Rattle.std.proofs.lemmas.Bool.Decides.{nat_tests}
 use Rattle.std.proofs.lemmas.List.{take_all, length-take}
@@ -76,6 +76,7 @@ same_prefixes live entries h ordered x = (there, back)
         let kept = kept_in live entries h ordered from.item from.there in
         let is = shown_is from.item (All-contains IsPublishable entries from.item h.sizes (contains_in from.item entries kept)) in
         contains_in x _ (subst (λ y. In y (map prefix_of entries)) (sym is ∙ from.holds) (in_map prefix_of from.item entries kept))
+
     back : Contains (map prefix_of entries) x → Contains (map shown (in_buckets (values_of live.buckets.entries))) x
     back c =
         let from = from_map prefix_of x entries (in_contained x _ c) in

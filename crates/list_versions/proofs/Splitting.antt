@@ -1,6 +1,6 @@
 -- Full hashes that begin with four bytes, and the others.
-use Rattle.std.proofs.Common.{◌≡◌, ℕ, ◌+◌, ◌*◌, ◌<◌, ◌≤◌, List, [], ◌∷◌, ◌++◌, Bool, true, false, not, ◌||◌, cond, length, take, drop, map, refl, sym, ap, ◌∙◌, subst, arith, rules, get_or, length-append}
-use Rattle.std.specs.List.{list_any, filter}
+use Rattle.std.proofs.Common.{◌≡◌, ℕ, ◌+◌, ◌≤◌, List, [], ◌∷◌, ◌++◌, Bool, true, false, not, ◌||◌, cond, length, take, refl, sym, ap, ◌∙◌, arith}
+use Rattle.std.specs.List.{filter}
 use Rattle.std.specs.Str.{bytes_eq}
 use Rattle.std.specs.Prelude.{All}
 use Rattle.std.proofs.lemmas.List.{take-take, append-nil}
@@ -10,7 +10,7 @@ use Rattle.sb_model.specs.declared.history.Added.{Added}
 use Rattle.sb_model.specs.History.{prefix_of, without_hash, with_added}
 use Rattle.list_versions.specs.Limits.{prefix_bytes, has_head}
 use Rattle.list_versions.specs.Live.{IsPublishable}
-use Rattle.list_versions.proofs.Finding.{same_bytes, bytes_are_same}
+use Rattle.list_versions.proofs.Finding.{same_bytes}
 use Rattle.list_versions.proofs.PrefixBytes.{is_published_in, prefix_bytes-cons}
 
 -- ---- filters

@@ -1,5 +1,5 @@
 -- A journal of which only the first line was read.
-use Rattle.std.proofs.Common.{◌≡◌, ℕ, zero, suc, true, ◌≤◌, List, [], length, take, refl, sym, ap, ◌∙◌, subst, arith, fold}
+use Rattle.std.proofs.Common.{◌≡◌, ℕ, zero, suc, true, List, [], length, take, refl, sym, ap, ◌∙◌, subst, arith, fold}
 use Rattle.std.specs.Prelude.{All}
 use Rattle.std.proofs.lemmas.List.Elements.{All-nil}
 use Rattle.sb_model.specs.declared.history.Added.{Added}

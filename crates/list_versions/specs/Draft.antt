@@ -1,13 +1,13 @@
 -- A history that is being read.
-use Rattle.std.specs.Prelude.{◌≡◌, ℕ, ◌+◌, ◌≤◌, true, List, [], ◌++◌, length, map, take, All, Option, Some, None, Result, Ok, Err}
+use Rattle.std.specs.Prelude.{◌≡◌, ℕ, ◌≤◌, true, List, [], ◌++◌, length, map, take, All, None, Result, Ok, Err}
 use Rattle.sb_model.specs.declared.history.Added.{Added}
 use Rattle.sb_model.specs.declared.names.ListName.{ListName}
-use Rattle.sb_model.specs.History.{History, declares, sizes_at, version_count, IsWellFormed, IsPrefixSize}
+use Rattle.sb_model.specs.History.{History, declares, sizes_at, IsWellFormed}
 use Rattle.list_versions.specs.declared.fault.JournalFault.{JournalFault}
 use Rattle.list_versions.specs.declared.draft.Begin.{Begin}
 use Rattle.list_versions.specs.declared.draft.Draft.{Draft}
 use Rattle.list_versions.specs.declared.draft.Listed.{Listed}
-use Rattle.list_versions.specs.Journal.{Kept, Begun, Reading, after_bytes, settled, ◌>>=◌, after_change_line, declared_size_of}
+use Rattle.list_versions.specs.Journal.{Kept, Begun, after_bytes, settled, ◌>>=◌, after_change_line, declared_size_of}
 use Rattle.list_versions.specs.Limits.{most_lists, most_changes, most_hash_lines, hash_lines, WithinLimits}
 use Rattle.list_versions.specs.Live.{Holds}
 

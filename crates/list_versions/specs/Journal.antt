@@ -1,7 +1,7 @@
 -- The journal of a list server. Its first line names the form and the epoch. Then come records: a line that declares a
 -- list, or a line that begins a change and the hash lines of the change. A journal that is still written ends in a record
 -- that has not ended: these bytes are the rest.
-use Rattle.std.specs.Prelude.{ℕ, ◌+◌, ◌==◌, Bool, ◌&&◌, nat_lt, nat_le, true, false, not, if◌then◌else◌, List, [], ◌∷◌, ◌++◌, length, Option, Some, None, Result, Ok, Err, find}
+use Rattle.std.specs.Prelude.{ℕ, ◌+◌, ◌==◌, Bool, ◌&&◌, nat_lt, nat_le, if◌then◌else◌, List, [], ◌∷◌, ◌++◌, length, Option, Some, None, Result, Ok, Err, find}
 use Rattle.std.specs.List.{slice_split}
 use Rattle.std.specs.Option.{option_map}
 use Rattle.sb_model.specs.declared.history.Added.{Added}

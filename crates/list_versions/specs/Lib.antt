@@ -7,4 +7,5 @@ pub mod Live
 pub mod Loaded
 pub mod Pieces
 pub mod Printed
+pub mod Renewing
 pub mod Split

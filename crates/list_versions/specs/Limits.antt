@@ -1,5 +1,5 @@
 -- What a history keeps to: how much of everything a journal may have.
-use Rattle.std.specs.Prelude.{◌≡◌, ℕ, ◌+◌, ◌≤◌, Bool, ◌||◌, nat_lt, if◌then◌else◌, List, length, take, map, filter, All, Option, Some, None, sum_by}
+use Rattle.std.specs.Prelude.{ℕ, ◌+◌, ◌≤◌, Bool, ◌||◌, nat_lt, if◌then◌else◌, List, length, take, map, filter, Option, Some, None, sum_by}
 use Rattle.std.specs.List.{list_any}
 use Rattle.std.specs.Str.{bytes_eq}
 use Rattle.sb_model.specs.declared.history.Added.{Added}

@@ -1,5 +1,5 @@
 -- How the newest full hashes of a list are kept: in buckets, one for each four bytes that a hash begins with.
-use Rattle.std.specs.Prelude.{◌≡◌, ℕ, ◌+◌, ◌-◌, ◌^◌, ◌<◌, ◌≤◌, List, [], ◌∷◌, length, filter, take, All, Option, Some, IsSome, cond, min, max}
+use Rattle.std.specs.Prelude.{◌≡◌, ℕ, ◌+◌, ◌-◌, ◌^◌, ◌<◌, ◌≤◌, List, [], length, filter, take, All, Option, Some, cond, min, max}
 use Rattle.std.specs.BTreeMap.{is_at}
 use Rattle.std.specs.List.{flat_map}
 use Rattle.std.specs.Map.{lookup}
@@ -7,7 +7,7 @@ use Rattle.std.specs.Option.{unwrap_or}
 use Rattle.sb_model.specs.declared.history.Added.{Added}
 use Rattle.sb_model.specs.History.{prefix_of}
 use Rattle.sb_model.specs.Prefixes.{bytes_cmp}
-use Rattle.list_versions.specs.Limits.{has_head, prefix_bytes, most_alike}
+use Rattle.list_versions.specs.Limits.{has_head, prefix_bytes}
 use Rattle.list_versions.specs.declared.live.Live.{Live}
 use Rattle.std.specs.Str.{bytes_eq}
 

@@ -1,18 +1,16 @@
 -- A history that was read from a source, and how it is kept.
-use Rattle.std.specs.Prelude.{◌≡◌, ℕ, ◌<◌, ◌≤◌, ◌⊎◌, ⊤, Bool, true, List, [], ◌++◌, length, map, filter, All, Option, Some, None, Result, Ok, Err, IsTrue, MatchBool}
+use Rattle.std.specs.Prelude.{◌≡◌, ℕ, ◌≤◌, ◌⊎◌, ⊤, Bool, true, List, [], ◌++◌, length, map, All, Option, Result, Ok, Err, IsTrue, MatchBool}
 use Rattle.sha2.specs.Sha256.{sha256}
 use Rattle.sb_outside.specs.Outside.{GivesFront}
 use Rattle.sb_outside.specs.Reading.{ReadsToEnd}
-use Rattle.sb_model.specs.declared.names.ListName.{ListName}
-use Rattle.sb_model.specs.History.{History, declares, sizes_at, prefixes_at, version_count, IsWellFormed}
+use Rattle.sb_model.specs.History.{History, declares, prefixes_at, version_count, IsWellFormed}
 use Rattle.sb_model.specs.Prefixes.{concatenation}
 use Rattle.list_versions.specs.declared.draft.Draft.{Draft}
-use Rattle.list_versions.specs.declared.draft.Listed.{Listed}
 use Rattle.list_versions.specs.declared.fault.JournalFault.{JournalFault}
 use Rattle.list_versions.specs.declared.fault.JournalFault.TheVariants as fault
 use Rattle.list_versions.specs.declared.newest.Newest.{Newest}
-use Rattle.list_versions.specs.Draft.{declared_of, history_of, IsDraft}
-use Rattle.list_versions.specs.Journal.{Kept, kept_of, read_on, most_line}
+use Rattle.list_versions.specs.Draft.{history_of, kept_of_draft, before_record, IsDraft}
+use Rattle.list_versions.specs.Journal.{Kept, kept_of, read_on}
 use Rattle.list_versions.specs.Limits.{most_lists, most_changes, most_hash_lines, hash_lines, WithinLimits}
 use Rattle.list_versions.specs.Split.{IsFront}
 
@@ -79,4 +77,6 @@ pub record IsLoaded (draft : Draft) (newest : List Newest) (rest : List ℕ) (st
   pub fresh : stale ≡ true ⊎ IsDraft draft
   pub names : map (λ newest. newest.name) newest ≡ map (λ listed. listed.name) draft.lists.items
   pub each : All (IsNewest (history_of draft)) newest
+  -- the rest is the front of a record
+  pub waits : before_record draft [] rest ≡ Ok (kept_of_draft draft rest)
   pub short : length rest ≤ 132608

@@ -411,4 +411,17 @@ impl Draft {
             }
         }
     }
+
+    /// Keeps the first lists and changes, of which the changes have so many hash lines.
+    pub fn cut(&mut self, lists: usize, changes: usize, hashes: u64)
+        ensures sized { self.new.sized ≡ self.old.sized }
+        ensures epoch { self.new.epoch ≡ self.old.epoch }
+        ensures lists { self.new.lists.items ≡ take lists self.old.lists.items }
+        ensures changes { self.new.changes.items ≡ take changes self.old.changes.items }
+        ensures hashes { self.new.hashes ≡ hashes }
+    {
+        self.lists.truncate(lists);
+        self.changes.truncate(changes);
+        self.hashes = hashes;
+    }
 }

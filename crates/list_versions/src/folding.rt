@@ -1,4 +1,4 @@
-ghost use Rattle.std.specs.Prelude.{◌≡◌, ℕ, ◌^◌, ◌<◌, ◌≤◌, List, [], length, take, All, IfOk, OnOk};
+ghost use Rattle.std.specs.Prelude.{◌≡◌, ◌⊎◌, true, ℕ, ◌^◌, ◌<◌, ◌≤◌, List, [], length, take, All, IfOk, OnOk};
 ghost use Rattle.sb_model.specs.History.{after_change, sizes_at};
 ghost use Rattle.sb_model.specs.declared.history.Added.{Added as Entry};
 ghost use Rattle.sb_model.specs.declared.names.ListName.{ListName as Name};
@@ -58,11 +58,7 @@ pub(crate) fn live_at(
 }
 
 // Makes the tables of a list anew.
-fn refresh_list(
-    alloc: Global,
-    listed: &mut Listed,
-    changes: &[Change],
-) -> Result<(), OutOfMemory>
+fn refresh_list(alloc: Global, listed: &mut Listed, changes: &[Change]) -> Result<(), OutOfMemory>
     requires changes { All IsFoldable changes.now }
     requires small { StaysSmall listed.old.name changes.now }
     ensures name { listed.new.name ≡ listed.old.name }
@@ -98,4 +94,18 @@ pub(crate) fn refresh(alloc: Global, draft: &mut Draft) -> Result<(), OutOfMemor
     ensures front { KeepsFront draft.old draft.new }
 {
     refresh_lists(alloc, &mut draft.lists, draft.changes.as_slice())
+}
+
+/// Makes the tables of the newest full hashes anew where they are stale.
+pub(crate) fn freshen(alloc: Global, draft: &mut Draft, stale: bool) -> Result<(), OutOfMemory>
+    requires stem { IsStem draft.old }
+    requires fresh { (stale ≡ true) ⊎ IsDraft draft.old }
+    ensures draft { OnOk result (IsDraft draft.new) }
+    ensures same { (rest : List ℕ) → kept_of_draft draft.new rest ≡ kept_of_draft draft.old rest }
+    ensures front { KeepsFront draft.old draft.new }
+{
+    if stale {
+        return refresh(alloc, draft);
+    }
+    Ok(())
 }

@@ -1,4 +1,4 @@
-ghost use Rattle.std.specs.Prelude.{◌≡◌, ◌≢◌, ◌⊎◌, ℕ, ◌≤◌, ◌<◌, Bool, true, false, List, [], length, take, map, filter, find, option_copied, All, Option, Some, None, Result, Ok, Err, IsErrOf, IsTrue, IfOk, OnOk, OnErr, IfErr, IfSome, IfNone};
+ghost use Rattle.std.specs.Prelude.{◌≡◌, ◌≢◌, ◌⊎◌, ℕ, ◌≤◌, ◌<◌, Bool, true, false, List, [], ◌++◌, length, take, map, filter, find, option_copied, All, Option, Some, None, Result, Ok, Err, IsErrOf, IsTrue, IfOk, OnOk, OnErr, IfErr, IfSome, IfNone};
 ghost use Rattle.std.specs.Str.{bytes_eq};
 ghost use Rattle.sha2.specs.Sha256.{sha256};
 ghost use Rattle.sb_outside.specs.Outside.{Rose};
@@ -6,18 +6,23 @@ ghost use Rattle.sb_model.specs.Prefixes.{concatenation};
 ghost use Rattle.sb_model.specs.Names.{same_name};
 ghost use Rattle.sb_model.specs.History.{IsWellFormed, declares, version_count, prefixes_at, full_hashes_at};
 ghost use Rattle.sb_model.specs.Prefixes.{set_of};
-ghost use Rattle.list_versions.specs.Journal.{Kept, declared_size_of, read_on};
+ghost use Rattle.list_versions.specs.Journal.{Kept, declared_size_of, read_on, after_bytes, at_record};
 ghost use Rattle.list_versions.specs.Limits.{WithinLimits, most_changes};
-ghost use Rattle.list_versions.specs.Loaded.{Gives, JournalOutcome, FurtherFault};
+ghost use Rattle.list_versions.specs.Draft.{history_of, kept_of_draft, before_record, IsDraft};
+ghost use Rattle.list_versions.specs.Loaded.{Gives, JournalOutcome, FurtherFault, IsNewest};
+ghost use Rattle.list_versions.specs.Pieces.{ReadsAll, StopsAt};
 
 use crate::JournalFault;
 use crate::draft::Draft;
+use crate::growing::{More, read_more};
 use crate::lists::{same, size_of};
 use crate::newest::Newest;
+use crate::pieces::{buffer_of, read_first};
+use crate::renewing::{Before, take_kept};
 use hash_prefixes::{FullHash, Prefix};
 use prefix_set::PrefixSet;
 use sb_model::{Bytes, Change, ListName, OutOfMemory, Row, names_go_by_their_codes};
-use sb_outside::Source;
+use sb_outside::{ReadFault, Source, read_piece};
 use std::alloc::Global;
 use std::marker::Model;
 
@@ -52,6 +57,15 @@ fn newest_of(newest: &[Newest], list: ListName) -> Option<&Newest>
     newest.iter().find(|newest| same(newest.name, list))
 }
 
+// One text after the other.
+fn joined(first: &Bytes, second: &Bytes) -> Result<Bytes, OutOfMemory>
+    ensures { IfOk result (λ text. text ≡ first.now ++ second.now) }
+{
+    let mut text = first.copy()?;
+    text.append(second.as_slice())?;
+    Ok(text)
+}
+
 impl History {
     /// Reads a journal to the end of its input.
     ///
@@ -70,7 +84,25 @@ impl History {
         ensures counted { S.faults source.old ≤ S.faults source.new }
         ensures other { S.back source.new ≡ S.back source.old }
     {
-        Err(JournalFault::OutOfMemory)
+        let Ok(mut buffer) = buffer_of(alloc) else {
+            return Err(JournalFault::OutOfMemory);
+        };
+        let (header, text) = match read_first(alloc, source, buffer.as_mut_slice()) {
+            Ok(first) => first,
+            Err(fault) => return Err(fault),
+        };
+        let mut draft = Draft::new(alloc, header);
+        match read_more(
+            alloc,
+            source,
+            buffer.as_mut_slice(),
+            &mut draft,
+            false,
+            text,
+        ) {
+            Ok(more) => Ok(History::of(draft, more)),
+            Err(fault) => Err(fault),
+        }
     }
 
     /// Reads further bytes of the same journal to the end of its input. Lines are counted from the
@@ -86,7 +118,85 @@ impl History {
         ensures counted { S.faults source.old ≤ S.faults source.new }
         ensures other { S.back source.new ≡ S.back source.old }
     {
-        Err(JournalFault::OutOfMemory)
+        let _ = &self.rest;
+        let Ok(mut buffer) = buffer_of(alloc) else {
+            return Err(JournalFault::OutOfMemory);
+        };
+        let mut piece = Bytes::new(alloc);
+        match read_piece(source, buffer.as_mut_slice(), &mut piece) {
+            Ok(0) => return Ok(()),
+            Ok(_) => {}
+            Err(ReadFault::Failed) => return Err(JournalFault::ReadFault),
+            Err(ReadFault::OutOfMemory) => return Err(JournalFault::OutOfMemory),
+        }
+        let Ok(text) = joined(&self.rest, &piece) else {
+            return Err(JournalFault::OutOfMemory);
+        };
+        self.take_in(alloc, source, buffer.as_mut_slice(), text)
+    }
+
+    // Reads a text, in which the rest is the front, and what the source gives after it.
+    fn take_in<S: Source>(
+        &mut self,
+        alloc: Global,
+        source: &mut S,
+        buffer: &mut [u8],
+        text: Bytes,
+    ) -> Result<(), JournalFault>
+        requires { 0 < length buffer.old }
+        ensures ok { OnOk result (ReadsAll (λ bytes. after_bytes (at_record self.old) (text ++ bytes)) self.new
+            (S.left source.old) (S.left source.new)) }
+        ensures fault { IfErr result (λ fault. StopsAt (λ bytes. after_bytes (at_record self.old) (text ++ bytes)) fault
+            (S.left source.old) (S.left source.new)) }
+        ensures same { OnErr result (self.new ≡ self.old) }
+        ensures failed { IsErrOf result JournalFault.ReadFault → Rose (S.faults source.old) (S.faults source.new) }
+        ensures kept { result ≢ Err JournalFault.ReadFault → S.faults source.new ≡ S.faults source.old }
+        ensures counted { S.faults source.old ≤ S.faults source.new }
+        ensures other { S.back source.new ≡ S.back source.old }
+    {
+        let lists = self.draft.lists.len();
+        let changes = self.draft.changes.len();
+        let hashes = self.draft.hashes;
+        match read_more(alloc, source, buffer, &mut self.draft, self.stale, text) {
+            Ok(mut more) => {
+                let before = Before { lists, changes };
+                let newest = &mut more.newest;
+                take_kept(
+                    self.draft.changes.as_slice(),
+                    before,
+                    newest,
+                    &mut self.newest,
+                );
+                let More { rest, newest } = more;
+                self.newest = newest;
+                self.rest = rest;
+                self.stale = false;
+                Ok(())
+            }
+            Err(fault) => {
+                self.draft.cut(lists, changes, hashes);
+                self.stale = true;
+                Err(fault)
+            }
+        }
+    }
+
+    // What was read from a journal's first line on.
+    fn of(draft: Draft, more: More) -> History
+        requires draft { IsDraft draft }
+        requires names { map (λ newest. newest.name) more.newest.items ≡ map (λ listed. listed.name) draft.lists.items }
+        requires newest { All (IsNewest (history_of draft)) more.newest.items }
+        requires waits { before_record draft [] more.rest ≡ Ok (kept_of_draft draft more.rest) }
+        requires few { length more.rest ≤ 132608 }
+        ensures { result ≡ kept_of_draft draft more.rest }
+    {
+        let More { rest, newest } = more;
+        History {
+            draft,
+            newest,
+            rest,
+            stale: false,
+        }
     }
 
     /// The epoch that the first line names.

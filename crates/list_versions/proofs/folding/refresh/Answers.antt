@@ -1,7 +1,6 @@
-use Rattle.std.proofs.Common.{◌≡◌, ◌∙◌, refl, subst, ap, List}
-use Rattle.std.specs.Prelude.{All, OnOk}
+use Rattle.std.proofs.Common.{refl, subst, List}
+use Rattle.std.specs.Prelude.{All}
 use Rattle.sb_model.specs.declared.history.Change.{Change}
-use Rattle.list_versions.specs.declared.draft.Listed.{Listed}
 use Rattle.list_versions.specs.Draft.{IsDraft}
 use Rattle.list_versions.proofs.Folds.{IsRefreshed, foldable, all_stay_small, draft_refreshed}
 use Rattle.list_versions.proofs.Holding.{mapped_ok}

@@ -1,4 +1,4 @@
-use Rattle.std.proofs.Common.{◌≡◌, ℕ, ◌<◌, ◌≤◌, length, get_or}
+use Rattle.std.proofs.Common.{◌≡◌, ℕ, ◌<◌, length, get_or}
 use Rattle.list_versions.specs.Draft.{declared_of}
 use Rattle.list_versions.specs.Folding.{after_changes}
 use Rattle.list_versions.specs.Live.{Holds}

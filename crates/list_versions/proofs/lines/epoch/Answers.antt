@@ -1,6 +1,4 @@
-use Rattle.std.proofs.Common.{sym, ap, ◌∙◌, arith, refl, Some}
-use Rattle.std.specs.Int.{w64, from_be_bytes}
-use Rattle.std.specs.Option.{option_map}
+use Rattle.std.proofs.Common.{ap, refl, Some}
 use Rattle.list_versions.proofs.Hexes.{bytes_short, bytes_found, bytes_lost, decoded, refused}
 use Rattle.list_versions.proofs.lines.epoch.Goals as goal
 

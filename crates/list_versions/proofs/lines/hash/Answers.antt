@@ -1,4 +1,3 @@
-use Rattle.std.proofs.Common.{sym, ◌∙◌}
 use Rattle.list_versions.proofs.Hexes.{hash_found, hash_lost}
 use Rattle.list_versions.proofs.lines.hash.Goals as goal
 

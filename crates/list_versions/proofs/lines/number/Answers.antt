@@ -1,6 +1,5 @@
 use Rattle.std.proofs.Common.{arith}
 use Rattle.std.proofs.lemmas.Grind.{common_steps}
-use Rattle.std.proofs.lemmas.Bool.Decides.{nat_tests}
 use Rattle.list_versions.specs.Lines.{number_of}
 use Rattle.list_versions.proofs.lines.number.Goals as goal
 use Rattle.list_versions.proofs.lines.number.Goals.{then-not-is_numeral-via-then-not-is_numeral, then-not-is_numeral-via-else-not-is_numeral+then-text-gt4}

@@ -1,6 +1,5 @@
 use Rattle.std.proofs.Common.{arith}
-use Rattle.std.proofs.lemmas.Grind.{common_steps}
-use Rattle.list_versions.proofs.Digits.{four_digits, digit_at, digit_is}
+use Rattle.list_versions.proofs.Digits.{four_digits}
 use Rattle.list_versions.proofs.lines.value_of.Goals as goal
 
 pub overflow_mul-number : goal.overflow_mul-number

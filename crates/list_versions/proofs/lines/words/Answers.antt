@@ -1,5 +1,5 @@
 use Rattle.std.proofs.Common.{sym, ap, ◌∷◌, ◌∙◌}
-use Rattle.list_versions.proofs.Words.{nothing_of_one, nothing_of_two, nothing_of_spaced, words_unspaced}
+use Rattle.list_versions.proofs.Words.{nothing_of_spaced, words_unspaced}
 use Rattle.list_versions.proofs.lines.words.Goals as goal
 
 pub returns-then-has_space : goal.returns-then-has_space

@@ -1,4 +1,4 @@
-use Rattle.std.proofs.Common.{◌≡◌, ◌≢◌, ◌∙◌, ◌<◌, length, ◌^◌, ap, subst, List, get_or, arith, get_or-set_other, ℕ}
+use Rattle.std.proofs.Common.{◌≡◌, ◌≢◌, ◌∙◌, ◌<◌, length, ◌^◌, ap, subst, List, get_or, arith, get_or-set_other}
 use Rattle.sb_model.specs.declared.history.Added.{Added}
 use Rattle.sb_model.specs.History.{after_change}
 use Rattle.list_versions.specs.Live.{Holds}

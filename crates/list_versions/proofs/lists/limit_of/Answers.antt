@@ -1,4 +1,4 @@
-use Rattle.std.proofs.Common.{◌≡◌, ◌∙◌, sym, subst}
+use Rattle.std.proofs.Common.{◌∙◌, sym, subst}
 use Rattle.list_versions.specs.declared.draft.Listed.{Listed}
 use Rattle.list_versions.proofs.Applying.{limit_found, IsApplied}
 use Rattle.list_versions.proofs.NameCodes.{names_same}

@@ -1,4 +1,4 @@
-use Rattle.std.proofs.Common.{◌≡◌, ◌∙◌, ap, sym, true, false}
+use Rattle.std.proofs.Common.{◌∙◌, ap, sym, true, false}
 use Rattle.std.specs.Prelude.{option_map, ℕ}
 use Rattle.sb_model.specs.declared.names.ListName.{ListName}
 use Rattle.list_versions.proofs.Applying.{find_here}

@@ -1,5 +1,5 @@
-use Rattle.std.proofs.Common.{◌≡◌, drop, Option}
-use Rattle.std.specs.Prelude.{ℕ, find, option_map}
+use Rattle.std.proofs.Common.{◌≡◌, drop}
+use Rattle.std.specs.Prelude.{ℕ, find}
 use Rattle.sb_model.specs.declared.names.ListName.{ListName}
 use Rattle.sb_model.specs.Names.{same_name}
 use Rattle.list_versions.specs.Draft.{declared_of}

@@ -1,6 +1,5 @@
-use Rattle.std.proofs.Common.{◌≡◌, ◌-◌, ◌+◌, ◌∙◌, false, true, ap, sym, arith, length, take, drop, []}
+use Rattle.std.proofs.Common.{◌-◌, ◌+◌, ◌∙◌, ap, sym, arith, length, take, drop, []}
 use Rattle.sb_model.specs.declared.history.Added.{Added}
-use Rattle.sb_model.specs.History.{prefix_of}
 use Rattle.list_versions.proofs.PrefixBytes.{is_published_in}
 use Rattle.list_versions.proofs.Holding.{bytes_more}
 use Rattle.list_versions.proofs.live.bytes_in.Goals as goal

@@ -1,5 +1,4 @@
-use Rattle.std.proofs.Common.{◌≡◌, ◌<◌, ◌∙◌, length, sym, refl, ap, subst, arith, Err}
-use Rattle.sb_outside.specs.Reading.{GrowsBy}
+use Rattle.std.proofs.Common.{◌<◌, ◌∙◌, length, sym, refl, ap, subst, arith, Err}
 use Rattle.list_versions.specs.Draft.{kept_of_draft}
 use Rattle.list_versions.specs.Pieces.{ReadsAll}
 use Rattle.list_versions.proofs.Further.{further_of, has_nothing, has_piece, has_records, all_read, stops_failed, stops_refused, stops_here, stops_bad}

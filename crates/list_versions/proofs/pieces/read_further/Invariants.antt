@@ -1,4 +1,4 @@
-use Rattle.std.proofs.Common.{◌≡◌, ℕ, List, ◌++◌, [], ◌<◌, ◌≤◌, length, Ok}
+use Rattle.std.proofs.Common.{◌≡◌, [], ◌<◌, ◌≤◌, length, Ok}
 use Rattle.list_versions.specs.Draft.{IsDraft, KeepsFront, before_record, kept_of_draft}
 use Rattle.list_versions.proofs.Further.{HasRead}
 use Rattle.list_versions.proofs.pieces.read_further.Given as goal

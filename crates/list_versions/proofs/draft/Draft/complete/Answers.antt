@@ -1,17 +1,13 @@
-use Rattle.std.proofs.Common.{◌≡◌, ◌<◌, ◌^◌, ◌+◌, ℕ, List, length, refl, sym, ap, ◌∙◌, subst, arith, inr, Some, None, []}
-use Rattle.std.specs.Prelude.{All}
+use Rattle.std.proofs.Common.{◌<◌, ◌^◌, ℕ, List, length, refl, sym, ap, ◌∙◌, arith, inr, Some, None, []}
 use Rattle.std.specs.List.{list_any}
 use Rattle.sb_model.specs.declared.history.Added.{Added}
 use Rattle.sb_model.specs.declared.names.ListName.{ListName}
-use Rattle.sb_model.specs.History.{sizes_at, after_change}
+use Rattle.sb_model.specs.History.{sizes_at}
 use Rattle.sb_model.specs.Names.{same_name}
-use Rattle.list_versions.specs.Draft.{declared_of, history_of, begun_of, IsDraft, before_record}
-use Rattle.list_versions.specs.Journal.{change_of, ◌>>=◌, after_bytes, Kept}
-use Rattle.list_versions.specs.Limits.{IsUncrowded, limit_fault}
-use Rattle.list_versions.specs.Live.{Holds}
-use Rattle.list_versions.specs.declared.draft.Listed.{Listed}
+use Rattle.list_versions.specs.Draft.{declared_of, history_of, begun_of, IsDraft}
+use Rattle.list_versions.specs.Journal.{change_of, ◌>>=◌, after_bytes}
+use Rattle.list_versions.specs.Limits.{IsUncrowded}
 use Rattle.list_versions.specs.declared.draft.Draft.{Draft}
-use Rattle.list_versions.proofs.Applying.{IsApplied}
 use Rattle.list_versions.proofs.Completing.{any_declared, at_the_end, draft_completed, history_is}
 use Rattle.list_versions.proofs.draft.Draft.complete.Goals as goal
 

@@ -1,4 +1,4 @@
-use Rattle.std.proofs.Common.{◌≡◌, ◌∙◌, ap, sym, arith, inr, refl, List, ℕ, false, true}
+use Rattle.std.proofs.Common.{◌∙◌, ap, sym, arith, inr, refl, ℕ}
 use Rattle.std.specs.List.{list_any}
 use Rattle.std.proofs.lemmas.List.{length-map}
 use Rattle.sb_model.specs.declared.names.ListName.{ListName}

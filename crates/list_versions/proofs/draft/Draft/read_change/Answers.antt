@@ -1,4 +1,4 @@
-use Rattle.std.proofs.Common.{◌≡◌, ◌≤◌, ◌*◌, ◌+◌, ◌∙◌, ℕ, List, [], length, length-append, ap, sym, arith, Some, Option}
+use Rattle.std.proofs.Common.{◌≡◌, ◌∙◌, ℕ, ap, arith, Some}
 use Rattle.std.specs.Prelude.{find, option_map}
 use Rattle.sb_model.specs.declared.names.ListName.{ListName}
 use Rattle.list_versions.specs.Draft.{declared_of, history_of}

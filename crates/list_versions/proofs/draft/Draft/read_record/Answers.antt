@@ -1,4 +1,4 @@
-use Rattle.std.proofs.Common.{◌≡◌, ◌∙◌, [], ap, sym, arith, inr, Some, Ok, Err}
+use Rattle.std.proofs.Common.{◌∙◌, [], ap, sym, arith, inr, Some, Ok, Err}
 use Rattle.list_versions.specs.Draft.{kept_of_draft}
 use Rattle.list_versions.specs.Journal.{at_record}
 use Rattle.list_versions.proofs.Ending.{ends_line, ends_then, ends_longer, shorter_line}

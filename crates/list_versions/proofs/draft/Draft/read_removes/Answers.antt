@@ -1,5 +1,5 @@
-use Rattle.std.proofs.Common.{◌≡◌, ◌+◌, ◌*◌, [], length, arith}
-use Rattle.list_versions.proofs.Reading.{moves_then, waits_then, fails_then}
+use Rattle.std.proofs.Common.{◌*◌, length, arith}
+use Rattle.list_versions.proofs.Reading.{moves_then, waits_then}
 use Rattle.list_versions.proofs.draft.Draft.read_removes.Goals as goal
 
 pub loop-removes-preserved : goal.loop-removes-preserved

@@ -1,6 +1,5 @@
-use Rattle.std.proofs.Common.{◌≡◌, ◌≤◌, ◌++◌, ◌∷◌, [], length, length-append, arith, inr, sym}
+use Rattle.std.proofs.Common.{◌∷◌, [], length-append, arith, inr}
 use Rattle.std.proofs.lemmas.List.Elements.{All-push}
-use Rattle.sb_model.specs.declared.history.Added.{Added}
 use Rattle.list_versions.specs.Lines.{IsAdded}
 use Rattle.list_versions.proofs.Reading.{open_adds, waits_open, fails_long, fails_add, fails_add_past, moves_add}
 use Rattle.list_versions.proofs.draft.Draft.take_add.Goals as goal

@@ -1,4 +1,4 @@
-use Rattle.std.proofs.Common.{ℕ, List, ◌≡◌, ◌≤◌, ◌++◌, ◌∷◌, [], length, length-append, arith, inr, sym}
+use Rattle.std.proofs.Common.{ℕ, List, ◌≡◌, ◌∷◌, [], length, length-append, arith, inr}
 use Rattle.std.proofs.lemmas.List.Elements.{All-push}
 use Rattle.list_versions.proofs.Reading.{open_removes, waits_open, fails_long, fails_remove, fails_remove_past, moves_remove}
 use Rattle.list_versions.proofs.draft.Draft.take_remove.Goals as goal

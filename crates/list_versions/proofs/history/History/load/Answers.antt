@@ -1,6 +1,9 @@
-use Rattle.std.proofs.Common.{[], false}
-use Rattle.list_versions.proofs.Sources.{gives_nothing}
+use Rattle.list_versions.specs.Journal.{kept_of}
+use Rattle.list_versions.proofs.Further.{further_of, leads_begun, stops_after, journal_fault}
 use Rattle.list_versions.proofs.history.History.load.Goals as goal
 
 pub returns-clause-outcome : goal.returns-clause-outcome
-returns-clause-outcome c at = ([], false, gives_nothing (c.S.Source.left at.args.source.now), tt)
+returns-clause-outcome g c =
+    let leads = leads_begun c.in-Ok-read_first.first.0 c.new-draft.result c.in-Ok-read_first.first.1 _ _ c.new-draft.ensures.sized c.new-draft.ensures.history c.in-Ok-read_first.ensures.ok in
+    let stops = stops_after kept_of (further_of c.new-draft.result c.in-Ok-read_first.first.1) c.in-Err-read_more.fault _ _ _ leads c.in-Err-read_more.ensures.fault in
+    (stops.given, stops.ended, stops.gives, journal_fault stops.given stops.ended c.in-Err-read_more.fault stops.why)

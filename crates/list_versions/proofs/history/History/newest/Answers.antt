@@ -1,4 +1,4 @@
-use Rattle.std.proofs.Common.{◌≡◌, ◌∙◌, Bor, Option, Some, None, IfSome, IfNone, ap, sym, refl, subst, rules, true, false}
+use Rattle.std.proofs.Common.{◌≡◌, ◌∙◌, Bor, Option, Some, None, IfSome, IfNone, ap, refl, subst, true, false}
 use Rattle.list_versions.specs.declared.newest.Newest.{Newest}
 use Rattle.sb_model.specs.History.{History, declares, version_count, prefixes_at}
 use Rattle.sb_model.specs.declared.names.ListName.{ListName}

@@ -1,4 +1,4 @@
-use Rattle.std.proofs.Common.{◌≡◌, ◌∙◌, ap, arith, take}
+use Rattle.std.proofs.Common.{◌∙◌, ap, arith}
 use Rattle.sb_model.specs.History.{with_added}
 use Rattle.list_versions.proofs.Holding.{mapped_ok, holds_replaced, changes_with, publishable}
 use Rattle.list_versions.proofs.live.Live.add.Goals as goal

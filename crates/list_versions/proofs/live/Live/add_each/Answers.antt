@@ -1,4 +1,4 @@
-use Rattle.std.proofs.Common.{◌≡◌, ◌≤◌, ◌∙◌, ap, arith, take, sym, fold, length, []}
+use Rattle.std.proofs.Common.{◌≤◌, arith, take, fold, length, []}
 use Rattle.sb_model.specs.declared.history.Added.{Added}
 use Rattle.std.proofs.lemmas.List.Sums.{fold_more}
 use Rattle.std.proofs.lemmas.Grind.{common_steps}

@@ -1,4 +1,4 @@
-use Rattle.std.proofs.Common.{ℕ, ◌+◌, ◌^◌, ◌<◌, ◌≤◌, List, length, take, fold}
+use Rattle.std.proofs.Common.{◌^◌, ◌<◌, List, length, take, fold}
 use Rattle.sb_model.specs.declared.history.Added.{Added}
 use Rattle.sb_model.specs.History.{with_added}
 use Rattle.list_versions.specs.Live.{Holds}

@@ -1,6 +1,4 @@
-use Rattle.std.proofs.Common.{◌∙◌, sym, arith}
-use Rattle.sb_model.specs.History.{without_hash, with_added}
-use Rattle.list_versions.specs.Limits.{is_crowded}
+use Rattle.std.proofs.Common.{◌∙◌, sym}
 use Rattle.list_versions.proofs.Crowds.{limit_as, crowds_held, by_count, by_crowd, by_bytes, by_none}
 use Rattle.list_versions.proofs.live.Live.limit.Goals as goal
 use Rattle.list_versions.proofs.live.Live.limit.Goals.{then-self-gt-MOST_HASHES-via-then-self-gt-MOST_HASHES, then-self-gt-MOST_HASHES-via-else-self-gt-MOST_HASHES+then-is_crowded}

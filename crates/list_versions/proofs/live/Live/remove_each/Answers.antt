@@ -1,4 +1,4 @@
-use Rattle.std.proofs.Common.{◌≡◌, ◌≤◌, ◌∙◌, ap, arith, take, sym, fold, length, []}
+use Rattle.std.proofs.Common.{arith, take, fold, []}
 use Rattle.std.proofs.lemmas.List.Sums.{fold_more}
 use Rattle.sb_model.specs.History.{without_hash}
 use Rattle.list_versions.proofs.Holding.{length-fold_removed}

@@ -1,0 +1,49 @@
+use Rattle.std.proofs.Common.{◌≡◌, ◌∙◌, ap, inr, take, subst, List, length, arith}
+use Rattle.sb_model.specs.declared.history.Change.{Change}
+use Rattle.list_versions.specs.declared.renewing.Before.{Before}
+use Rattle.list_versions.proofs.Folds.{draft_stem}
+use Rattle.list_versions.proofs.Keeping.{cut_history, same_kept, loaded_cut}
+use Rattle.list_versions.proofs.Renewed.{IsTaken, first_of, newest_longer, are_newest}
+use Rattle.list_versions.proofs.history.History.take_in.Goals as goal
+
+pub take_kept-requires-clause-more : goal.take_kept-requires-clause-more
+take_kept-requires-clause-more g c =
+    newest_longer c.self.inside.draft c.read_more.new.draft c.in-Ok.more.newest.items c.self.inside.newest.items c.read_more.ensures.front c.self.invariant.names c.in-Ok.ensures.names
+
+pub invariant_of-self : goal.invariant_of-self
+invariant_of-self g c =
+    let lists_are : c.len-lists.result ≡ length c.self.inside.draft.lists.items = omega (arith, c.len-lists.ensures, c.self.inside.draft.lists.ok) in
+    let changes_are : c.len-changes.result ≡ length c.self.inside.draft.changes.items = omega (arith, c.len-changes.ensures, c.self.inside.draft.changes.ok) in
+    let new = c.read_more.new.draft in
+    let before : Before = record { lists = c.len-lists.result; changes = c.len-changes.result } in
+    let same : before ≡ first_of c.self.inside.draft = λ i. record { lists = lists_are i; changes = changes_are i } in
+    let taken : IsTaken c.as_slice.result.now before c.in-Ok.more.newest.items c.self.inside.newest.items c.take_kept.new.newest.items =
+    record { long = c.take_kept.ensures.long; others = c.take_kept.ensures.others; kept = c.take_kept.ensures.kept; renewed = c.take_kept.ensures.renewed } in
+    let taken_at = subst (λ (at : Before). IsTaken c.as_slice.result.now at c.in-Ok.more.newest.items c.self.inside.newest.items c.take_kept.new.newest.items) same taken in
+    let taken_of = subst (λ (cs : List Change). IsTaken cs (first_of c.self.inside.draft) c.in-Ok.more.newest.items c.self.inside.newest.items c.take_kept.new.newest.items) c.as_slice.ensures.value taken_at in
+    let newest = are_newest c.self.inside.draft new c.in-Ok.more.newest.items c.self.inside.newest.items c.take_kept.new.newest.items c.read_more.ensures.front c.self.invariant.names c.in-Ok.ensures.names
+    c.self.invariant.each c.in-Ok.ensures.newest taken_of in
+    record {
+      stem = draft_stem new c.in-Ok.ensures.draft;
+      fresh = inr c.in-Ok.ensures.draft;
+      names = newest.names;
+      each = newest.each;
+      waits = c.in-Ok.ensures.waits;
+      short = c.in-Ok.ensures.few;
+    }
+
+pub invariant_of-self-in-Err : goal.invariant_of-self-in-Err
+invariant_of-self-in-Err g c =
+    let lists_are : c.len-lists.result ≡ length c.self.inside.draft.lists.items = omega (arith, c.len-lists.ensures, c.self.inside.draft.lists.ok) in
+    let changes_are : c.len-changes.result ≡ length c.self.inside.draft.changes.items = omega (arith, c.len-changes.ensures, c.self.inside.draft.changes.ok) in
+    let history = cut_history c.self.inside.draft c.read_more.new.draft c.cut.new.self c.read_more.ensures.front c.cut.ensures.epoch
+    (c.cut.ensures.lists ∙ ap (λ n. take n c.read_more.new.draft.lists.items) lists_are) (c.cut.ensures.changes ∙ ap (λ n. take n c.read_more.new.draft.changes.items) changes_are) in
+    loaded_cut c.self.inside.draft c.cut.new.self c.self.inside.newest.items c.self.inside.rest c.self.inside.stale c.self.invariant (c.cut.ensures.sized ∙ c.read_more.ensures.front.sized) history c.cut.ensures.hashes
+
+pub returns-in-Err-clause-same : goal.returns-in-Err-clause-same
+returns-in-Err-clause-same g c =
+    let lists_are : c.len-lists.result ≡ length c.self.inside.draft.lists.items = omega (arith, c.len-lists.ensures, c.self.inside.draft.lists.ok) in
+    let changes_are : c.len-changes.result ≡ length c.self.inside.draft.changes.items = omega (arith, c.len-changes.ensures, c.self.inside.draft.changes.ok) in
+    let history = cut_history c.self.inside.draft c.read_more.new.draft c.cut.new.self c.read_more.ensures.front c.cut.ensures.epoch
+    (c.cut.ensures.lists ∙ ap (λ n. take n c.read_more.new.draft.lists.items) lists_are) (c.cut.ensures.changes ∙ ap (λ n. take n c.read_more.new.draft.changes.items) changes_are) in
+    same_kept c.self.inside.draft c.cut.new.self (c.cut.ensures.sized ∙ c.read_more.ensures.front.sized) history c.self.inside.rest ∙ c.self.view_is
