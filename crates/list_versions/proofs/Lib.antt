@@ -1,5 +1,6 @@
 pub mod Applying
 pub mod Beginning
+pub mod Begun
 pub mod Completing
 pub mod Crowds
 pub mod Digits

@@ -5,6 +5,7 @@ pub mod Limits
 pub mod Lines
 pub mod Live
 pub mod Loaded
+pub mod Lookup
 pub mod Pieces
 pub mod Printed
 pub mod Renewing

@@ -14,10 +14,13 @@ ghost use Rattle.list_versions.specs.Pieces.{ReadsAll, StopsAt};
 
 use crate::JournalFault;
 use crate::draft::Draft;
+use crate::folding::live_at;
 use crate::growing::{More, read_more};
 use crate::lists::{same, size_of};
+use crate::lookup::{hashes_with, live_of};
 use crate::newest::Newest;
 use crate::pieces::{buffer_of, read_first};
+use crate::published::published_set;
 use crate::renewing::{Before, take_kept};
 use hash_prefixes::{FullHash, Prefix};
 use prefix_set::PrefixSet;
@@ -264,7 +267,18 @@ impl History {
         ensures none { IfOk result (λ found. IfNone found ((declares self.now.versions list ≡ false)
             ⊎ (version_count self.now.versions < version))) }
     {
-        Err(OutOfMemory)
+        if version > self.draft.changes.len() as u64 {
+            return Ok(None);
+        }
+        let Some(newest) = self.newest(list) else {
+            return Ok(None);
+        };
+        let version = version as usize;
+        if version == self.draft.changes.len() {
+            return Ok(Some(newest.set.copy(alloc)?));
+        }
+        let live = live_at(alloc, &self.draft, list, version)?;
+        Ok(Some(published_set(alloc, &live)?))
     }
 
     /// The full hashes of a declared list at a version that begin with a prefix, rising.
@@ -279,6 +293,14 @@ impl History {
         requires within { version ≤ version_count self.now.versions }
         ensures { IfOk result (λ hashes. map (λ hash. hash.bytes) hashes ≡ set_of (filter (λ hash. bytes_eq (take (length prefix.now) hash) prefix.now) (full_hashes_at self.now.versions list version))) }
     {
-        Err(OutOfMemory)
+        let version = version as usize;
+        if version == self.draft.changes.len()
+            && !self.stale
+            && let Some(live) = live_of(self.draft.lists.as_slice(), list)
+        {
+            return hashes_with(alloc, live, prefix);
+        }
+        let live = live_at(alloc, &self.draft, list, version)?;
+        hashes_with(alloc, &live, prefix)
     }
 }

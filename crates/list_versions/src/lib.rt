@@ -22,6 +22,7 @@ mod history;
 mod lines;
 mod lists;
 mod live;
+mod lookup;
 mod newest;
 mod pieces;
 mod printing;
