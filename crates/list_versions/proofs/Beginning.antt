@@ -11,7 +11,7 @@ use Rattle.list_versions.specs.Split.{IsLine, IsLong}
 use Rattle.list_versions.proofs.LineEnds.{parts_line, parts_long}
 use Rattle.list_versions.proofs.Parts.{parts_some}
 
-first_parts : (line : List ℕ) (parts : List (List ℕ)) → 0 < length parts → after_first (line ∷ parts) ≡ after_header (if_short line (header_of line)) parts
+pub first_parts : (line : List ℕ) (parts : List (List ℕ)) → 0 < length parts → after_first (line ∷ parts) ≡ after_header (if_short line (header_of line)) parts
 first_parts line [] h = absurd (omega arith)
 first_parts line (part ∷ parts) h = refl
 

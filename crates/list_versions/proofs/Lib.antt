@@ -3,6 +3,7 @@ pub mod Beginning
 pub mod Begun
 pub mod Completing
 pub mod Crowds
+pub mod Cuts
 pub mod Digits
 pub mod Ending
 pub mod Finding

@@ -1,0 +1,9 @@
+ghost use Rattle.std.specs.Prelude.{◌≡◌, ℕ, List, ◌++◌, Ok};
+ghost use Rattle.list_versions.specs.Journal.{Kept, kept_of, read_on};
+
+/// However a journal is cut after its first line, reading the front and then the rest comes to what
+/// reading the whole does: the same history with the same rest, or the same fault.
+pub fn cuts_make_no_difference()
+    ensures { (front rest : List ℕ) (kept : Kept) → kept_of front ≡ Ok kept
+        → read_on kept rest ≡ kept_of (front ++ rest) }
+{}
