@@ -1,3 +1,4 @@
+pub mod Answering
 pub mod Counts
 pub mod Tokens
 pub mod Updates

@@ -5,12 +5,14 @@
 //! answer to a whole request is defined in `update_messages`, for any naming.
 #![tactic(auto)]
 
+pub use answering::{ServeFault, Settings, answer_fetch};
 pub use laws::tokens_name_versions;
 pub use sets::{addition_sets, removal_sets};
 pub use tokens::{held_version, read_state, state_token};
 pub use updates::{Sent, full_update, partial_update};
 pub use walk::{changes_taken, target_of};
 
+mod answering;
 mod hashes;
 mod holders;
 mod laws;
