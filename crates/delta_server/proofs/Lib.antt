@@ -1,3 +1,4 @@
+pub mod AnswerFacts
 pub mod CountFacts
 pub mod EntryFacts
 pub mod Membership

@@ -40,7 +40,7 @@ all_new [] = refl
 all_new (m ∷ ms) = ap (λ (xs : List (List ℕ)). m ∷ xs) (all_new ms)
 
 -- one who holds nothing differs by the whole set
-from_nothing : (set : List (List ℕ)) → difference_count [] set ≡ length set
+pub from_nothing : (set : List (List ℕ)) → difference_count [] set ≡ length set
 from_nothing set = ap (λ (xs : List (List ℕ)). 0 + length xs) (all_new set) ∙ omega arith
 
 pub target_none : (history : History) (list : ListName) (max_update max_database : ℕ)
@@ -85,6 +85,10 @@ module _ (history : History) (list : ListName) (held max_update max_database : �
   greatest_held : (a : ℕ) → a ≡ held → greatest_up_to reach a ≡ a
   greatest_held zero is = refl
   greatest_held (suc a) is = ap (λ (t : Bool). if t then suc a else greatest_up_to reach a) (reach_held (suc a) is)
+
+  -- one who holds the newest version stays there
+  pub stays_newest : version_count history ≡ held → target_version history list (Some held) max_update max_database ≡ held
+  stays_newest is = greatest_held (version_count history) is ∙ is
 
   add_if : (t : Bool) (k m n : ℕ) → (if t then held + k else held + m) ≡ held + (if t then k else m)
   add_if true k m n = refl

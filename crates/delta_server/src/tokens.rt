@@ -1,4 +1,4 @@
-ghost use Rattle.std.specs.Prelude.{◌≡◌, ℕ, ◌≤◌, ◌↔◌, Some, length, IsTrue};
+ghost use Rattle.std.specs.Prelude.{◌≡◌, ℕ, ◌≤◌, ◌↔◌, Some, length, IsTrue, IfSome};
 ghost use Rattle.std.specs.Int.{w64, from_be_bytes};
 ghost use Rattle.sb_model.specs.declared.names.ListName.{ListName};
 ghost use Rattle.sb_model.specs.History.{History, version_count};
@@ -105,8 +105,9 @@ fn is_same(a: ListName, b: ListName) -> bool
 
 /// The version of a list that a state names, where it is the state token of one.
 pub fn held_version(epoch: u64, len: u64, list: ListName, state: &[u8]) -> Option<u64>
-    ensures { (history : History) → history.epoch ≡ epoch → version_count history ≡ len
+    ensures named { (history : History) → history.epoch ≡ epoch → version_count history ≡ len
         → result ≡ version_named history (server_naming history) list state.now }
+    ensures within { IfSome result (λ version. version ≤ len) }
 {
     let Some((named, version)) = read_state(epoch, len, state) else {
         return None;

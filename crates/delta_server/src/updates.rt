@@ -1,4 +1,4 @@
-ghost use Rattle.std.specs.Prelude.{◌≡◌, ◌≤◌, length, IfOk};
+ghost use Rattle.std.specs.Prelude.{◌≡◌, ℕ, ◌≤◌, List, length, IfOk};
 ghost use Rattle.sha2.specs.Sha256.{sha256};
 ghost use Rattle.sb_model.specs.Prefixes.{concatenation};
 ghost use Rattle.delta_server.specs.Updates.{whole_update, difference_update};
@@ -65,13 +65,37 @@ pub fn partial_update(
     let _ = old.len();
     let _ = newer.set.len();
     let delta = old.difference(alloc, newer.set)?;
+    let base = asked.state.copy()?;
     Ok(ListUpdate {
         name: asked.name,
         full: false,
-        base: asked.state.copy()?,
+        base,
         additions: addition_sets(alloc, delta.additions.as_slice(), asked.rice)?,
         removals: removal_sets(alloc, delta.removals, size, asked.rice)?,
         new_state: Bytes::from_slice(alloc, newer.token.as_slice())?,
         checksum: newer.digest,
+    })
+}
+
+/// The update from the set of the asked state to the same set: there is nothing to take out or to
+/// put in. Neither the set nor the size that is declared is needed for it.
+pub fn unchanged_update(
+    alloc: Global,
+    asked: &ListRequest,
+    digest: [u8; 32],
+    token: [u8; 20],
+) -> Result<ListUpdate, OutOfMemory>
+    ensures { IfOk result (λ update. (size : ℕ) (set : List (List ℕ)) → digest ≡ sha256 (concatenation set)
+        → update ≡ difference_update asked.now size set set token) }
+{
+    let state = asked.state.copy()?;
+    Ok(ListUpdate {
+        name: asked.name,
+        full: false,
+        base: state,
+        additions: Row::new(alloc),
+        removals: Row::new(alloc),
+        new_state: Bytes::from_slice(alloc, token.as_slice())?,
+        checksum: digest,
     })
 }

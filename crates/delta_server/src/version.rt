@@ -21,8 +21,8 @@ pub(crate) struct Version<'a> {
     pub(crate) holders: Holders<'a>,
 }
 
-// Whether a count is within a limit, of which 0 means none.
-fn is_within(limit: u32, count: u64) -> bool
+/// Whether a count is within a limit, of which 0 means none.
+pub(crate) fn is_within(limit: u32, count: u64) -> bool
     ensures { result ≡ is_within limit count }
 {
     limit == 0 || count <= u64::from(limit)

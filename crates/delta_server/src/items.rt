@@ -1,0 +1,160 @@
+ghost use Rattle.std.specs.Prelude.{◌≡◌, ◌≤◌, true, Some, None, map, All, IfOk, IfSome};
+ghost use Rattle.sb_model.specs.History.{declares, version_count};
+ghost use Rattle.sb_model.specs.Target.{target_version};
+ghost use Rattle.update_messages.specs.Answer.{version_named, update_to, update_for};
+ghost use Rattle.delta_server.specs.Served.{IsServed};
+ghost use Rattle.delta_server.specs.Tokens.{server_naming};
+
+use crate::served::{Served, prefixes_at, served_list};
+use crate::target::{Limits, target};
+use crate::tokens::{held_version, state_token};
+use crate::updates::{Sent, full_update, partial_update, unchanged_update};
+use list_versions::History;
+use prefix_set::PrefixSet;
+use sb_model::{OutOfMemory, Row};
+use std::alloc::Global;
+use update_messages::{ListRequest, ListUpdate};
+
+// The limits of an asked list.
+fn limits_of(asked: &ListRequest) -> Limits
+    ensures update { result.update ≡ asked.now.max_update }
+    ensures database { result.database ≡ asked.now.max_database }
+{
+    Limits {
+        update: asked.max_update,
+        database: asked.max_database,
+    }
+}
+
+// The update for one who holds no version of a list: a whole set.
+fn whole_answer(
+    alloc: Global,
+    history: &History,
+    served: &Served<'_>,
+    asked: &ListRequest,
+) -> Result<ListUpdate, OutOfMemory>
+    requires { IsServed served.now history.now.versions asked.now.name }
+    ensures { IfOk result (λ update. update ≡ update_to history.now.versions (server_naming history.now.versions) asked.now None
+        (target_version history.now.versions asked.now.name None asked.now.max_update asked.now.max_database)) }
+{
+    let list = asked.name;
+    let nothing = PrefixSet::empty(alloc);
+    let version = target(
+        alloc,
+        history,
+        list,
+        served,
+        None,
+        &nothing,
+        limits_of(asked),
+    )?;
+    let token = state_token(history.epoch(), list, version);
+    if version == history.len() {
+        let newest = Sent {
+            set: served.set,
+            digest: served.digest,
+            token,
+        };
+        return full_update(alloc, asked, &newest);
+    }
+    let set = prefixes_at(alloc, history, list, version)?;
+    let digest = set.digest();
+    let older = Sent {
+        set: &set,
+        digest,
+        token,
+    };
+    full_update(alloc, asked, &older)
+}
+
+// The update for one who holds a version of a list: what leads from its set to another.
+fn partial_answer(
+    alloc: Global,
+    history: &History,
+    served: &Served<'_>,
+    asked: &ListRequest,
+    held: u64,
+) -> Result<ListUpdate, OutOfMemory>
+    requires served { IsServed served.now history.now.versions asked.now.name }
+    requires within { held ≤ version_count history.now.versions }
+    ensures { IfOk result (λ update. update ≡ update_to history.now.versions (server_naming history.now.versions) asked.now (Some held)
+        (target_version history.now.versions asked.now.name (Some held) asked.now.max_update asked.now.max_database)) }
+{
+    let list = asked.name;
+    if held == history.len() {
+        let token = state_token(history.epoch(), list, held);
+        return unchanged_update(alloc, asked, served.digest, token);
+    }
+    let old = prefixes_at(alloc, history, list, held)?;
+    let version = target(
+        alloc,
+        history,
+        list,
+        served,
+        Some(held),
+        &old,
+        limits_of(asked),
+    )?;
+    let token = state_token(history.epoch(), list, version);
+    if version == history.len() {
+        let newest = Sent {
+            set: served.set,
+            digest: served.digest,
+            token,
+        };
+        return partial_update(alloc, asked, served.size, &old, &newest);
+    }
+    let set = prefixes_at(alloc, history, list, version)?;
+    let digest = set.digest();
+    let older = Sent {
+        set: &set,
+        digest,
+        token,
+    };
+    partial_update(alloc, asked, served.size, &old, &older)
+}
+
+// The version that the asked state names, where it names one.
+fn asked_version(history: &History, asked: &ListRequest) -> Option<u64>
+    ensures named { result ≡ version_named history.now.versions (server_naming history.now.versions) asked.now.name asked.now.state }
+    ensures within { IfSome result (λ version. version ≤ version_count history.now.versions) }
+{
+    let state = asked.state.as_slice();
+    held_version(history.epoch(), history.len(), asked.name, state)
+}
+
+// The update of an asked list that is declared.
+fn answer_item(
+    alloc: Global,
+    history: &History,
+    asked: &ListRequest,
+) -> Result<ListUpdate, OutOfMemory>
+    requires { declares history.now.versions asked.now.name ≡ true }
+    ensures { IfOk result (λ update. update
+        ≡ update_for history.now.versions (server_naming history.now.versions) asked.now) }
+{
+    let Some(served) = served_list(history, asked.name) else {
+        unreachable!()
+    };
+    match asked_version(history, asked) {
+        None => whole_answer(alloc, history, &served, asked),
+        Some(held) => partial_answer(alloc, history, &served, asked, held),
+    }
+}
+
+/// The updates of asked lists that are declared, in order.
+pub(crate) fn answer_items(
+    alloc: Global,
+    history: &History,
+    items: &[ListRequest],
+) -> Result<Row<ListUpdate>, OutOfMemory>
+    requires { All (λ asked. declares history.now.versions asked.name ≡ true) items.now }
+    ensures { IfOk result (λ updates. updates
+        ≡ map (update_for history.now.versions (server_naming history.now.versions)) items.now) }
+{
+    let mut updates = Row::with_capacity(alloc, items.len())?;
+    for asked in items {
+        updates.push(answer_item(alloc, history, asked)?)?;
+    }
+    Ok(updates)
+}

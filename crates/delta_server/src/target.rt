@@ -1,0 +1,66 @@
+ghost use Rattle.std.specs.Prelude.{◌≡◌, ℕ, ◌≤◌, List, true, IfOk, IfSome, IsTrue};
+ghost use Rattle.sb_model.specs.History.{version_count};
+ghost use Rattle.sb_model.specs.Target.{target_version};
+ghost use Rattle.delta_server.specs.Served.{IsServed};
+ghost use Rattle.delta_server.specs.Walk.{may_take, held_set};
+
+use crate::served::Served;
+use crate::version::is_within;
+use crate::walk::target_of;
+use list_versions::History;
+use prefix_set::PrefixSet;
+use sb_model::{ListName, OutOfMemory, targets_are_the_greatest};
+use std::alloc::Global;
+
+/// The most prefixes that a client takes, 0 for no limit.
+#[derive(Clone, Copy)]
+pub(crate) struct Limits {
+    /// In an update.
+    pub(crate) update: u32,
+    /// In a set.
+    pub(crate) database: u32,
+}
+
+// Whether one who holds a set may be brought to another, told by their sizes alone: they differ in
+// no more prefixes than they have together.
+fn may_surely_take(held: &PrefixSet, newer: &PrefixSet, limits: Limits) -> bool
+    ensures { IsTrue result → may_take held.now limits.update limits.database newer.now ≡ true }
+{
+    let most = u64::from(held.len()) + u64::from(newer.len());
+    is_within(limits.update, most) && is_within(limits.database, u64::from(newer.len()))
+}
+
+/// The version of a list that a client is brought to, who holds a version of it or none, and the
+/// set of the version that it holds, or the empty set. It walks through the changes only where the
+/// limits may keep the client from the newest version.
+pub(crate) fn target(
+    alloc: Global,
+    history: &History,
+    list: ListName,
+    served: &Served<'_>,
+    from: Option<u64>,
+    held: &PrefixSet,
+    limits: Limits,
+) -> Result<u64, OutOfMemory>
+    requires served { IsServed served.now history.now.versions list }
+    requires within { IfSome from (λ version. version ≤ version_count history.now.versions) }
+    requires held { held.now ≡ held_set list from history.now.versions.changes }
+    ensures target { IfOk result (λ version. version
+        ≡ target_version history.now.versions list from limits.update limits.database) }
+    ensures within { IfOk result (λ version. version ≤ version_count history.now.versions) }
+{
+    targets_are_the_greatest();
+    if may_surely_take(held, served.set, limits) {
+        return Ok(history.len());
+    }
+    let _ = history.len();
+    target_of(
+        alloc,
+        list,
+        from,
+        held,
+        history.changes(),
+        limits.update,
+        limits.database,
+    )
+}
