@@ -2,6 +2,14 @@
 #![tactic(auto)]
 
 #[cfg(test)]
+mod fetches;
+#[cfg(test)]
+mod journals;
+#[cfg(test)]
 mod sets;
+#[cfg(test)]
+mod states;
+#[cfg(test)]
+mod targets;
 #[cfg(test)]
 mod tokens;
