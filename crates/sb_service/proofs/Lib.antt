@@ -1,0 +1,5 @@
+pub mod Commands
+pub mod Faults
+pub mod Fronts
+pub mod Loads
+pub mod Runs

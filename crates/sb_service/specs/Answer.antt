@@ -1,0 +1,142 @@
+-- A run of `answer`: what the journal and the input gave, what that comes to, what was written of it, and the status. Of a
+-- run that was refused memory nothing is said here.
+use Rattle.std.specs.Prelude.{◌≡◌, ◌≢◌, ◌⊎◌, ◌^◌, ◌-◌, ◌<◌, ◌≤◌, ℕ, Bool, List, length, Option, Some, Result, Ok, Err}
+use Rattle.sb_json.specs.Values.{value_of}
+use Rattle.sb_outside.specs.Outside.{Rose, appended}
+use Rattle.sb_outside.specs.Reading.{ReadsToEnd, GivesAtMost, GivesMoreThan}
+use Rattle.sb_outside.specs.Writing.{HasFront}
+use Rattle.sb_outside.specs.declared.reading.InputFault.{InputFault}
+use Rattle.sb_outside.specs.declared.reading.InputFault.TheVariants as input
+use Rattle.sb_model.specs.History.{History}
+use Rattle.list_versions.specs.Journal.{Kept}
+use Rattle.list_versions.specs.Loaded.{Gives, JournalOutcome}
+use Rattle.list_versions.specs.declared.fault.JournalFault.{JournalFault}
+use Rattle.list_versions.specs.declared.fault.JournalFault.TheVariants as journal
+use Rattle.update_messages.specs.Reading.{ReadsRequest, IsTextOf}
+use Rattle.update_messages.specs.Faults.{fault_of_request, fault_of_text}
+use Rattle.sb_service.specs.declared.command.Command.{Command}
+use Rattle.sb_service.specs.declared.command.Command.TheVariants.{Answer}
+use Rattle.sb_service.specs.Printed.{Reading, Reply, refusal_of, reply_to}
+
+-- each exit status that a run of the server can have
+abbrev pub IsStatus : ℕ → Type 0
+IsStatus status =
+    (status ≡ 0) ⊎ (status ≡ 1) ⊎ (status ≡ 2) ⊎ (status ≡ 3) ⊎ (status ≡ 5) ⊎ (status ≡ 6) ⊎ (status ≡ 7) ⊎ (status ≡ 8)
+
+-- ---- what is written
+
+-- Nothing was written in a run with this status.
+pub record IsSilent (wanted status : ℕ) (held held' : Option (List ℕ)) : Type 0 where
+  pub ends : status ≡ wanted
+  pub nothing : held' ≡ held
+
+-- A text was written, and the run has the status that goes with it.
+pub record IsWhole (reply : Reply) (status : ℕ) (held held' : Option (List ℕ)) : Type 0 where
+  pub ends : status ≡ reply.status
+  pub whole : held' ≡ appended held reply.text
+
+-- Of a text a front that lacks something was written: the output failed.
+pub record IsCutShort (reply : Reply) (status : ℕ) (held held' : Option (List ℕ)) : Type 0 where
+  pub ends : status ≡ 3
+  pub front : HasFront held held' reply.text
+
+abbrev pub IsWritten : Reply → ℕ → (held held' : Option (List ℕ)) → Type 0
+IsWritten reply status held held' = IsWhole reply status held held' ⊎ IsCutShort reply status held held'
+
+-- The usage text was written whole, without a fault, or a front of it that lacks something, and the output's count of
+-- faults rose.
+abbrev pub TellsUsage : List ℕ → (held held' : Option (List ℕ)) → (faults faults' : ℕ) → Type 0
+TellsUsage usage held held' faults faults' =
+    ((held' ≡ appended held usage) × (faults' ≡ faults)) ⊎ (Rose faults faults' × HasFront held held' usage)
+
+-- ---- the input
+
+-- The body of a request has at most so many bytes.
+abbrev pub most_body : ℕ
+most_body = 1048576
+
+-- what an input gave: a whole body, or some bytes of one
+abbrev pub InputOutcome : Result (List ℕ) InputFault → (left left' : Option (List (List ℕ))) → Type 0
+InputOutcome (Ok body) left left' = ReadsToEnd body left left' × (length body ≤ most_body)
+InputOutcome (Err input.Failed) left left' = GivesAtMost most_body left left'
+InputOutcome (Err input.PastLimit) left left' = GivesMoreThan most_body left left'
+InputOutcome (Err input.OutOfMemory) left left' = ⊥
+
+-- A body is read as a request, or has a first fault.
+abbrev pub IsReadingOf : List ℕ → Reading → Type 0
+IsReadingOf body (Ok request) = IsTextOf ReadsRequest body request
+IsReadingOf body (Err fault) = fault_of_text fault_of_request (value_of body) ≡ Some fault
+
+-- A body was replied to by a server that has this history and says to wait so many seconds.
+pub record IsReplied (versions : History) (wait : ℕ) (body : List ℕ) (status : ℕ)
+    (held held' : Option (List ℕ)) : Type 0 where
+  pub reading : Reading
+  pub read : IsReadingOf body reading
+  pub written : IsWritten (reply_to versions wait reading) status held held'
+
+-- what the input led to: a reply, 2 where it failed, 6 where it is too long
+abbrev pub AfterInput : History → ℕ → Result (List ℕ) InputFault → ℕ
+    → (held held' : Option (List ℕ)) → Type 0
+AfterInput versions wait (Ok body) status held held' = IsReplied versions wait body status held held'
+AfterInput versions wait (Err input.Failed) status held held' = IsSilent 2 status held held'
+AfterInput versions wait (Err input.PastLimit) status held held' = IsSilent 6 status held held'
+AfterInput versions wait (Err input.OutOfMemory) status held held' = ⊥
+
+-- The input was read, and decided.
+pub record IsInputRun (versions : History) (wait status : ℕ) (left left' : Option (List (List ℕ)))
+    (held held' : Option (List ℕ)) : Type 0 where
+  pub given : Result (List ℕ) InputFault
+  pub outcome : InputOutcome given left left'
+  pub after : AfterInput versions wait given status held held'
+
+-- ---- the journal
+
+-- what a journal that is no history led to: 2 where it failed, and else its cause was told
+abbrev pub AfterFault : JournalFault → ℕ → (held held' : Option (List ℕ)) → Type 0
+AfterFault journal.ReadFault status held held' = IsSilent 2 status held held'
+AfterFault journal.OutOfMemory status held held' = ⊥
+AfterFault fault status held held' = IsWritten (refusal_of fault) status held held'
+
+-- The journal is no history, and nothing was read of the input.
+pub record IsFaultRun (fault : JournalFault) (status : ℕ) (left left' : Option (List (List ℕ)))
+    (held held' : Option (List ℕ)) : Type 0 where
+  pub unread : left' ≡ left
+  pub after : AfterFault fault status held held'
+
+-- what the journal led to
+abbrev pub AfterJournal : ℕ → Result Kept JournalFault → ℕ → (left left' : Option (List (List ℕ)))
+    → (held held' : Option (List ℕ)) → Type 0
+AfterJournal wait (Ok kept) status left left' held held' = IsInputRun kept.versions wait status left left' held held'
+AfterJournal wait (Err fault) status left left' held held' = IsFaultRun fault status left left' held held'
+
+-- A run of `answer`, of a server that says to wait so many seconds: the journal gave these bytes, with its end or without,
+-- and what they come to decided what became of the input and of the output.
+pub record IsAnswerRun (wait status : ℕ) (journal journal' left left' : Option (List (List ℕ)))
+    (held held' : Option (List ℕ)) : Type 0 where
+  pub bytes : List ℕ
+  pub ended : Bool
+  pub gives : Gives bytes ended journal journal'
+  pub loaded : Result Kept JournalFault
+  pub outcome : JournalOutcome bytes ended loaded
+  pub after : AfterJournal wait loaded status left left' held held'
+
+-- what a command did, unless memory was refused
+abbrev pub IsRunOf : Command → ℕ → (journal journal' left left' : Option (List (List ℕ)))
+    → (held held' : Option (List ℕ)) → Type 0
+IsRunOf (Answer settings) status journal journal' left left' held held' =
+    status ≢ 8 → IsAnswerRun settings.wait status journal journal' left left' held held'
+
+-- ---- the counts of faults
+
+-- With status 2 the count of the journal or that of the input rose, and with 3 that of the output. With others no count
+-- did, but for that of the output with 1, which the usage text may raise.
+pub record AreCounted (status : ℕ) (journal journal' input input' out out' : ℕ) : Type 0 where
+  pub read : status ≡ 2 → (Rose journal journal' × (input' ≡ input)) ⊎ (Rose input input' × (journal' ≡ journal))
+  pub read_kept : status ≢ 2 → (journal' ≡ journal) × (input' ≡ input)
+  pub written : status ≡ 3 → Rose out out'
+  pub written_kept : status ≢ 3 → status ≢ 1 → out' ≡ out
+
+-- A count could rise, and did not.
+pub record HasNoFault (faults faults' : ℕ) : Type 0 where
+  pub kept : faults' ≡ faults
+  pub low : faults < 2 ^ 64 - 1

@@ -1,0 +1,120 @@
+ghost use Rattle.std.specs.Prelude.{◌≡◌, ◌≢◌, ◌⊎◌, Ok, IfOk, OnErr};
+ghost use Rattle.sb_outside.specs.Outside.{Rose};
+ghost use Rattle.list_versions.specs.declared.fault.JournalFault.{JournalFault};
+ghost use Rattle.sb_service.specs.Answer.{AfterFault, IsAnswerRun, IsInputRun, IsReplied, IsWritten};
+
+use crate::reply::{Reply, refuse_journal, reply_to_body};
+use delta_server::Settings;
+use list_versions::{History, JournalFault};
+use sb_model::OutOfMemory;
+use sb_outside::{Failed, InputFault, Sink, Source, read_to_end, write_all};
+use std::alloc::Global;
+
+/// The most bytes of the body of a request.
+const MOST_BODY: usize = 1_048_576;
+
+/// Writes a reply, and answers its status, or 3 where the output failed.
+fn print<O: Sink>(out: &mut O, reply: &Reply) -> u8
+    requires { reply.now.status ≢ 3 }
+    ensures written { IsWritten reply.now result (O.contents out.old) (O.contents out.new) }
+    ensures ends { (result ≡ reply.now.status) ⊎ (result ≡ 3) }
+    ensures failed { result ≡ 3 → Rose (O.faults out.old) (O.faults out.new) }
+    ensures kept { result ≢ 3 → O.faults out.new ≡ O.faults out.old }
+{
+    match write_all(out, reply.text.as_slice()) {
+        Ok(()) => reply.status,
+        Err(Failed) => 3,
+    }
+}
+
+/// Replies to a body.
+fn answer_body<O: Sink>(
+    alloc: Global,
+    history: &History,
+    settings: &Settings,
+    body: &[u8],
+    out: &mut O,
+) -> Result<u8, OutOfMemory>
+    ensures replied { IfOk result (λ status. IsReplied history.now.versions settings.now.wait body.now status
+        (O.contents out.old) (O.contents out.new)) }
+    ensures ends { IfOk result (λ status. (status ≡ 0) ⊎ (status ≡ 3) ⊎ (status ≡ 5)) }
+    ensures failed { result ≡ Ok 3 → Rose (O.faults out.old) (O.faults out.new) }
+    ensures kept { result ≢ Ok 3 → O.faults out.new ≡ O.faults out.old }
+    ensures memory { OnErr result (out.new ≡ out.old) }
+{
+    let reply = reply_to_body(alloc, history, settings, body)?;
+    Ok(print(out, &reply))
+}
+
+/// Reads the input, and replies to it.
+fn answer_input<S: Source, O: Sink>(
+    alloc: Global,
+    history: &History,
+    settings: &Settings,
+    input: &mut S,
+    out: &mut O,
+) -> Result<u8, OutOfMemory>
+    ensures run { IfOk result (λ status. IsInputRun history.now.versions settings.now.wait status
+        (S.left input.old) (S.left input.new) (O.contents out.old) (O.contents out.new)) }
+    ensures ends { IfOk result (λ status. (status ≡ 0) ⊎ (status ≡ 2) ⊎ (status ≡ 3) ⊎ (status ≡ 5) ⊎ (status ≡ 6)) }
+    ensures input_failed { result ≡ Ok 2 → Rose (S.faults input.old) (S.faults input.new) }
+    ensures input_kept { result ≢ Ok 2 → S.faults input.new ≡ S.faults input.old }
+    ensures failed { result ≡ Ok 3 → Rose (O.faults out.old) (O.faults out.new) }
+    ensures kept { result ≢ Ok 3 → O.faults out.new ≡ O.faults out.old }
+    ensures memory { OnErr result (out.new ≡ out.old) }
+{
+    match read_to_end(alloc, input, MOST_BODY) {
+        Ok(body) => answer_body(alloc, history, settings, body.as_slice(), out),
+        Err(InputFault::Failed) => Ok(2),
+        Err(InputFault::PastLimit) => Ok(6),
+        Err(InputFault::OutOfMemory) => Err(OutOfMemory),
+    }
+}
+
+/// Says why a journal is no history.
+#[tactic(auto, using(crate::proofs::Faults::told))]
+fn answer_fault<O: Sink>(alloc: Global, fault: JournalFault, out: &mut O) -> Result<u8, OutOfMemory>
+    ensures after { IfOk result (λ status. AfterFault fault status (O.contents out.old) (O.contents out.new)) }
+    ensures ends { IfOk result (λ status. (status ≡ 2) ⊎ (status ≡ 3) ⊎ (status ≡ 7)) }
+    ensures journal_failed { result ≡ Ok 2 → fault ≡ JournalFault.ReadFault }
+    ensures journal_kept { result ≢ Ok 2 → fault ≢ JournalFault.ReadFault }
+    ensures failed { result ≡ Ok 3 → Rose (O.faults out.old) (O.faults out.new) }
+    ensures kept { result ≢ Ok 3 → O.faults out.new ≡ O.faults out.old }
+    ensures memory { OnErr result (out.new ≡ out.old) }
+{
+    match fault {
+        JournalFault::ReadFault => Ok(2),
+        JournalFault::OutOfMemory => Err(OutOfMemory),
+        _ => {
+            let reply = refuse_journal(alloc, fault)?;
+            Ok(print(out, &reply))
+        }
+    }
+}
+
+/// Loads the journal, reads the input, and replies to it.
+pub(crate) fn answer<J: Source, S: Source, O: Sink>(
+    alloc: Global,
+    settings: &Settings,
+    journal: &mut J,
+    input: &mut S,
+    out: &mut O,
+) -> Result<u8, OutOfMemory>
+    ensures run { IfOk result (λ status. IsAnswerRun settings.now.wait status (J.left journal.old) (J.left journal.new)
+        (S.left input.old) (S.left input.new) (O.contents out.old) (O.contents out.new)) }
+    ensures ends { IfOk result (λ status.
+        (status ≡ 0) ⊎ (status ≡ 2) ⊎ (status ≡ 3) ⊎ (status ≡ 5) ⊎ (status ≡ 6) ⊎ (status ≡ 7)) }
+    ensures failed { result ≡ Ok 2 →
+        (Rose (J.faults journal.old) (J.faults journal.new) × (S.faults input.new ≡ S.faults input.old))
+        ⊎ (Rose (S.faults input.old) (S.faults input.new) × (J.faults journal.new ≡ J.faults journal.old)) }
+    ensures read_kept { result ≢ Ok 2 →
+        (J.faults journal.new ≡ J.faults journal.old) × (S.faults input.new ≡ S.faults input.old) }
+    ensures output_failed { result ≡ Ok 3 → Rose (O.faults out.old) (O.faults out.new) }
+    ensures output_kept { result ≢ Ok 3 → O.faults out.new ≡ O.faults out.old }
+    ensures memory { OnErr result (out.new ≡ out.old) }
+{
+    match History::load(alloc, journal) {
+        Ok(history) => answer_input(alloc, &history, settings, input, out),
+        Err(fault) => answer_fault(alloc, fault, out),
+    }
+}

@@ -1,0 +1,57 @@
+ghost use Rattle.std.specs.Prelude.{◌≡◌, ◌++◌, ◌∷◌, [], IfOk, codes, decimal};
+ghost use Rattle.sb_json.specs.Printed.{cause_text as message_cause};
+ghost use Rattle.list_versions.specs.Lines.{newline};
+ghost use Rattle.update_messages.specs.Writing.{spelling_of_response};
+ghost use Rattle.delta_server.specs.declared.answering.ServeFault.{ServeFault};
+ghost use Rattle.sb_service.specs.Printed.{journal_line as line_of_journal, request_line, serve_cause};
+
+use itoa::Buffer;
+use list_versions::{JournalFault, push_journal_cause};
+use sb_json::{MessageFault, push_message_cause};
+use sb_model::{Bytes, OutOfMemory};
+use std::alloc::Global;
+use update_messages::{FetchResponse, write_response};
+
+/// The line of a journal that is refused.
+pub(crate) fn journal_line(alloc: Global, fault: JournalFault) -> Result<Bytes, OutOfMemory>
+    ensures { IfOk result (λ line. line ≡ line_of_journal fault) }
+{
+    let mut line = Bytes::new(alloc);
+    line.append(b"journal ")?;
+    push_journal_cause(&mut line, fault)?;
+    line.push(b'\n')?;
+    Ok(line)
+}
+
+/// The line of a body that has no reading.
+pub(crate) fn message_line(alloc: Global, fault: &MessageFault) -> Result<Bytes, OutOfMemory>
+    ensures { IfOk result (λ line. line ≡ request_line (message_cause fault.now)) }
+{
+    let mut line = Bytes::new(alloc);
+    line.append(b"request ")?;
+    push_message_cause(&mut line, fault)?;
+    line.push(b'\n')?;
+    Ok(line)
+}
+
+/// The line of a request whose item at this place, counted from 0, names a list that is not declared.
+pub(crate) fn unknown_line(alloc: Global, place: u32) -> Result<Bytes, OutOfMemory>
+    ensures { IfOk result (λ line. line ≡ request_line (serve_cause (ServeFault.UnknownList place))) }
+{
+    let mut buffer = Buffer::new();
+    let mut line = Bytes::new(alloc);
+    line.append(b"request ")?;
+    line.append(b"unknown-list ")?;
+    line.append(buffer.format(place).as_bytes())?;
+    line.push(b'\n')?;
+    Ok(line)
+}
+
+/// The line of an answer.
+pub(crate) fn response_line(alloc: Global, response: &FetchResponse) -> Result<Bytes, OutOfMemory>
+    ensures { IfOk result (λ line. line ≡ spelling_of_response response.now ++ newline ∷ []) }
+{
+    let mut line = write_response(alloc, response)?;
+    line.append(b"\n")?;
+    Ok(line)
+}

@@ -1,0 +1,88 @@
+ghost use Rattle.std.specs.Prelude.{◌≡◌, ◌≢◌, IfOk};
+ghost use Rattle.sb_json.specs.Printed.{cause_text as message_cause};
+ghost use Rattle.delta_server.specs.Answering.{serve_fault};
+ghost use Rattle.sb_service.specs.Printed.{Reading, refusal_of, reply_to, reply_unless, request_line};
+ghost use Rattle.sb_service.specs.Answer.{IsReadingOf};
+
+use crate::printing::{journal_line, message_line, response_line, unknown_line};
+use delta_server::{ServeFault, Settings, answer_fetch};
+use list_versions::{History, JournalFault};
+use sb_json::MessageFault;
+use sb_model::{Bytes, OutOfMemory};
+use std::alloc::Global;
+use std::marker::Model;
+use update_messages::{FetchRequest, read_request};
+
+/// What is printed, and the status of the run where it is written whole.
+#[derive(Debug, Drop)]
+pub(crate) struct Reply {
+    pub text: Bytes,
+    pub status: u8,
+}
+
+impl Model for Reply {
+    ghost use Rattle.sb_service.specs.Printed.{Reply as Replied};
+
+    ghost Value = { Replied };
+
+    ghost view = { λ r. record { text = r.text; status = r.status } };
+}
+
+/// The reply to one whose journal is refused. Want of memory is no cause that is told.
+pub(crate) fn refuse_journal(alloc: Global, fault: JournalFault) -> Result<Reply, OutOfMemory>
+    ensures { IfOk result (λ reply. reply ≡ refusal_of fault) }
+{
+    let text = journal_line(alloc, fault)?;
+    Ok(Reply { text, status: 7 })
+}
+
+/// The reply to a body that has no reading. Want of memory is no cause that is told.
+fn refuse_body(alloc: Global, fault: &MessageFault) -> Result<Reply, OutOfMemory>
+    ensures told { IfOk result (λ reply. reply ≡ record { text = request_line (message_cause fault.now); status = 5 }) }
+    ensures some { IfOk result (λ _. fault.now ≢ MessageFault.OutOfMemory) }
+{
+    if let MessageFault::OutOfMemory = fault {
+        return Err(OutOfMemory);
+    }
+    let text = message_line(alloc, fault)?;
+    Ok(Reply { text, status: 5 })
+}
+
+/// The reply to a request.
+fn reply_to_request(
+    alloc: Global,
+    history: &History,
+    settings: &Settings,
+    request: &FetchRequest,
+) -> Result<Reply, OutOfMemory>
+    ensures { IfOk result (λ reply. reply ≡ reply_unless history.now.versions settings.now.wait request.now
+        (serve_fault history.now.versions request.now)) }
+{
+    match answer_fetch(alloc, history, settings, request) {
+        Ok(response) => {
+            let text = response_line(alloc, &response)?;
+            Ok(Reply { text, status: 0 })
+        }
+        Err(ServeFault::UnknownList(place)) => {
+            let text = unknown_line(alloc, place)?;
+            Ok(Reply { text, status: 5 })
+        }
+        Err(ServeFault::OutOfMemory) => Err(OutOfMemory),
+    }
+}
+
+/// The reply to the body of a fetch request.
+pub(crate) fn reply_to_body(
+    alloc: Global,
+    history: &History,
+    settings: &Settings,
+    body: &[u8],
+) -> Result<Reply, OutOfMemory>
+    ensures { IfOk result (λ reply. (reading : Reading) × IsReadingOf body.now reading
+        × (reply ≡ reply_to history.now.versions settings.now.wait reading)) }
+{
+    match read_request(alloc, body) {
+        Ok(request) => reply_to_request(alloc, history, settings, &request),
+        Err(fault) => refuse_body(alloc, &fault),
+    }
+}

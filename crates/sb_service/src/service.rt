@@ -1,0 +1,130 @@
+ghost use Rattle.std.specs.Prelude.{◌≡◌, ◌≢◌, ◌⊎◌, ◌++◌, ◌∷◌, ◌≤◌, ℕ, List, [], length, map, string_bytes, None, Some, Ok};
+ghost use Rattle.sb_outside.specs.Outside.{appended, next_piece};
+ghost use Rattle.list_versions.specs.Journal.{Kept, kept_of};
+ghost use Rattle.update_messages.specs.Messages.{Request};
+ghost use Rattle.update_messages.specs.Reading.{ReadsRequest, IsTextOf};
+ghost use Rattle.delta_server.specs.Answering.{serve_fault};
+ghost use Rattle.sb_service.specs.Command.{AnswerWords, IsNoCommand, answer_of};
+ghost use Rattle.sb_service.specs.Printed.{answer_line};
+ghost use Rattle.sb_service.specs.Answer.{AreCounted, HasNoFault, IsAnswerRun, IsRunOf, IsStatus, TellsUsage, most_body};
+
+use crate::answer::answer;
+use crate::command::{Command, command_of};
+use sb_model::OutOfMemory;
+use sb_outside::{Door, Failed, Sink, Source, write_all};
+use std::alloc::Global;
+use update_messages::{values_read_one_way, values_read_or_have_a_fault};
+
+/// What is printed where the words are no command line.
+pub const USAGE: &str =
+    "usage: sblistd answer --journal PATH --kind fetch [--wait S] [--cache S] [--negative S]\n";
+
+/// Tells how the program is used.
+fn tell_usage<O: Sink>(out: &mut O) -> u8
+    ensures status { result ≡ 1 }
+    ensures usage { TellsUsage USAGE.now (O.contents out.old) (O.contents out.new) (O.faults out.old) (O.faults out.new) }
+{
+    match write_all(out, USAGE.as_bytes()) {
+        Ok(()) => 1,
+        Err(Failed) => 1,
+    }
+}
+
+/// The exit status of a command.
+fn run_command<J: Source, S: Source, O: Sink>(
+    alloc: Global,
+    command: Command,
+    journal: &mut J,
+    input: &mut S,
+    out: &mut O,
+) -> u8
+    ensures statuses { IsStatus result }
+    ensures some { result ≢ 1 }
+    ensures answers { IsRunOf command result (J.left journal.old) (J.left journal.new)
+        (S.left input.old) (S.left input.new) (O.contents out.old) (O.contents out.new) }
+    ensures memory { result ≡ 8 → out.new ≡ out.old }
+    ensures counts { AreCounted result (J.faults journal.old) (J.faults journal.new) (S.faults input.old) (S.faults input.new)
+        (O.faults out.old) (O.faults out.new) }
+{
+    match command {
+        Command::Answer(settings) => match answer(alloc, &settings, journal, input, out) {
+            Ok(status) => status,
+            Err(OutOfMemory) => 8,
+        },
+    }
+}
+
+/// Runs one command of the list server, and answers the exit status. The first word is the program's name, `sblistd`.
+///
+/// `answer` loads the journal, reads the input to its next end, takes it as the body of a fetch request
+/// (`threatListUpdates:fetch`), and writes the body of the answer and a newline.
+///
+/// | Status | Comes |
+/// |---|---|
+/// | 0 | where no other stands |
+/// | 1 | exactly where the words are no command line: the usage text is written |
+/// | 2 | only where the journal's or the input's count of faults rose |
+/// | 3 | only where the output's count of faults rose |
+/// | 5 | exactly where the body has no reading or names a list that is not declared: `request CAUSE` is written |
+/// | 6 | exactly where the input passes 1,048,576 bytes |
+/// | 7 | exactly where the journal has a bad line: `journal CAUSE` is written |
+/// | 8 | where memory was refused |
+///
+/// The first that comes ends the run. Where a line with a cause is not written whole, the status is 3. The door is not
+/// used.
+pub fn run_server<J: Source, S: Source, O: Sink, D: Door>(
+    alloc: Global,
+    words: &[String],
+    journal: &mut J,
+    input: &mut S,
+    out: &mut O,
+    door: &mut D,
+) -> u8
+    ensures statuses { IsStatus result }
+
+    // Words that are no command line: the usage text alone is written, and nothing is read.
+    ensures words { result ≡ 1 → IsNoCommand (map string_bytes words.now) }
+    ensures other_words { IsNoCommand (map string_bytes words.now) → (result ≡ 1) ⊎ (result ≡ 8) }
+    ensures unread { IsNoCommand (map string_bytes words.now) → (journal.new ≡ journal.old) × (input.new ≡ input.old) }
+    ensures usage { result ≡ 1 → TellsUsage USAGE.now (O.contents out.old) (O.contents out.new)
+        (O.faults out.old) (O.faults out.new) }
+
+    // What became of the journal, the input and the output. Where memory was refused, nothing was written.
+    ensures answers { (answer : AnswerWords) → answer_of (map string_bytes words.now) ≡ Some answer → result ≢ 8
+        → IsAnswerRun answer.settings.wait result (J.left journal.old) (J.left journal.new)
+        (S.left input.old) (S.left input.new) (O.contents out.old) (O.contents out.new) }
+    ensures memory { result ≡ 8 → out.new ≡ out.old }
+
+    // A count that rose names its fault.
+    ensures counts { AreCounted result (J.faults journal.old) (J.faults journal.new) (S.faults input.old) (S.faults input.new)
+        (O.faults out.old) (O.faults out.new) }
+    ensures door { door.new ≡ door.old }
+
+    // A request that reads and names declared lists is answered, where the journal has no fault and no count rose.
+    ensures complete { (answer : AnswerWords) (pieces bodies : List (List ℕ)) (kept : Kept) (request : Request)
+        → answer_of (map string_bytes words.now) ≡ Some answer
+        → J.left journal.old ≡ Some pieces → kept_of (next_piece pieces) ≡ Ok kept
+        → S.left input.old ≡ Some bodies → length (next_piece bodies) ≤ most_body
+        → IsTextOf ReadsRequest (next_piece bodies) request → serve_fault kept.versions request ≡ None
+        → HasNoFault (J.faults journal.old) (J.faults journal.new)
+        → HasNoFault (S.faults input.old) (S.faults input.new)
+        → HasNoFault (O.faults out.old) (O.faults out.new)
+        → (result ≡ 0) ⊎ (result ≡ 8) }
+
+    // What is written with status 0 is the answer to the request that the input is, over the history that the journal
+    // tells.
+    ensures served { (answer : AnswerWords) (pieces bodies : List (List ℕ)) (kept : Kept) (request : Request)
+        → answer_of (map string_bytes words.now) ≡ Some answer
+        → J.left journal.old ≡ Some pieces → kept_of (next_piece pieces) ≡ Ok kept
+        → S.left input.old ≡ Some bodies → IsTextOf ReadsRequest (next_piece bodies) request
+        → result ≡ 0
+        → O.contents out.new ≡ appended (O.contents out.old) (answer_line kept.versions answer.settings.wait request) }
+{
+    values_read_one_way();
+    values_read_or_have_a_fault();
+    match command_of(alloc, words) {
+        Ok(Some(command)) => run_command(alloc, command, journal, input, out),
+        Ok(None) => tell_usage(out),
+        Err(OutOfMemory) => 8,
+    }
+}
