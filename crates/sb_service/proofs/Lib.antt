@@ -1,4 +1,5 @@
 pub mod Commands
+pub mod ConnectionFacts
 pub mod Faults
 pub mod Fronts
 pub mod Loads

@@ -1,3 +1,6 @@
 pub mod Command
 pub mod Printed
 pub mod Answer
+pub mod Connection
+pub mod ConnectionLaws
+pub mod ConnectionSteps

@@ -1,12 +1,14 @@
 //! The top call of the list server: `sblistd answer` reads a journal and the body of one fetch request, and prints the
-//! body of the answer.
+//! body of the answer. `serve_connection` answers one request over HTTP.
 #![tactic(auto)]
 
+pub use connection::{ConnectionEnd, requests_have_one_response, serve_connection};
 pub use service::{USAGE, run_server};
 pub use targets::{ServerTargets, server_targets};
 
 mod answer;
 mod command;
+mod connection;
 mod printing;
 mod reply;
 mod service;

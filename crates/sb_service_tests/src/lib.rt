@@ -4,6 +4,8 @@
 #[cfg(test)]
 mod answers;
 #[cfg(test)]
+mod connection;
+#[cfg(test)]
 mod journals;
 #[cfg(test)]
 mod objects;
