@@ -6,13 +6,13 @@ use std::alloc::Global;
 use std::collections::BTreeMap;
 
 /// The first four bytes of a full hash.
-pub type HashHead = [u8; 4];
+pub(crate) type HashHead = [u8; 4];
 
 /// Full hashes by their first four bytes.
-pub type Buckets = BTreeMap<HashHead, Row<Added>>;
+pub(crate) type Buckets = BTreeMap<HashHead, Row<Added>>;
 
 /// The full hashes that begin with these bytes.
-pub fn bucket<'a>(buckets: &'a Buckets, head: &HashHead) -> &'a [Added]
+pub(crate) fn bucket<'a>(buckets: &'a Buckets, head: &HashHead) -> &'a [Added]
     ensures { result.now ≡ bucket_in buckets.now.entries head.now }
 {
     match buckets.get(head) {
@@ -22,7 +22,7 @@ pub fn bucket<'a>(buckets: &'a Buckets, head: &HashHead) -> &'a [Added]
 }
 
 /// Puts a bucket, in place of the one that was there.
-pub fn put_bucket(
+pub(crate) fn put_bucket(
     buckets: &mut Buckets,
     head: HashHead,
     bucket: Row<Added>,

@@ -26,7 +26,7 @@ const MOST_HASH_LINES: u64 = 2_097_152;
 
 /// A declared list with its newest full hashes.
 #[derive(Debug, Drop)]
-pub struct Listed {
+pub(crate) struct Listed {
     pub name: ListName,
     pub size: u8,
     pub live: Live,
@@ -34,7 +34,7 @@ pub struct Listed {
 
 /// A history that is being read, of which the records so far have ended.
 #[derive(Debug, Drop)]
-pub struct Draft {
+pub(crate) struct Draft {
     pub sized: bool,
     pub epoch: u64,
     pub lists: Vec<Listed>,
@@ -45,7 +45,7 @@ pub struct Draft {
 
 /// What the first line of a change says, and the size that is declared for its list.
 #[derive(Clone, Copy)]
-pub struct Begin {
+pub(crate) struct Begin {
     pub list: ListName,
     pub size: u8,
     pub to_add: u32,

@@ -2,13 +2,11 @@
 //! of them, and the prefixes of every version.
 #![tactic(auto)]
 
-pub use draft::{Draft, Listed};
 pub use fault::JournalFault;
 pub use heads::{Head, Header};
 pub use history::History;
 pub use laws::cuts_make_no_difference;
 pub use lines::{read_add, read_head, read_header, read_remove};
-pub use live::Live;
 pub use newest::Newest;
 pub use printing::push_journal_cause;
 pub use split::{LongLine, next_line};

@@ -14,7 +14,7 @@ use sb_model::{Change, ListName, OutOfMemory};
 use std::alloc::Global;
 
 /// Whether two names are the same.
-pub fn same(first: ListName, second: ListName) -> bool
+pub(crate) fn same(first: ListName, second: ListName) -> bool
     ensures { result ≡ same_name first second }
 {
     first.threat.code() == second.threat.code()
@@ -23,14 +23,14 @@ pub fn same(first: ListName, second: ListName) -> bool
 }
 
 /// Whether a list is declared.
-pub fn is_declared(lists: &[Listed], name: ListName) -> bool
+pub(crate) fn is_declared(lists: &[Listed], name: ListName) -> bool
     ensures { result ≡ list_any (λ list. same_name list.name name) lists.now }
 {
     lists.iter().any(|list| same(list.name, name))
 }
 
 /// The size that is declared for a list.
-pub fn size_of(lists: &[Listed], name: ListName) -> Option<u8>
+pub(crate) fn size_of(lists: &[Listed], name: ListName) -> Option<u8>
     ensures { result ≡ option_map (λ list. list.1) (find (λ list. same_name list.0 name) (declared_of lists.now)) }
 {
     for listed in lists {
@@ -58,7 +58,7 @@ fn apply_to(alloc: Global, listed: &mut Listed, change: &Change) -> Result<(), O
 }
 
 /// Applies a change to the list that it is of.
-pub fn apply_each(
+pub(crate) fn apply_each(
     alloc: Global,
     lists: &mut Vec<Listed>,
     change: &Change,
@@ -76,7 +76,7 @@ pub fn apply_each(
 }
 
 /// The fault of a line that ends a change, once the change is applied.
-pub fn limit_of(lists: &[Listed], change: &Change, line: u64) -> Option<JournalFault>
+pub(crate) fn limit_of(lists: &[Listed], change: &Change, line: u64) -> Option<JournalFault>
     requires { list_any (λ list. same_name list.name change.now.list) lists.now ≡ true }
     ensures { (sizes : Name → List Entry) → ((name : Name) → IsUncrowded (sizes name))
         → All (λ list. Holds list.live (after_change list.name (sizes list.name) change.now)) lists.now

@@ -23,7 +23,7 @@ const MOST_PREFIX_BYTES: u64 = 8_388_608;
 
 /// The newest full hashes of a list with their sizes, by their first four bytes.
 #[derive(Debug, Drop)]
-pub struct Live {
+pub(crate) struct Live {
     pub buckets: Buckets,
     pub count: u64,
     pub bytes: u64,

@@ -17,7 +17,7 @@ use std::mem;
 
 /// How many lists and changes a history had before it grew.
 #[derive(Clone, Copy, Debug)]
-pub struct Before {
+pub(crate) struct Before {
     pub lists: usize,
     pub changes: usize,
 }

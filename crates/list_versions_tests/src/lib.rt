@@ -2,4 +2,8 @@
 #![tactic(auto)]
 
 #[cfg(test)]
+mod histories;
+#[cfg(test)]
+mod journals;
+#[cfg(test)]
 mod tests;

@@ -1,5 +1,5 @@
 use list_versions::{
-    Draft, Head, JournalFault, next_line, push_journal_cause, read_add, read_head, read_header,
+    Head, JournalFault, next_line, push_journal_cause, read_add, read_head, read_header,
     read_remove,
 };
 use sb_model::{Bytes, EntryType, ListName, PlatformType, ThreatType};
@@ -127,28 +127,4 @@ fn causes_are_printed_with_their_lines(rt: HostRuntime) {
         page.as_slice()
             == b"header\nline 8\nunknown-list 2\nlist-twice 3\ntoo-many 4\ntoo-large 18446744073709551615\n".as_slice()
     );
-}
-
-// A list, a change of two hashes, and a change whose last line is cut after four bytes.
-const CUT: &[u8] =
-    b"list MALWARE/ANY_PLATFORM/URL 4\nchange MALWARE/ANY_PLATFORM/URL 2 0\n+3132333400000000000000000000000000000000000000000000000000000000\n+3536373800000000000000000000000000000000000000000000000000000000\nchange MALWARE/ANY_PLATFORM/URL 0 1\n-353";
-
-// The same with that line whole, and a line that is none.
-const BAD: &[u8] =
-    b"list MALWARE/ANY_PLATFORM/URL 4\nchange MALWARE/ANY_PLATFORM/URL 2 0\n+3132333400000000000000000000000000000000000000000000000000000000\n+3536373800000000000000000000000000000000000000000000000000000000\nchange MALWARE/ANY_PLATFORM/URL 0 1\n-3536373800000000000000000000000000000000000000000000000000000000\nlist X/Y/Z 4\n";
-
-#[test]
-fn a_record_that_has_not_ended_is_the_rest(rt: HostRuntime) {
-    let header = read_header(b"sblist 1 0000000000000001").expect(&rt, "a first line");
-    let mut draft = Draft::new(rt.alloc(), header);
-    match draft.read_records(rt.alloc(), CUT) {
-        Ok(rest) => assert!(rt; rest.len() == 40),
-        Err(_) => assert!(rt; false),
-    }
-    assert!(rt; draft.changes.len() == 1 && draft.lists.len() == 1 && draft.hashes == 2);
-    let mut draft = Draft::new(rt.alloc(), header);
-    match draft.read_records(rt.alloc(), BAD) {
-        Ok(_) => assert!(rt; false),
-        Err(fault) => assert!(rt; fault == JournalFault::Line(8)),
-    }
 }

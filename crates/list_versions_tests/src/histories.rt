@@ -1,0 +1,147 @@
+use crate::journals::{FIRST, MIXED, SECOND, cut_at, grown, joined, loaded, name, source};
+use hash_prefixes::Prefix;
+use list_versions::{History, JournalFault};
+use prefix_set::PrefixSet;
+use std::process::Abort;
+
+// Whether the members of a set are these.
+fn has(set: &PrefixSet, members: &[&[u8]]) -> bool {
+    set.iter().eq(members.iter().copied())
+}
+
+fn set_at(rt: &(impl Abort + AllocGlobal), history: &History, version: u64) -> PrefixSet {
+    let found = history
+        .prefixes(rt.alloc(), name(), version)
+        .expect(rt, "memory");
+    found.expect(rt, "a version of a declared list")
+}
+
+#[test]
+fn a_journal_has_its_versions(rt: HostRuntime) {
+    let journal = joined(rt.alloc(), FIRST, SECOND).expect(&rt, "memory");
+    let history = loaded(rt.alloc(), journal.as_slice()).expect(&rt, "a journal");
+    assert!(rt; history.epoch() == 1 && history.len() == 2 && history.rest_len() == 0);
+    assert!(rt; history.declared(name()) == Some(4) && history.changes().len() == 2);
+    assert!(rt; has(&set_at(&rt, &history, 0), &[]));
+    assert!(rt; has(&set_at(&rt, &history, 1), &[b"1234", b"5678"]));
+    assert!(rt; has(&set_at(&rt, &history, 2), &[b"1234"]));
+    let past = history
+        .prefixes(rt.alloc(), name(), 3)
+        .expect(&rt, "memory");
+    assert!(rt; past.is_none());
+}
+
+#[test]
+fn prefixes_have_several_sizes(rt: HostRuntime) {
+    let history = loaded(rt.alloc(), MIXED).expect(&rt, "a journal");
+    assert!(rt; has(&set_at(&rt, &history, 1), &[b"aaaabbbb", b"cccc"]));
+    assert!(rt; has(&set_at(&rt, &history, 2), &[b"aaaa", b"cccc"]));
+}
+
+#[test]
+fn a_record_that_has_not_ended_is_the_rest(rt: HostRuntime) {
+    let journal = joined(rt.alloc(), FIRST, &SECOND[..40]).expect(&rt, "memory");
+    let mut history = loaded(rt.alloc(), journal.as_slice()).expect(&rt, "a journal");
+    assert!(rt; history.len() == 1 && history.rest_len() == 40);
+    grown(rt.alloc(), &mut history, &[]).expect(&rt, "no bytes");
+    assert!(rt; history.len() == 1 && history.rest_len() == 40);
+    grown(rt.alloc(), &mut history, &SECOND[40..]).expect(&rt, "the rest");
+    assert!(rt; history.len() == 2 && history.rest_len() == 0);
+}
+
+#[test]
+fn every_cut_comes_to_the_same(rt: HostRuntime) {
+    let journal = joined(rt.alloc(), FIRST, SECOND).expect(&rt, "memory");
+    for at in 26..=journal.len() {
+        let history = cut_at(rt.alloc(), journal.as_slice(), at).expect(&rt, "a journal");
+        assert!(rt; history.len() == 2 && history.rest_len() == 0);
+        let newest = history.newest(name()).expect(&rt, "a declared list");
+        assert!(rt; has(&newest.set, &[b"1234"]));
+        assert!(rt; newest.digest == newest.set.digest());
+    }
+}
+
+#[test]
+fn a_refused_growth_leaves_the_history(rt: HostRuntime) {
+    let journal = joined(rt.alloc(), FIRST, &SECOND[..40]).expect(&rt, "memory");
+    let mut history = loaded(rt.alloc(), journal.as_slice()).expect(&rt, "a journal");
+    let bad = joined(rt.alloc(), &SECOND[40..], b"list X/Y/Z 4\n").expect(&rt, "memory");
+    let refused = grown(rt.alloc(), &mut history, bad.as_slice());
+    assert!(rt; refused == Err(JournalFault::Line(8)));
+    assert!(rt; history.len() == 1 && history.rest_len() == 40);
+    assert!(rt;
+        has(
+            &history.newest(name()).expect(&rt, "a list").set,
+            &[b"1234", b"5678"]
+        )
+    );
+    grown(rt.alloc(), &mut history, &SECOND[40..]).expect(&rt, "the rest");
+    assert!(rt; history.len() == 2 && history.rest_len() == 0);
+    assert!(rt;
+        has(
+            &history.newest(name()).expect(&rt, "a list").set,
+            &[b"1234"]
+        )
+    );
+}
+
+#[test]
+fn a_bad_line_before_a_read_fault_is_told(rt: HostRuntime) {
+    let mut failing = source(rt.alloc(), FIRST, &[2]).expect(&rt, "memory");
+    let failed = History::load(rt.alloc(), &mut failing);
+    assert!(rt; matches!(failed, Err(JournalFault::ReadFault)));
+    let journal = joined(rt.alloc(), FIRST, b"list X/Y/Z 4\n").expect(&rt, "memory");
+    let mut failing = source(rt.alloc(), journal.as_slice(), &[2]).expect(&rt, "memory");
+    let bad = History::load(rt.alloc(), &mut failing);
+    assert!(rt; matches!(bad, Err(JournalFault::Line(6))));
+}
+
+#[test]
+fn each_fault_has_its_line(rt: HostRuntime) {
+    for (line, fault) in [
+        (&b"list X/Y/Z 4\n"[..], JournalFault::Line(6)),
+        (
+            b"change MALWARE/ANY_PLATFORM/URL 0 0\n",
+            JournalFault::Line(6),
+        ),
+        (
+            b"change MALWARE/LINUX/URL 1 0\n",
+            JournalFault::UnknownList(6),
+        ),
+        (
+            b"list MALWARE/ANY_PLATFORM/URL 8\n",
+            JournalFault::ListTwice(6),
+        ),
+        (
+            b"change MALWARE/ANY_PLATFORM/URL 1 0\n-\n",
+            JournalFault::Line(7),
+        ),
+    ] {
+        let mut history = loaded(rt.alloc(), FIRST).expect(&rt, "a journal");
+        let refused = grown(rt.alloc(), &mut history, line);
+        assert!(rt; refused == Err(fault));
+    }
+    assert!(rt; matches!(loaded(rt.alloc(), b"sblist 1"), Err(JournalFault::Header)));
+    assert!(rt;
+        matches!(
+            loaded(rt.alloc(), b"sblist 3 0000000000000001\n"),
+            Err(JournalFault::Header)
+        )
+    );
+}
+
+#[test]
+fn full_hashes_begin_with_a_prefix(rt: HostRuntime) {
+    let history = loaded(rt.alloc(), MIXED).expect(&rt, "a journal");
+    let prefix = Prefix::from_bytes(b"aaaab").expect(&rt, "a prefix");
+    for version in 1..3 {
+        let hashes = history
+            .full_hashes(rt.alloc(), name(), version, &prefix)
+            .expect(&rt, "memory");
+        assert!(rt; hashes.len() == 1 && hashes.at(0).bytes[7] == b'b');
+    }
+    let none = history
+        .full_hashes(rt.alloc(), name(), 0, &prefix)
+        .expect(&rt, "memory");
+    assert!(rt; none.is_empty());
+}
