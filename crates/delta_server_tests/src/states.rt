@@ -12,6 +12,13 @@ fn gets_all(alloc: Global, state: &str) -> Result<bool, Fail> {
 }
 
 #[test]
+fn the_first_version_is_named(rt: HostRuntime) -> Result<(), Fail> {
+    let all = gets_all(rt.alloc(), "AQAAAAAAAAABAAAAAAAAAAEBBgE=")?;
+    assert!(rt; !all);
+    Ok(())
+}
+
+#[test]
 fn the_token_of_another_list_names_nothing(rt: HostRuntime) -> Result<(), Fail> {
     let all = gets_all(rt.alloc(), "AQAAAAAAAAABAAAAAAAAAAECBgE=")?;
     assert!(rt; all);

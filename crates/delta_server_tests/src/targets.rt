@@ -11,6 +11,8 @@ const MALWARE: ListName = ListName {
     entry: EntryType::Url,
 };
 
+const START: &str = "AQAAAAAAAAABAAAAAAAAAAABBgE=";
+
 const END: &str = "AQAAAAAAAAABAAAAAAAAAAIBBgE=";
 
 // A line that adds the hash which begins with a number in four decimal digits.
@@ -57,6 +59,34 @@ fn comes_to(
         response.items.iter().all(|update| update.full == full
             && update.new_state.as_slice() == token.as_slice()),
     )
+}
+
+#[test]
+fn an_update_limit_stops_at_the_first_change(rt: HostRuntime) -> Result<(), Fail> {
+    let comes = comes_to(rt.alloc(), START, "'maxUpdateEntries':1024", 1, false)?;
+    assert!(rt; comes);
+    Ok(())
+}
+
+#[test]
+fn without_a_limit_the_newest_version_is_reached(rt: HostRuntime) -> Result<(), Fail> {
+    let comes = comes_to(rt.alloc(), START, "", 2, false)?;
+    assert!(rt; comes);
+    Ok(())
+}
+
+#[test]
+fn a_whole_set_keeps_to_the_update_limit(rt: HostRuntime) -> Result<(), Fail> {
+    let comes = comes_to(rt.alloc(), "", "'maxUpdateEntries':1024", 1, true)?;
+    assert!(rt; comes);
+    Ok(())
+}
+
+#[test]
+fn a_database_limit_stops_at_the_first_change(rt: HostRuntime) -> Result<(), Fail> {
+    let comes = comes_to(rt.alloc(), START, "'maxDatabaseEntries':1024", 1, false)?;
+    assert!(rt; comes);
+    Ok(())
 }
 
 #[test]
