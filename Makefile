@@ -5,7 +5,7 @@
 
 SHELL := /bin/bash
 LIST := MALWARE/ANY_PLATFORM/URL
-PROGRAMS := sbupdate sbcheck kernels
+PROGRAMS := sbupdate sbcheck sblistd kernels
 SOURCES := crates.txt HANDLES $(shell find crates \( -name out -o -name must-fail \) -prune -o -type f -print)
 
 .PHONY: all test demo compare bench clean
@@ -13,9 +13,11 @@ SOURCES := crates.txt HANDLES $(shell find crates \( -name out -o -name must-fai
 
 all: $(PROGRAMS:%=bin/%)
 
-# `rt run` runs what it has built, here as its example does but with nothing to read.
+# `rt run` runs what it has built, here as its example does but with nothing to read. What the program answers then
+# does not count, as `sblistd` finds no journal: it was built, or it was not.
 bin/%: $(SOURCES)
-	cd crates/$* && rt run -- $$(< args) < /dev/null > /dev/null
+	rm -f crates/$*/out/$*
+	cd crates/$* && rt run -- $$(< args) < /dev/null > /dev/null || test -x out/$*
 	mkdir -p bin
 	cp crates/$*/out/$* $@
 
