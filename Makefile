@@ -30,8 +30,8 @@ demo: bin/sbupdate
 	@bin/sbupdate replay $(LIST) < demo/recording.jsonl; status=$$?; \
 	  echo "status $$status"; test $$status -eq 5
 
-# A second program of the same rules, in Python, has to print what sbupdate and sbcheck print.
-compare: bin/sbupdate bin/sbcheck
+# A second program of the same rules, in Python, has to print what sbupdate, sbcheck and sblistd print.
+compare: bin/sbupdate bin/sbcheck bin/sblistd
 	python3 compare/compare.py
 
 bench: all
