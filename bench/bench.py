@@ -23,15 +23,20 @@ import time
 
 REPOSITORY = os.path.dirname(os.path.dirname(os.path.abspath(__file__)))
 SBUPDATE = os.path.join(REPOSITORY, "bin", "sbupdate")
+SBLISTD = os.path.join(REPOSITORY, "bin", "sblistd")
 KERNELS = os.path.join(REPOSITORY, "bin", "kernels")
 
 LIST = "MALWARE/ANY_PLATFORM/URL"
+OTHER_LIST = "SOCIAL_ENGINEERING/ANY_PLATFORM/URL"
 SEED = 20240229
 MANY_PREFIXES = 1_048_576
 MANY_LINES = 1_000
 RICE_VALUES = 1_048_576
 SET_CHANGES = 4_000
 SET_LOOK_UPS = 1_000_000
+JOURNAL_CHANGES = 65_536
+LONG_CHANGES = 2_048
+LONG_HASHES = 1_024
 USUAL_URLS = 100_000
 HOSTILE_URLS = 2_000
 HOSTILE_BYTES = 8_192
@@ -188,6 +193,58 @@ def processor_times(kernels, count, runs):
     return best
 
 
+def write_journal(path, lists, changes, hashes):
+    """A journal of lists that take turns: each change has so many hash lines, and every fourth of a list takes one hash out."""
+    numbers = random.Random(SEED + 2)
+    added = {name: [] for name in lists}
+    with open(path, "w", encoding="ascii") as journal:
+        print(f"sblist 1 {1:016x}", file=journal)
+        for name in lists:
+            print(f"list {name} 4", file=journal)
+        for change in range(changes):
+            name, removes = lists[change % len(lists)], change // len(lists) % 4 == 3
+            some = [numbers.randbytes(32).hex() for _ in range(hashes - removes)]
+            gone = [numbers.choice(added[name])] if removes else []
+            added[name] += some[:1]
+            print(f"change {name} {len(some)} {len(gone)}", file=journal)
+            for line in [f"+{text}" for text in some] + [f"-{text}" for text in gone]:
+                print(line, file=journal)
+
+
+def write_request(path, version, max_update):
+    """A fetch request of one who holds a version, or nothing, and takes Rice coded sets."""
+    item = {"threatType": "MALWARE", "threatEntryType": "URL", "platformType": "ANY_PLATFORM"}
+    if version is not None:
+        item["state"] = text_of(bytes([1]) + (1).to_bytes(8, "big") + version.to_bytes(8, "big") + bytes([1, 6, 1]))
+    item["constraints"] = {"maxUpdateEntries": max_update, "supportedCompressions": ["RAW", "RICE"]}
+    with open(path, "w", encoding="ascii") as request:
+        json.dump({"listUpdateRequests": [item]}, request)
+
+
+def bench_answers(folder, runs):
+    journal, request = os.path.join(folder, "journal"), os.path.join(folder, "request")
+    words = [SBLISTD, "answer", "--journal", journal, "--kind", "fetch"]
+    in_child(write_journal, journal, [LIST], JOURNAL_CHANGES, 1)
+    print(f"sblistd answer, a journal of {JOURNAL_CHANGES:,} changes: {os.path.getsize(journal):,} bytes")
+    questions = (
+        ("the whole set", None, 0),
+        ("from the middle", JOURNAL_CHANGES // 2, 0),
+        ("from the middle, within 2,048", JOURNAL_CHANGES // 2, 2_048),
+        ("to one who has the newest", JOURNAL_CHANGES, 0),
+    )
+    for name, version, max_update in questions:
+        write_request(request, version, max_update)
+        took = min(run(words, request)[1] for _ in range(runs))
+        tell(name, f"{took * 1e3:.1f} ms", f"{peak_memory(words, request) / MIB:.1f} MiB at most")
+    in_child(write_journal, journal, [LIST, OTHER_LIST], LONG_CHANGES, LONG_HASHES)
+    write_request(request, LONG_CHANGES, 0)
+    size = os.path.getsize(journal)
+    took = min(run(words, request)[1] for _ in range(runs))
+    peak = peak_memory(words, request)
+    print(f"sblistd answer, a journal of {LONG_CHANGES * LONG_HASHES:,} hash lines: {size:,} bytes")
+    tell("to one who has the newest", f"{took:.2f} s", f"{peak / MIB:.1f} MiB at most")
+
+
 def bench_rice(runs):
     kernels = ("rice-values", "rice-encode", "rice-decode")
     values, encode, decode = processor_times(kernels, RICE_VALUES, runs)
@@ -250,6 +307,7 @@ def main():
         in_child(write_small, small)
         bench_replay(f"one update of {MANY_PREFIXES:,} prefixes", large, words.runs)
         bench_replay(f"{MANY_LINES:,} updates of 64 to 256 prefixes", small, words.runs)
+        bench_answers(folder, words.runs)
     bench_sets(words.kernel_runs)
     bench_rice(words.kernel_runs)
     bench_messages("prefixes as they are", "raw-", words.kernel_runs)
