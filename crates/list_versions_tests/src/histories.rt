@@ -1,7 +1,9 @@
 use crate::journals::{FIRST, MIXED, SECOND, cut_at, grown, joined, loaded, name, source};
-use hash_prefixes::Prefix;
+use hash_prefixes::{FullHash, Prefix};
 use list_versions::{History, JournalFault};
 use prefix_set::PrefixSet;
+use sb_model::{OutOfMemory, Row};
+use std::alloc::Global;
 use std::process::Abort;
 
 // Whether the members of a set are these.
@@ -130,18 +132,34 @@ fn each_fault_has_its_line(rt: HostRuntime) {
     );
 }
 
+// The full hashes that begin with a prefix, where the list is declared and has the version.
+fn hashes_at(
+    alloc: Global,
+    history: &History,
+    version: u64,
+    prefix: &Prefix,
+) -> Result<Option<Row<FullHash>>, OutOfMemory> {
+    let list = name();
+    let Some(_newest) = history.newest(list) else {
+        return Ok(None);
+    };
+    if version > history.len() {
+        return Ok(None);
+    }
+    Ok(Some(history.full_hashes(alloc, list, version, prefix)?))
+}
+
 #[test]
 fn full_hashes_begin_with_a_prefix(rt: HostRuntime) {
     let history = loaded(rt.alloc(), MIXED).expect(&rt, "a journal");
     let prefix = Prefix::from_bytes(b"aaaab").expect(&rt, "a prefix");
-    for version in 1..3 {
-        let hashes = history
-            .full_hashes(rt.alloc(), name(), version, &prefix)
-            .expect(&rt, "memory");
-        assert!(rt; hashes.len() == 1 && hashes.at(0).bytes[7] == b'b');
+    for version in 0..3 {
+        let found = hashes_at(rt.alloc(), &history, version, &prefix).expect(&rt, "memory");
+        let hashes = found.expect(&rt, "a version of a declared list");
+        if version == 0 {
+            assert!(rt; hashes.is_empty());
+        } else {
+            assert!(rt; hashes.len() == 1 && hashes.iter().all(|hash| hash.bytes[7] == b'b'));
+        }
     }
-    let none = history
-        .full_hashes(rt.alloc(), name(), 0, &prefix)
-        .expect(&rt, "memory");
-    assert!(rt; none.is_empty());
 }

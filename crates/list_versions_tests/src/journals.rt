@@ -1,3 +1,5 @@
+ghost use Rattle.std.specs.Prelude.{◌≤◌, length};
+
 use list_versions::{History, JournalFault};
 use sb_model::{Bytes, EntryType, ListName, OutOfMemory, PlatformType, Row, ThreatType};
 use sb_outside::MemorySource;
