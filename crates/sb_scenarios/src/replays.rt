@@ -42,10 +42,10 @@ fn list(threat: ThreatType) -> ListName {
     }
 }
 
-/// The history of the first changes.
-fn history(alloc: Global, changes: &[&str]) -> Result<History, Fail> {
+/// The history of so many changes, the first ones.
+fn history(alloc: Global, changes: usize) -> Result<History, Fail> {
     let mut journal = Bytes::from_slice(alloc, HEAD.as_bytes())?;
-    for change in changes {
+    for change in CHANGES.iter().take(changes) {
         journal.append(change.as_bytes())?;
     }
     let mut pieces = Row::new(alloc);
@@ -68,7 +68,7 @@ fn item(alloc: Global, threat: ThreatType, version: u64, rice: bool) -> Result<S
 
 /// What the server that has come to a version answers to a client that holds the version before.
 fn answer(alloc: Global, version: usize, rice: bool) -> Result<Bytes, Fail> {
-    let history = history(alloc, CHANGES.get(..version).unwrap_or(&[]))?;
+    let history = history(alloc, version)?;
     let held = (version as u64).saturating_sub(1);
     let first = item(alloc, ThreatType::Malware, held, rice)?;
     let second = item(alloc, ThreatType::SocialEngineering, held, rice)?;
