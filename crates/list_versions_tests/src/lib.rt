@@ -6,4 +6,6 @@ mod histories;
 #[cfg(test)]
 mod journals;
 #[cfg(test)]
+mod limits;
+#[cfg(test)]
 mod tests;
