@@ -1,30 +1,95 @@
 -- What a command line says.
-use Rattle.std.proofs.Common.{◌≡◌, ◌≢◌, ℕ, List, sym, ap, ◌∙◌, subst, Option, Some, None}
-use Rattle.std.specs.Prelude.{option_map}
+use Rattle.std.proofs.Common.{◌≡◌, ◌≢◌, ℕ, Bool, true, false, List, [], ◌∷◌, refl, sym, ap, ◌∙◌, subst, Option, Some, None, codes}
+use Rattle.std.specs.Prelude.{option_map, option_and_then, ◌&&◌, if◌then◌else◌}
+use Rattle.std.specs.Str.{bytes_eq}
+use Rattle.std.proofs.lemmas.Slice.Eq.{bytes_eq-Decides}
+use Rattle.sb_words.specs.CommandLine.{Text, Given, CommandShape, given_of}
 use Rattle.delta_server.specs.declared.answering.Settings.{Settings}
 use Rattle.sb_service.specs.declared.command.Command.{Command}
-use Rattle.sb_service.specs.declared.command.Command.TheVariants.{Answer}
-use Rattle.sb_service.specs.Command.{AnswerWords, answer_of, IsCommandOf, IsNoCommand}
-use Rattle.sb_service.specs.Answer.{IsAnswerRun, IsRunOf}
+use Rattle.sb_service.specs.declared.command.Command.TheVariants.{Answer, Serve}
+use Rattle.sb_service.specs.Command.{AnswerWords, ServeWords, answer_given, answer_of, answer_shape, given_to, serve_given, serve_of, serve_shape, AsksAnswer, AsksServe, IsCommandOf, IsNoCommand}
+
+-- ---- no words are those of both commands
+
+test_holds : (test : Bool) (given : Option Given) (found : Given) → (if test then given else None) ≡ Some found → test ≡ true
+test_holds true given found is = refl
+test_holds false given found is = absurd (cc)
+
+second_holds : (first second : Bool) → (first && second) ≡ true → second ≡ true
+second_holds true second is = is
+second_holds false second is = absurd (cc)
+
+given_some : {A : Type 0} (read : Given → Option A) (given : Option Given) (found : A) → option_and_then read given ≡ Some found → (some : Given) × (given ≡ Some some)
+given_some read None found is = absurd (cc)
+given_some read (Some given) found is = (given, refl)
+
+-- the second word, where words say something
+second_is : {A : Type 0} (command : Text) (shape : CommandShape) (read : Given → Option A) (first second : Text) (words : List Text) (found : A)
+    → option_and_then read (given_to command shape (first ∷ second ∷ words)) ≡ Some found → second ≡ command
+second_is command shape read first second words found is =
+    let some = given_some read _ found is in
+    let test : (bytes_eq first (codes "sblistd") && bytes_eq second command) ≡ true = test_holds _ (given_of shape words) some.0 some.1 in
+    (bytes_eq-Decides second command).0 (second_holds _ _ test)
+
+other_word : codes "answer" ≡ codes "serve" → ⊥
+other_word e = absurd (cc)
+
+both_not : (words : List Text) (answer : AnswerWords) (line : ServeWords) → answer_of words ≡ Some answer → serve_of words ≡ Some line → ⊥
+both_not [] answer line e h = absurd (cc)
+both_not (first ∷ []) answer line e h = absurd (cc)
+both_not (first ∷ second ∷ words) answer line e h =
+    other_word (sym (second_is (codes "answer") answer_shape answer_given first second words answer e)
+    ∙ second_is (codes "serve") serve_shape serve_given first second words line h)
+
+no_serve : (words : List Text) (answer : AnswerWords) (found : Option ServeWords) → answer_of words ≡ Some answer → serve_of words ≡ found → found ≡ None
+no_serve words answer None e h = refl
+no_serve words answer (Some line) e h = absurd (both_not words answer line e h)
+
+some_answer : (answer : Option AnswerWords) (settings : Settings) → option_map (λ (a : AnswerWords). a.settings) answer ≡ Some settings → (some : AnswerWords) × (answer ≡ Some some)
+some_answer None settings is = absurd (cc)
+some_answer (Some answer) settings is = (answer, refl)
+
+-- words of `answer` are none of `serve`
+pub asks_answer : (words : List Text) (settings : Settings) → option_map (λ (a : AnswerWords). a.settings) (answer_of words) ≡ Some settings → AsksAnswer words settings
+asks_answer words settings is =
+    let some = some_answer (answer_of words) settings is in
+    record { answer = is; serve = no_serve words some.0 (serve_of words) some.1 refl }
+
+-- ---- the command
 
 -- a command is some command
-settings_none : (answer : Option AnswerWords) (settings : Settings) → option_map (λ (a : AnswerWords). a.settings) answer ≡ Some settings → answer ≡ None → ⊥
-settings_none None settings e none = cc
-settings_none (Some answer) settings e none = cc
+pub is_some_command : (words : List Text) (command : Command) → IsCommandOf words (Some command) → IsNoCommand words → ⊥
+is_some_command words (Answer settings) asks none = let e : option_map (λ (answer : AnswerWords). answer.settings) (answer_of words) ≡ None = ap (option_map (λ (answer : AnswerWords). answer.settings)) none.answer in absurd (let h = asks.answer in cc)
+is_some_command words (Serve settings connections) asks none = absurd (let h = asks.serve in let k = none.serve in cc)
 
-pub is_some_command : (words : List (List ℕ)) (command : Command) → IsCommandOf words (Some command) → IsNoCommand words → ⊥
-is_some_command words (Answer settings) h none = settings_none (answer_of words) settings h none.answer
+by_answer : (words : List Text) (command : Command) (answer : AnswerWords) → IsCommandOf words (Some command) → answer_of words ≡ Some answer → command ≡ Answer answer.settings
+by_answer words (Answer settings) answer asks e =
+    let said : Some answer.settings ≡ Some settings = ap (option_map (λ (a : AnswerWords). a.settings)) (sym e) ∙ asks.answer in
+    cc
+by_answer words (Serve settings connections) answer asks e = absurd (let h = asks.answer in cc)
 
--- the settings of `answer`
-pub settings_are : (words : List (List ℕ)) (settings : Settings) (answer : AnswerWords) → IsCommandOf words (Some (Answer settings)) → answer_of words ≡ Some answer → settings ≡ answer.settings
-settings_are words settings answer h e =
-    let said : Some answer.settings ≡ Some settings = ap (option_map (λ (a : AnswerWords). a.settings)) (sym e) ∙ h in
+by_serve : (words : List Text) (command : Command) (line : ServeWords) → IsCommandOf words (Some command) → serve_of words ≡ Some line → command ≡ Serve line.settings line.connections
+by_serve words (Answer settings) line asks e = absurd (let h = asks.serve in cc)
+by_serve words (Serve settings connections) line asks e =
+    let same : Some asks.line ≡ Some line = sym asks.serve ∙ e in
+    let is : asks.line ≡ line = cc in
+    let times = asks.times in
+    let count = asks.count in
     cc
 
--- what a run of the words of `answer` did
-pub is_answer_run : (words : List (List ℕ)) (found : Option Command) (command : Command) (answer : AnswerWords) (status : ℕ) (journal journal' left left' : Option (List (List ℕ))) (held held' : Option (List ℕ))
-    → IsCommandOf words found → found ≡ Some command → answer_of words ≡ Some answer → IsRunOf command status journal journal' left left' held held' → status ≢ 8
-    → IsAnswerRun answer.settings.wait status journal journal' left left' held held'
-is_answer_run words found (Answer settings) answer status journal journal' left left' held held' is e said run other =
-    let same = settings_are words settings answer (subst (IsCommandOf words) e is) said in
-    subst (λ (times : Settings). IsAnswerRun times.wait status journal journal' left left' held held') same (run other)
+pub is_answer : (words : List Text) (found : Option Command) (command : Command) (answer : AnswerWords) → IsCommandOf words found → found ≡ Some command → answer_of words ≡ Some answer
+    → command ≡ Answer answer.settings
+is_answer words found command answer asks is e = by_answer words command answer (subst (IsCommandOf words) is asks) e
+
+pub is_serve : (words : List Text) (found : Option Command) (command : Command) (line : ServeWords) → IsCommandOf words found → found ≡ Some command → serve_of words ≡ Some line
+    → command ≡ Serve line.settings line.connections
+is_serve words found command line asks is e = by_serve words command line (subst (IsCommandOf words) is asks) e
+
+by_no_serve : (words : List Text) (command : Command) → IsCommandOf words (Some command) → serve_of words ≡ None → (settings : Settings) × (command ≡ Answer settings)
+by_no_serve words (Answer settings) asks none = (settings, refl)
+by_no_serve words (Serve settings connections) asks none = absurd (let h = asks.serve in cc)
+
+-- a command that is not `serve`
+pub is_other : (words : List Text) (found : Option Command) (command : Command) → IsCommandOf words found → found ≡ Some command → serve_of words ≡ None
+    → (settings : Settings) × (command ≡ Answer settings)
+is_other words found command asks is none = by_no_serve words command (subst (IsCommandOf words) is asks) none

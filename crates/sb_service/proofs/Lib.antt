@@ -1,6 +1,9 @@
 pub mod Commands
 pub mod ConnectionFacts
+pub mod Entries
 pub mod Faults
 pub mod Fronts
+pub mod Journals
 pub mod Loads
 pub mod Runs
+pub mod Turns

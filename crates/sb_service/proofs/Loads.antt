@@ -16,7 +16,7 @@ by_rest : (bytes piece : List ℕ) (after : Option (List (List ℕ))) → Some p
 by_rest bytes piece None e = absurd (cc)
 by_rest bytes piece (Some left) e = (next_piece left, cc)
 
-told_front : (bytes : List ℕ) (ended : Bool) (pieces : List (List ℕ)) (after : Option (List (List ℕ))) → Gives bytes ended (Some pieces) after
+pub told_front : (bytes : List ℕ) (ended : Bool) (pieces : List (List ℕ)) (after : Option (List (List ℕ))) → Gives bytes ended (Some pieces) after
     → (more : List ℕ) × (next_piece pieces ≡ bytes ++ more)
 told_front bytes true pieces after h = ([], h.whole ∙ sym (append-nil bytes))
 told_front bytes false pieces after h = by_rest bytes (next_piece pieces) after h.front

@@ -14,14 +14,13 @@ use Rattle.list_versions.specs.declared.fault.JournalFault.{JournalFault}
 use Rattle.list_versions.specs.declared.fault.JournalFault.TheVariants as journal
 use Rattle.update_messages.specs.Reading.{ReadsRequest, IsTextOf}
 use Rattle.update_messages.specs.Faults.{fault_of_request, fault_of_text}
-use Rattle.sb_service.specs.declared.command.Command.{Command}
-use Rattle.sb_service.specs.declared.command.Command.TheVariants.{Answer}
 use Rattle.sb_service.specs.Printed.{Reading, Reply, refusal_of, reply_to}
 
 -- each exit status that a run of the server can have
 abbrev pub IsStatus : ℕ → Type 0
 IsStatus status =
     (status ≡ 0) ⊎ (status ≡ 1) ⊎ (status ≡ 2) ⊎ (status ≡ 3) ⊎ (status ≡ 5) ⊎ (status ≡ 6) ⊎ (status ≡ 7) ⊎ (status ≡ 8)
+    ⊎ (status ≡ 9)
 
 -- ---- what is written
 
@@ -120,21 +119,17 @@ pub record IsAnswerRun (wait status : ℕ) (journal journal' left left' : Option
   pub outcome : JournalOutcome bytes ended loaded
   pub after : AfterJournal wait loaded status left left' held held'
 
--- what a command did, unless memory was refused
-abbrev pub IsRunOf : Command → ℕ → (journal journal' left left' : Option (List (List ℕ)))
-    → (held held' : Option (List ℕ)) → Type 0
-IsRunOf (Answer settings) status journal journal' left left' held held' =
-    status ≢ 8 → IsAnswerRun settings.wait status journal journal' left left' held held'
-
 -- ---- the counts of faults
 
--- With status 2 the count of the journal or that of the input rose, and with 3 that of the output. With others no count
--- did, but for that of the output with 1, which the usage text may raise.
-pub record AreCounted (status : ℕ) (journal journal' input input' out out' : ℕ) : Type 0 where
+-- With status 2 the count of the journal or that of the input rose, with 3 that of the output, and with 9 that of the door.
+-- With others no count did, but for that of the output with 1, which the usage text may raise.
+pub record AreCounted (status : ℕ) (journal journal' input input' out out' door door' : ℕ) : Type 0 where
   pub read : status ≡ 2 → (Rose journal journal' × (input' ≡ input)) ⊎ (Rose input input' × (journal' ≡ journal))
   pub read_kept : status ≢ 2 → (journal' ≡ journal) × (input' ≡ input)
   pub written : status ≡ 3 → Rose out out'
   pub written_kept : status ≢ 3 → status ≢ 1 → out' ≡ out
+  pub door_failed : status ≡ 9 → Rose door door'
+  pub door_kept : status ≢ 9 → door' ≡ door
 
 -- A count could rise, and did not.
 pub record HasNoFault (faults faults' : ℕ) : Type 0 where

@@ -4,10 +4,10 @@ use Rattle.std.specs.Option.{option_map_or}
 use Rattle.std.specs.Str.{bytes_eq}
 use Rattle.sb_words.specs.declared.shape.OptionKind.TheVariants.{Needed, Optional}
 use Rattle.sb_words.specs.CommandLine.{Text, CommandOption, CommandShape, Given, given_of, value_among}
-use Rattle.sb_words.specs.Values.{number_of}
+use Rattle.sb_words.specs.Values.{number_of, host_port_of}
 use Rattle.delta_server.specs.declared.answering.Settings.{Settings}
 use Rattle.sb_service.specs.declared.command.Command.{Command}
-use Rattle.sb_service.specs.declared.command.Command.TheVariants.{Answer}
+use Rattle.sb_service.specs.declared.command.Command.TheVariants.{Answer, Serve}
 
 abbrev pub needed : Text → CommandOption
 needed name = record { name = name; kind = Needed }
@@ -20,6 +20,15 @@ abbrev pub answer_shape : CommandShape
 answer_shape = record {
   options =
       needed (codes "journal") ∷ needed (codes "kind")
+      ∷ optional (codes "wait") ∷ optional (codes "cache") ∷ optional (codes "negative") ∷ [];
+  takes_positionals = false;
+}
+
+-- `serve` needs a journal, an address and a number of connections.
+abbrev pub serve_shape : CommandShape
+serve_shape = record {
+  options =
+      needed (codes "journal") ∷ needed (codes "listen") ∷ needed (codes "connections")
       ∷ optional (codes "wait") ∷ optional (codes "cache") ∷ optional (codes "negative") ∷ [];
   takes_positionals = false;
 }
@@ -70,12 +79,69 @@ answer_given given =
 abbrev pub answer_of : List Text → Option AnswerWords
 answer_of words = option_and_then answer_given (given_to (codes "answer") answer_shape words)
 
+-- What a command line of `serve` says: the path of the journal, the address, how many connections, and times.
+pub record ServeWords : Type 0 where
+  pub journal : Text
+  pub listen : Text
+  pub connections : ℕ
+  pub settings : Settings
+
+-- the address, where it is one
+abbrev pub listen_given : List (Text × Text) → Option Text
+listen_given named =
+    option_and_then (λ text. option_map (λ _. text) (host_port_of text)) (value_among (codes "listen") named)
+
+-- how many connections: 1 to 1,000,000
+abbrev pub connections_given : List (Text × Text) → Option ℕ
+connections_given named = option_and_then (number_of 1 1000000) (value_among (codes "connections") named)
+
+abbrev pub serve_with : Option Text → Option Text → Option ℕ → Option Settings → Option ServeWords
+serve_with journal listen connections settings =
+    option_and_then (λ path. option_and_then (λ address. option_and_then (λ count. option_map
+    (λ times. record { journal = path; listen = address; connections = count; settings = times })
+    settings) connections) listen) journal
+
+abbrev pub serve_given : Given → Option ServeWords
+serve_given given =
+    serve_with (value_among (codes "journal") given.named) (listen_given given.named) (connections_given given.named)
+    (settings_given given.named)
+
+-- what the words of `sblistd serve --journal PATH --listen HOST:PORT --connections N ..` say, where they are such words
+abbrev pub serve_of : List Text → Option ServeWords
+serve_of words = option_and_then serve_given (given_to (codes "serve") serve_shape words)
+
+-- where the words have a journal: those of `answer`, or else those of `serve`
+abbrev pub path_of : Option AnswerWords → Option ServeWords → Option Text
+path_of (Some answer) serve = Some answer.journal
+path_of None serve = option_map (λ (serve : ServeWords). serve.journal) serve
+
+abbrev pub journal_of : List Text → Option Text
+journal_of words = path_of (answer_of words) (serve_of words)
+
+-- and where connections come in
+abbrev pub listen_of : List Text → Option Text
+listen_of words = option_map (λ (serve : ServeWords). serve.listen) (serve_of words)
+
 -- The words are no command line.
 pub record IsNoCommand (words : List Text) : Type 0 where
   pub answer : answer_of words ≡ None
+  pub serve : serve_of words ≡ None
+
+-- The words are those of `answer`, with these settings.
+pub record AsksAnswer (words : List Text) (settings : Settings) : Type 0 where
+  pub answer : option_map (λ (answer : AnswerWords). answer.settings) (answer_of words) ≡ Some settings
+  pub serve : serve_of words ≡ None
+
+-- The words are those of `serve`, with these settings and so many connections.
+pub record AsksServe (words : List Text) (settings : Settings) (connections : ℕ) : Type 0 where
+  pub answer : answer_of words ≡ None
+  pub line : ServeWords
+  pub serve : serve_of words ≡ Some line
+  pub times : line.settings ≡ settings
+  pub count : line.connections ≡ connections
 
 -- What the code makes of the words: the command that they are.
 abbrev pub IsCommandOf : List Text → Option Command → Type 0
 IsCommandOf words None = IsNoCommand words
-IsCommandOf words (Some (Answer settings)) =
-    option_map (λ (answer : AnswerWords). answer.settings) (answer_of words) ≡ Some settings
+IsCommandOf words (Some (Answer settings)) = AsksAnswer words settings
+IsCommandOf words (Some (Serve settings connections)) = AsksServe words settings connections

@@ -4,3 +4,4 @@ pub mod Answer
 pub mod Connection
 pub mod ConnectionLaws
 pub mod ConnectionSteps
+pub mod Serving

@@ -1,5 +1,6 @@
--- What a run of `answer` prints, and the status that goes with it.
+-- What a run prints, and the status that goes with it.
 use Rattle.std.specs.Prelude.{ℕ, List, [], ◌∷◌, ◌++◌, Option, Some, None, Result, Ok, Err, codes, decimal}
+use Rattle.http_edge.specs.Responses.{status_code}
 use Rattle.sb_json.specs.declared.faults.MessageFault.{MessageFault}
 use Rattle.sb_json.specs.Printed.{cause_text as message_cause}
 use Rattle.sb_model.specs.History.{History}
@@ -13,6 +14,8 @@ use Rattle.delta_server.specs.Tokens.{server_naming}
 use Rattle.delta_server.specs.Answering.{serve_fault}
 use Rattle.delta_server.specs.declared.answering.ServeFault.{ServeFault}
 use Rattle.delta_server.specs.declared.answering.ServeFault.TheVariants.{UnknownList, OutOfMemory}
+use Rattle.sb_service.specs.declared.connection.ConnectionEnd.{ConnectionEnd}
+use Rattle.sb_service.specs.declared.connection.ConnectionEnd.TheVariants as end
 
 -- why a journal is refused
 abbrev pub journal_line : JournalFault → List ℕ
@@ -53,3 +56,14 @@ reply_unless versions wait request (Some fault) = record { text = request_line (
 abbrev pub reply_to : History → ℕ → Reading → Reply
 reply_to versions wait (Ok request) = reply_unless versions wait request (serve_fault versions request)
 reply_to versions wait (Err fault) = record { text = request_line (message_cause fault); status = 5 }
+
+-- how a connection ended; want of memory is never told
+abbrev pub end_text : ConnectionEnd → List ℕ
+end_text (end.Answered status) = codes "answered " ++ decimal (status_code status)
+end_text end.ReadFault = codes "read-fault"
+end_text end.WriteFault = codes "write-fault"
+end_text end.OutOfMemory = []
+
+-- the line of a connection, by its number
+abbrev pub connection_line : ℕ → ConnectionEnd → List ℕ
+connection_line number how = codes "connection " ++ decimal number ++ codes " " ++ end_text how ++ newline ∷ []

@@ -73,7 +73,11 @@ fn answer_input<S: Source, O: Sink>(
 
 /// Says why a journal is no history.
 #[tactic(auto, using(crate::proofs::Faults::told))]
-fn answer_fault<O: Sink>(alloc: Global, fault: JournalFault, out: &mut O) -> Result<u8, OutOfMemory>
+pub(crate) fn answer_fault<O: Sink>(
+    alloc: Global,
+    fault: JournalFault,
+    out: &mut O,
+) -> Result<u8, OutOfMemory>
     ensures after { IfOk result (λ status. AfterFault fault status (O.contents out.old) (O.contents out.new)) }
     ensures ends { IfOk result (λ status. (status ≡ 2) ⊎ (status ≡ 3) ⊎ (status ≡ 7)) }
     ensures journal_failed { result ≡ Ok 2 → fault ≡ JournalFault.ReadFault }

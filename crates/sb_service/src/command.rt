@@ -1,11 +1,11 @@
-ghost use Rattle.std.specs.Prelude.{◌≡◌, ◌&&◌, IfOk, map, option_map, option_and_then, codes, string_bytes};
+ghost use Rattle.std.specs.Prelude.{◌≡◌, ◌≤◌, ◌&&◌, IfOk, IfSome, map, option_map, option_and_then, None, codes, string_bytes};
 ghost use Rattle.std.specs.Str.{bytes_eq};
 ghost use Rattle.sb_words.specs.CommandLine.{given_of};
-ghost use Rattle.sb_service.specs.Command.{answer_given, answer_of, answer_shape, is_fetch, seconds_given, settings_given, AnswerWords, IsCommandOf};
+ghost use Rattle.sb_service.specs.Command.{answer_given, answer_of, answer_shape, connections_given, is_fetch, listen_given, seconds_given, serve_given, serve_of, serve_shape, settings_given, AnswerWords, IsCommandOf, ServeWords};
 
 use delta_server::Settings;
 use sb_model::OutOfMemory;
-use sb_words::{OptionKind, OptionShape, Shape, Words, number, read_words};
+use sb_words::{OptionKind, OptionShape, Shape, Words, host_port, number, read_words};
 use std::alloc::Global;
 
 /// The words of `answer`.
@@ -35,6 +35,40 @@ const ANSWER: Shape = Shape {
     takes_positionals: false,
 };
 
+/// The words of `serve`.
+const SERVE: Shape = Shape {
+    options: &[
+        OptionShape {
+            name: "journal",
+            kind: OptionKind::Needed,
+        },
+        OptionShape {
+            name: "listen",
+            kind: OptionKind::Needed,
+        },
+        OptionShape {
+            name: "connections",
+            kind: OptionKind::Needed,
+        },
+        OptionShape {
+            name: "wait",
+            kind: OptionKind::Optional,
+        },
+        OptionShape {
+            name: "cache",
+            kind: OptionKind::Optional,
+        },
+        OptionShape {
+            name: "negative",
+            kind: OptionKind::Optional,
+        },
+    ],
+    takes_positionals: false,
+};
+
+/// The most connections of a run.
+const MOST_CONNECTIONS: u64 = 1_000_000;
+
 /// The most seconds of a duration: a day.
 const MOST_SECONDS: u64 = 86_400;
 
@@ -43,6 +77,11 @@ const MOST_SECONDS: u64 = 86_400;
 pub(crate) enum Command {
     /// An answer to one fetch request, by a server with these settings.
     Answer(Settings),
+    /// Updates to so many connections, by a server with these settings.
+    Serve {
+        settings: Settings,
+        connections: u32,
+    },
 }
 
 /// What a command line of `answer` says.
@@ -50,6 +89,17 @@ pub(crate) enum Command {
 pub(crate) struct AnswerLine<'a> {
     /// The path of the journal.
     pub journal: &'a str,
+    pub settings: Settings,
+}
+
+/// What a command line of `serve` says.
+#[derive(Debug, Drop)]
+pub(crate) struct ServeLine<'a> {
+    /// The path of the journal.
+    pub journal: &'a str,
+    /// The address at which connections come in.
+    pub listen: &'a str,
+    pub connections: u32,
     pub settings: Settings,
 }
 
@@ -139,13 +189,107 @@ pub(crate) fn answer_line<'a>(
     Ok(None)
 }
 
+/// The address that the words give.
+fn listen_in<'a>(given: &Words<'a>) -> Option<&'a str>
+    ensures { option_map (λ address. address.now) result ≡ listen_given given.now.named }
+{
+    let listen = given.value("listen")?;
+    match host_port(listen) {
+        Some(_) => Some(listen),
+        None => None,
+    }
+}
+
+/// How many connections the words give.
+fn connections_in(given: &Words<'_>) -> Option<u32>
+    ensures { result ≡ connections_given given.now.named }
+{
+    let text = given.value("connections")?;
+    match number(text, 1, MOST_CONNECTIONS) {
+        Some(connections) => Some(connections as u32),
+        None => None,
+    }
+}
+
+/// What the words after `serve` say, by what they give.
+fn serve_line_in<'a>(given: &Words<'a>) -> Option<ServeLine<'a>>
+    ensures { option_map (λ line. record { journal = line.journal.now; listen = line.listen.now; connections = line.connections; settings = line.settings }) result
+        ≡ serve_given given.now }
+{
+    let journal = given.value("journal")?;
+    let listen = listen_in(given)?;
+    let connections = connections_in(given)?;
+    let settings = settings_in(given)?;
+    Some(ServeLine {
+        journal,
+        listen,
+        connections,
+        settings,
+    })
+}
+
+/// What the words after `serve` say.
+fn serve_line_of<'a>(
+    alloc: Global,
+    words: &'a [String],
+) -> Result<Option<ServeLine<'a>>, OutOfMemory>
+    ensures { IfOk result (λ line. option_map (λ line. record { journal = line.journal.now; listen = line.listen.now; connections = line.connections; settings = line.settings }) line
+        ≡ option_and_then serve_given (given_of serve_shape (map string_bytes words.entry.now))) }
+{
+    match read_words(alloc, &SERVE, words) {
+        Ok(Some(given)) => Ok(serve_line_in(&given)),
+        Ok(None) => Ok(None),
+        Err(OutOfMemory) => Err(OutOfMemory),
+    }
+}
+
+/// Whether the first two words are those of `serve`.
+fn are_serve(program: &String, command: &String) -> bool
+    ensures { result ≡ (bytes_eq (string_bytes program.now) (codes "sblistd")
+        && bytes_eq (string_bytes command.now) (codes "serve")) }
+{
+    program.as_str() == "sblistd" && command.as_str() == "serve"
+}
+
+/// What the words of `sblistd serve` say; `None` where they are no such words.
+pub(crate) fn serve_line<'a>(
+    alloc: Global,
+    words: &'a [String],
+) -> Result<Option<ServeLine<'a>>, OutOfMemory>
+    ensures { IfOk result (λ line. option_map (λ line. record { journal = line.journal.now; listen = line.listen.now; connections = line.connections; settings = line.settings }) line
+        ≡ serve_of (map string_bytes words.entry.now)) }
+{
+    let [program, command, rest @ ..] = words else {
+        return Ok(None);
+    };
+    if are_serve(program, command) {
+        return serve_line_of(alloc, rest);
+    }
+    Ok(None)
+}
+
+/// The command that words are which are none of `answer`; `None` where they are none.
+fn serve_command(alloc: Global, words: &[String]) -> Result<Option<Command>, OutOfMemory>
+    requires { answer_of (map string_bytes words.now) ≡ None }
+    ensures { IfOk result (λ command. IsCommandOf (map string_bytes words.now) command) }
+{
+    match serve_line(alloc, words) {
+        Ok(Some(line)) => Ok(Some(Command::Serve {
+            settings: line.settings,
+            connections: line.connections,
+        })),
+        Ok(None) => Ok(None),
+        Err(OutOfMemory) => Err(OutOfMemory),
+    }
+}
+
 /// The command that the words are; `None` where they are none.
 pub(crate) fn command_of(alloc: Global, words: &[String]) -> Result<Option<Command>, OutOfMemory>
     ensures { IfOk result (λ command. IsCommandOf (map string_bytes words.now) command) }
 {
     match answer_line(alloc, words) {
         Ok(Some(line)) => Ok(Some(Command::Answer(line.settings))),
-        Ok(None) => Ok(None),
+        Ok(None) => serve_command(alloc, words),
         Err(OutOfMemory) => Err(OutOfMemory),
     }
 }

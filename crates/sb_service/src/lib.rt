@@ -1,5 +1,6 @@
 //! The top call of the list server: `sblistd answer` reads a journal and the body of one fetch request, and prints the
-//! body of the answer. `serve_connection` answers one request over HTTP.
+//! body of the answer; `sblistd serve` answers connections over HTTP, each by `serve_connection`, and reads what is new in
+//! the journal before each.
 #![tactic(auto)]
 
 pub use connection::{ConnectionEnd, requests_have_one_response, serve_connection};
@@ -11,5 +12,6 @@ mod command;
 mod connection;
 mod printing;
 mod reply;
+mod serve;
 mod service;
 mod targets;

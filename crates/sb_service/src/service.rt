@@ -4,12 +4,15 @@ ghost use Rattle.list_versions.specs.Journal.{Kept, kept_of};
 ghost use Rattle.update_messages.specs.Messages.{Request};
 ghost use Rattle.update_messages.specs.Reading.{ReadsRequest, IsTextOf};
 ghost use Rattle.delta_server.specs.Answering.{serve_fault};
-ghost use Rattle.sb_service.specs.Command.{AnswerWords, IsNoCommand, answer_of};
+ghost use Rattle.delta_server.specs.declared.answering.Settings.{Settings};
+ghost use Rattle.sb_service.specs.Command.{AnswerWords, IsNoCommand, ServeWords, answer_of, serve_of};
 ghost use Rattle.sb_service.specs.Printed.{answer_line};
-ghost use Rattle.sb_service.specs.Answer.{AreCounted, HasNoFault, IsAnswerRun, IsRunOf, IsStatus, TellsUsage, most_body};
+ghost use Rattle.sb_service.specs.Answer.{AreCounted, HasNoFault, IsAnswerRun, IsStatus, TellsUsage, most_body};
+ghost use Rattle.sb_service.specs.Serving.{IsServeRun};
 
 use crate::answer::answer;
 use crate::command::{Command, command_of};
+use crate::serve::serve;
 use sb_model::OutOfMemory;
 use sb_outside::{Door, Failed, Sink, Source, write_all};
 use std::alloc::Global;
@@ -17,7 +20,8 @@ use update_messages::{values_read_one_way, values_read_or_have_a_fault};
 
 /// What is printed where the words are no command line.
 pub const USAGE: &str =
-    "usage: sblistd answer --journal PATH --kind fetch [--wait S] [--cache S] [--negative S]\n";
+    "usage: sblistd answer --journal PATH --kind fetch [--wait S] [--cache S] [--negative S]\n       \
+    sblistd serve --journal PATH --listen HOST:PORT --connections N [--wait S] [--cache S] [--negative S]\n";
 
 /// Tells how the program is used.
 fn tell_usage<O: Sink>(out: &mut O) -> u8
@@ -31,47 +35,63 @@ fn tell_usage<O: Sink>(out: &mut O) -> u8
 }
 
 /// The exit status of a command.
-fn run_command<J: Source, S: Source, O: Sink>(
+fn run_command<J: Source, S: Source, O: Sink, D: Door>(
     alloc: Global,
     command: Command,
     journal: &mut J,
     input: &mut S,
     out: &mut O,
+    door: &mut D,
 ) -> u8
     ensures statuses { IsStatus result }
     ensures some { result ≢ 1 }
-    ensures answers { IsRunOf command result (J.left journal.old) (J.left journal.new)
+    ensures answers { (settings : Settings) → command ≡ Command.Answer settings → result ≢ 8
+        → IsAnswerRun settings.wait result (J.left journal.old) (J.left journal.new)
         (S.left input.old) (S.left input.new) (O.contents out.old) (O.contents out.new) }
-    ensures memory { result ≡ 8 → out.new ≡ out.old }
+    ensures memory { (settings : Settings) → command ≡ Command.Answer settings → result ≡ 8 → out.new ≡ out.old }
+    ensures untouched { (settings : Settings) → command ≡ Command.Answer settings → door.new ≡ door.old }
+    ensures serves { (settings : Settings) (connections : ℕ) → command ≡ Command.Serve settings connections
+        → IsServeRun settings.wait connections result (J.left journal.old) (J.left journal.new)
+        (O.contents out.old) (O.contents out.new) (D.log door.old) (D.log door.new) (D.coming door.new) }
+    ensures unread { (settings : Settings) (connections : ℕ) → command ≡ Command.Serve settings connections
+        → input.new ≡ input.old }
     ensures counts { AreCounted result (J.faults journal.old) (J.faults journal.new) (S.faults input.old) (S.faults input.new)
-        (O.faults out.old) (O.faults out.new) }
+        (O.faults out.old) (O.faults out.new) (D.faults door.old) (D.faults door.new) }
 {
     match command {
         Command::Answer(settings) => match answer(alloc, &settings, journal, input, out) {
             Ok(status) => status,
             Err(OutOfMemory) => 8,
         },
+        Command::Serve {
+            settings,
+            connections,
+        } => serve(alloc, &settings, connections, journal, out, door),
     }
 }
 
 /// Runs one command of the list server, and answers the exit status. The first word is the program's name, `sblistd`.
 ///
 /// `answer` loads the journal, reads the input to its next end, takes it as the body of a fetch request
-/// (`threatListUpdates:fetch`), and writes the body of the answer and a newline.
+/// (`threatListUpdates:fetch`), and writes the body of the answer and a newline. The door is not used.
+///
+/// `serve` loads the journal and takes connections from the door. Before each it reads the journal to its next end; each
+/// is answered by `serve_connection` and given back to the door in every case, and then its line is written:
+/// `connection I answered S`, `connection I read-fault` or `connection I write-fault`, with I from 1. The input is not read.
 ///
 /// | Status | Comes |
 /// |---|---|
-/// | 0 | where no other stands |
+/// | 0 | where no other stands; of `serve` after as many connections as were asked for, or where none is to come |
 /// | 1 | exactly where the words are no command line: the usage text is written |
 /// | 2 | only where the journal's or the input's count of faults rose |
 /// | 3 | only where the output's count of faults rose |
 /// | 5 | exactly where the body has no reading or names a list that is not declared: `request CAUSE` is written |
 /// | 6 | exactly where the input passes 1,048,576 bytes |
 /// | 7 | exactly where the journal has a bad line: `journal CAUSE` is written |
-/// | 8 | where memory was refused |
+/// | 8 | where memory was refused, by a connection too |
+/// | 9 | only where the door's count of faults rose |
 ///
-/// The first that comes ends the run. Where a line with a cause is not written whole, the status is 3. The door is not
-/// used.
+/// The first that comes ends the run. Where a line is not written whole, the status is 3.
 pub fn run_server<J: Source, S: Source, O: Sink, D: Door>(
     alloc: Global,
     words: &[String],
@@ -89,16 +109,22 @@ pub fn run_server<J: Source, S: Source, O: Sink, D: Door>(
     ensures usage { result ≡ 1 → TellsUsage USAGE.now (O.contents out.old) (O.contents out.new)
         (O.faults out.old) (O.faults out.new) }
 
-    // What became of the journal, the input and the output. Where memory was refused, nothing was written.
+    // `answer`: what became of the journal, the input and the output. Where memory was refused, nothing was written.
     ensures answers { (answer : AnswerWords) → answer_of (map string_bytes words.now) ≡ Some answer → result ≢ 8
         → IsAnswerRun answer.settings.wait result (J.left journal.old) (J.left journal.new)
         (S.left input.old) (S.left input.new) (O.contents out.old) (O.contents out.new) }
-    ensures memory { result ≡ 8 → out.new ≡ out.old }
+    ensures memory { serve_of (map string_bytes words.now) ≡ None → result ≡ 8 → out.new ≡ out.old }
+    ensures door { serve_of (map string_bytes words.now) ≡ None → door.new ≡ door.old }
+
+    // `serve`: what became of the journal, the connections and the output.
+    ensures serves { (line : ServeWords) → serve_of (map string_bytes words.now) ≡ Some line
+        → IsServeRun line.settings.wait line.connections result (J.left journal.old) (J.left journal.new)
+        (O.contents out.old) (O.contents out.new) (D.log door.old) (D.log door.new) (D.coming door.new) }
+    ensures no_input { (line : ServeWords) → serve_of (map string_bytes words.now) ≡ Some line → input.new ≡ input.old }
 
     // A count that rose names its fault.
     ensures counts { AreCounted result (J.faults journal.old) (J.faults journal.new) (S.faults input.old) (S.faults input.new)
-        (O.faults out.old) (O.faults out.new) }
-    ensures door { door.new ≡ door.old }
+        (O.faults out.old) (O.faults out.new) (D.faults door.old) (D.faults door.new) }
 
     // A request that reads and names declared lists is answered, where the journal has no fault and no count rose.
     ensures complete { (answer : AnswerWords) (pieces bodies : List (List ℕ)) (kept : Kept) (request : Request)
@@ -123,7 +149,7 @@ pub fn run_server<J: Source, S: Source, O: Sink, D: Door>(
     values_read_one_way();
     values_read_or_have_a_fault();
     match command_of(alloc, words) {
-        Ok(Some(command)) => run_command(alloc, command, journal, input, out),
+        Ok(Some(command)) => run_command(alloc, command, journal, input, out, door),
         Ok(None) => tell_usage(out),
         Err(OutOfMemory) => 8,
     }

@@ -1,8 +1,8 @@
-ghost use Rattle.std.specs.Prelude.{◌≡◌, IfOk, None, map, option_map, string_bytes};
+ghost use Rattle.std.specs.Prelude.{◌≡◌, IfOk, IfSome, IfNone, None, Some, map, option_map, string_bytes};
 ghost use Rattle.std.specs.Str.{chars};
-ghost use Rattle.sb_service.specs.Command.{answer_of};
+ghost use Rattle.sb_service.specs.Command.{answer_of, journal_of, listen_of};
 
-use crate::command::answer_line;
+use crate::command::{answer_line, serve_line};
 use sb_model::{OutOfMemory, Text};
 use std::alloc::Global;
 
@@ -11,23 +11,39 @@ use std::alloc::Global;
 pub struct ServerTargets {
     /// The path of the journal.
     pub journal: Option<Text>,
-    /// The address at which connections come in. No command has one yet.
+    /// The address at which connections come in.
     pub listen: Option<Text>,
+}
+
+/// Where `serve` has its objects, of words that are none of `answer`.
+fn serve_targets(alloc: Global, words: &[String]) -> Result<ServerTargets, OutOfMemory>
+    requires { answer_of (map string_bytes words.now) ≡ None }
+    ensures journal { IfOk result (λ targets. targets.journal ≡ option_map chars (journal_of (map string_bytes words.now))) }
+    ensures listen { IfOk result (λ targets. targets.listen ≡ option_map chars (listen_of (map string_bytes words.now))) }
+{
+    match serve_line(alloc, words)? {
+        Some(line) => Ok(ServerTargets {
+            journal: Some(Text::from_str(alloc, line.journal)?),
+            listen: Some(Text::from_str(alloc, line.listen)?),
+        }),
+        None => Ok(ServerTargets {
+            journal: None,
+            listen: None,
+        }),
+    }
 }
 
 /// Where the command that the words are has its objects: `None` of what it does not use, and of all where the words are
 /// no command line.
 pub fn server_targets(alloc: Global, words: &[String]) -> Result<ServerTargets, OutOfMemory>
-    ensures journal { IfOk result (λ targets. targets.journal
-        ≡ option_map (λ answer. chars answer.journal) (answer_of (map string_bytes words.now))) }
-    ensures listen { IfOk result (λ targets. targets.listen ≡ None) }
+    ensures journal { IfOk result (λ targets. targets.journal ≡ option_map chars (journal_of (map string_bytes words.now))) }
+    ensures listen { IfOk result (λ targets. targets.listen ≡ option_map chars (listen_of (map string_bytes words.now))) }
 {
-    let journal = match answer_line(alloc, words)? {
-        Some(line) => Some(Text::from_str(alloc, line.journal)?),
-        None => None,
-    };
-    Ok(ServerTargets {
-        journal,
-        listen: None,
-    })
+    match answer_line(alloc, words)? {
+        Some(line) => Ok(ServerTargets {
+            journal: Some(Text::from_str(alloc, line.journal)?),
+            listen: None,
+        }),
+        None => serve_targets(alloc, words),
+    }
 }

@@ -108,7 +108,7 @@ static REFUSED: [&[&str]; 14] = [
 ];
 
 // Further ones.
-static ALSO_REFUSED: [&[&str]; 12] = [
+static ALSO_REFUSED: [&[&str]; 11] = [
     &[
         "sblistd",
         "answer",
@@ -156,13 +156,6 @@ static ALSO_REFUSED: [&[&str]; 12] = [
     &["sblistd", "help"],
     &["sblistd", "Answer", "--journal=j", "--kind=fetch"],
     &["sblistd", "--journal=j", "answer", "--kind=fetch"],
-    &[
-        "sblistd",
-        "serve",
-        "--journal=j",
-        "--listen=h:80",
-        "--connections=1",
-    ],
     &["sbupdate", "answer", "--journal=j", "--kind=fetch"],
 ];
 

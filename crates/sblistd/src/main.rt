@@ -1,8 +1,8 @@
-//! Answers list clients from a journal.
+//! Answers list clients from a journal: one request from its input, or connections at an address.
 #![tactic(auto)]
 
 use sb_model::Text;
-use sb_outside::{StdSink, StdSource, TcpDoor};
+use sb_outside::{StdSink, StdSource, TcpDoor, TcpLimits};
 use sb_service::{run_server, server_targets};
 use std::alloc::Global;
 use std::fs::File;
@@ -31,6 +31,14 @@ fn journal_at(rt: &HostRuntime, path: &Option<Text>) -> StdSource<File> {
     }
 }
 
+/// The door at an address. Without one, and where it cannot be had, each call fails.
+fn door_at(rt: HostRuntime, address: &Option<Text>) -> TcpDoor<HostRuntime> {
+    match address {
+        Some(address) => TcpDoor::bind(rt, address.as_str(), TcpLimits::STANDARD),
+        None => TcpDoor::unusable(rt),
+    }
+}
+
 fn main(rt: HostRuntime) -> ExitCode {
     let alloc = rt.alloc();
     let words = match words_of(&rt, alloc) {
@@ -45,7 +53,7 @@ fn main(rt: HostRuntime) -> ExitCode {
     let mut journal = journal_at(&rt, &targets.journal);
     let mut input = StdSource::new(rt.stdin());
     let mut out = StdSink::new(rt.stdout());
-    let mut door = TcpDoor::unusable(rt);
+    let mut door = door_at(rt, &targets.listen);
     ExitCode::from(run_server(
         alloc,
         words.as_slice(),

@@ -1,10 +1,11 @@
 use Rattle.sb_service.proofs.Runs.{answered, served, none_risen, not_risen, not_8, zero_or_memory}
-use Rattle.sb_service.proofs.Commands.{is_answer_run}
+use Rattle.sb_service.proofs.Commands.{is_answer, is_other, is_serve}
+use Rattle.sb_service.proofs.Turns.{nothing_done}
 use Rattle.sb_service.proofs.service.run_server.Goals as goal
 
 pub returns-in-Ok-Some-clause-answers : goal.returns-in-Ok-Some-clause-answers
 returns-in-Ok-Some-clause-answers g c answer words other =
-    is_answer_run _ _ _ answer _ _ _ _ _ _ _ c.in-Ok-Some.ensures c.in-Ok-Some.field-0-is words c.run_command.ensures.answers other
+    c.run_command.ensures.answers answer.settings (is_answer _ _ _ answer c.in-Ok-Some.ensures c.in-Ok-Some.field-0-is words) other
 
 pub returns-in-Ok-Some-clause-complete : goal.returns-in-Ok-Some-clause-complete
 returns-in-Ok-Some-clause-complete g c answer pieces bodies kept request words told is given short reads none journal input out =
@@ -13,7 +14,7 @@ returns-in-Ok-Some-clause-complete g c answer pieces bodies kept request words t
     let counts = c.run_command.ensures.counts in
     zero_or_memory c.run_command.result c.run_command.ensures.statuses (λ other.
     answered once law answer.settings.wait c.run_command.result pieces bodies _ _ _ _ _ _ kept request told is given short reads none
-    (is_answer_run _ _ _ answer _ _ _ _ _ _ _ c.in-Ok-Some.ensures c.in-Ok-Some.field-0-is words c.run_command.ensures.answers other)
+    (c.run_command.ensures.answers answer.settings (is_answer _ _ _ answer c.in-Ok-Some.ensures c.in-Ok-Some.field-0-is words) other)
     (λ two. none_risen _ _ _ _ journal input (counts.read two))
     (λ three. not_risen _ _ out (counts.written three)))
 
@@ -22,4 +23,25 @@ returns-in-Ok-Some-clause-served g c answer pieces bodies kept request words tol
     let once = c.values_read_one_way.ensures.request in
     let law = c.values_read_or_have_a_fault.ensures.request in
     served once law answer.settings.wait c.run_command.result pieces bodies _ _ _ _ _ _ kept request told is given reads
-    (is_answer_run _ _ _ answer _ _ _ _ _ _ _ c.in-Ok-Some.ensures c.in-Ok-Some.field-0-is words c.run_command.ensures.answers (not_8 _ zero)) zero
+    (c.run_command.ensures.answers answer.settings (is_answer _ _ _ answer c.in-Ok-Some.ensures c.in-Ok-Some.field-0-is words) (not_8 _ zero)) zero
+
+pub returns-in-Ok-Some-clause-memory : goal.returns-in-Ok-Some-clause-memory
+returns-in-Ok-Some-clause-memory g c none eight =
+    let other = is_other _ _ _ c.in-Ok-Some.ensures c.in-Ok-Some.field-0-is none in
+    c.run_command.ensures.memory other.0 other.1 eight
+
+pub returns-in-Ok-Some-clause-door : goal.returns-in-Ok-Some-clause-door
+returns-in-Ok-Some-clause-door g c none =
+    let other = is_other _ _ _ c.in-Ok-Some.ensures c.in-Ok-Some.field-0-is none in
+    c.run_command.ensures.untouched other.0 other.1
+
+pub returns-in-Ok-Some-clause-serves : goal.returns-in-Ok-Some-clause-serves
+returns-in-Ok-Some-clause-serves g c line words =
+    c.run_command.ensures.serves line.settings line.connections (is_serve _ _ _ line c.in-Ok-Some.ensures c.in-Ok-Some.field-0-is words)
+
+pub returns-in-Ok-Some-clause-no_input : goal.returns-in-Ok-Some-clause-no_input
+returns-in-Ok-Some-clause-no_input g c line words =
+    c.run_command.ensures.unread line.settings line.connections (is_serve _ _ _ line c.in-Ok-Some.ensures c.in-Ok-Some.field-0-is words)
+
+pub returns-in-Err-clause-serves : goal.returns-in-Err-clause-serves
+returns-in-Err-clause-serves g c line words = nothing_done _ _ _ _ _ _

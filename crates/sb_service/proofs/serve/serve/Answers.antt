@@ -1,0 +1,29 @@
+use Rattle.std.proofs.Common.{refl}
+use Rattle.std.specs.Prelude.{Ok, Err}
+use Rattle.sb_service.proofs.serve.serve.Goals as goal
+
+pub returns-in-Ok-clause-run : goal.returns-in-Ok-clause-run
+returns-in-Ok-clause-run g c =
+    let load = c.in-Ok.ensures.outcome in
+    record {
+      bytes = load.0;
+      ended = load.1;
+      read = g.J.Source.left c.load.new.source;
+      gives = load.2;
+      loaded = Ok c.in-Ok.history;
+      outcome = load.3;
+      after = record { last = c.serve_connections.new.history; run = c.serve_connections.ensures.run };
+    }
+
+pub returns-in-Err-clause-run : goal.returns-in-Err-clause-run
+returns-in-Err-clause-run g c =
+    let load = c.in-Err.ensures.outcome in
+    record {
+      bytes = load.0;
+      ended = load.1;
+      read = g.J.Source.left c.load.new.source;
+      gives = load.2;
+      loaded = Err c.in-Err.fault;
+      outcome = load.3;
+      after = record { unread = refl; refusal = c.refuse.ensures.refusal; untouched = refl };
+    }

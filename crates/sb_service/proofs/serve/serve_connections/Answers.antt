@@ -1,0 +1,26 @@
+use Rattle.std.proofs.Common.{◌+◌, ◌<◌, [], refl, ap, ◌∙◌, arith}
+use Rattle.sb_service.proofs.Turns.{all_done, no_turn, one_more, stopped}
+use Rattle.sb_service.proofs.serve.serve_connections.Goals as goal
+
+pub loop-taken-init : goal.loop-taken-init
+loop-taken-init g c = ([], refl, no_turn _ _, refl, refl, refl)
+
+pub loop-taken-preserved : goal.loop-taken-preserved
+loop-taken-preserved g c =
+    let inv = c.loop-taken.invariant in
+    let is = c.in_default.is in
+    let more = one_more c.args.settings.now.wait (c.loop-taken.taken + 1) inv.0 _ _ _ (omega (arith, inv.1)) inv.2 c.in_default.ensures.goes_on in (
+      more.0,
+      more.1,
+      more.2,
+      c.take_next.ensures.read_kept (λ e. cc) ∙ inv.3,
+      c.take_next.ensures.kept (λ e. cc) ∙ inv.4,
+      c.take_next.ensures.door_kept (λ e. cc) ∙ inv.5,
+    )
+
+pub returns-in-Some-clause-run : goal.returns-in-Some-clause-run
+returns-in-Some-clause-run g c =
+    let inv = c.loop-taken.invariant in
+    let few : c.loop-taken.taken < c.args.connections = c.loop-taken-test.true in
+    stopped c.args.settings.now.wait c.args.connections (c.loop-taken.taken + 1) c.in-Some.status inv.0 _ _ _ _
+    (omega (arith, inv.1)) (omega (arith, few)) inv.2 c.in-Some.ensures.stops

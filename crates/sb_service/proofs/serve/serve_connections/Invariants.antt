@@ -1,0 +1,15 @@
+use Rattle.std.proofs.Common.{◌≡◌, ℕ, List, length}
+use Rattle.sb_service.specs.Serving.{Turn, HasTurns}
+use Rattle.sb_service.proofs.serve.serve_connections.Given as goal
+
+-- the turns so far, and no fault was counted
+abbrev pub invariant-loop-taken : goal.invariant-loop-taken
+invariant-loop-taken g l =
+    (turns : List Turn)
+    × (length turns ≡ l.taken)
+    × HasTurns l.settings.wait turns
+    (record { left = g.J.Source.left l.initial.journal; kept = l.initial.history; held = g.O.Sink.contents l.initial.out; log = g.D.Door.log l.initial.door })
+    (record { left = g.J.Source.left l.journal; kept = l.history; held = g.O.Sink.contents l.out; log = g.D.Door.log l.door })
+    × (g.J.Source.faults l.journal ≡ g.J.Source.faults l.initial.journal)
+    × (g.O.Sink.faults l.out ≡ g.O.Sink.faults l.initial.out)
+    × (g.D.Door.faults l.door ≡ g.D.Door.faults l.initial.door)

@@ -1,0 +1,216 @@
+-- A run of `serve`: what the journal gave before each connection, how each connection ended and what the door's log says of
+-- it, the lines that were printed, and how the run ended.
+use Rattle.std.specs.Prelude.{◌≡◌, ◌≢◌, ◌⊎◌, ◌↔◌, ◌+◌, ◌≤◌, ℕ, Bool, true, List, [], ◌∷◌, ◌++◌, length, ⊤, Option, Some, Result, Ok, Err, IfSome, IsTrue}
+use Rattle.sb_outside.specs.Outside.{IfTold, appended, with_entry}
+use Rattle.sb_outside.specs.Writing.{HasFront}
+use Rattle.sb_outside.specs.Connections.{open_connection}
+use Rattle.sb_outside.specs.declared.doors.Connection.{Connection}
+use Rattle.sb_model.specs.History.{History}
+use Rattle.list_versions.specs.Journal.{Kept, read_on}
+use Rattle.list_versions.specs.Loaded.{Gives, JournalOutcome, FurtherFault}
+use Rattle.list_versions.specs.declared.fault.JournalFault.{JournalFault}
+use Rattle.sb_service.specs.Answer.{AfterFault, IsSilent}
+use Rattle.sb_service.specs.Connection.{HasWritten}
+use Rattle.sb_service.specs.Printed.{connection_line}
+use Rattle.sb_service.specs.declared.connection.ConnectionEnd.{ConnectionEnd}
+use Rattle.sb_service.specs.declared.connection.ConnectionEnd.TheVariants as end
+
+-- ---- a connection
+
+-- What a connection was answered, by its entry in the door's log: what was written to it is right for the bytes that it
+-- gave, over the history that was lent. The end of input came where the entry says so, or where nothing was given.
+pub record IsServed (versions : History) (wait : ℕ) (how : ConnectionEnd) (entry : Connection) : Type 0 where
+  pub ended : Bool
+  pub written : HasWritten versions wait entry.given ended how (Some []) (Some entry.written)
+  pub over : IsTrue ended → IsTrue entry.ended ⊎ (entry.given ≡ [])
+  pub read_fault : IsTrue entry.read_fault ↔ (how ≡ end.ReadFault)
+  pub write_fault : IsTrue entry.write_fault ↔ (how ≡ end.WriteFault)
+
+-- Nothing was read of a connection, and nothing was written to it.
+pub record IsUntouched (entry : Connection) : Type 0 where
+  pub given : entry.given ≡ []
+  pub written : entry.written ≡ []
+
+-- The log has one more entry than before, where it is told, and the entry is such a one.
+pub record IsLogged (Says : Connection → Type 0) (log log' : Option (List Connection)) : Type 0 where
+  pub entry : Connection
+  pub logged : IfTold log' (with_entry log entry)
+  pub says : IfSome log' (λ _. Says entry)
+
+-- ---- the connections of which a line was printed
+
+pub record Turn : Type 0 where
+  -- the bytes that the journal gave before it, up to an end
+  pub gained : List ℕ
+  -- what the journal tells with these
+  pub kept : Kept
+  pub how : ConnectionEnd
+  pub entry : Connection
+
+-- Of several turns the last stands first, so that each stands before those that came before it.
+
+-- The journal gave its bytes turn by turn, each up to an end.
+abbrev pub Gains : List Turn → (left left' : Option (List (List ℕ))) → Type 0
+Gains [] left left' = left' ≡ left
+Gains (turn ∷ before) left left' =
+    (between : Option (List (List ℕ))) × Gains before left between × Gives turn.gained true between left'
+
+-- The history grew with these bytes.
+abbrev pub Grows : Kept → List Turn → Kept → Type 0
+Grows kept [] last = last ≡ kept
+Grows kept (turn ∷ before) last =
+    (between : Kept) × Grows kept before between × (read_on between turn.gained ≡ Ok turn.kept) × (last ≡ turn.kept)
+
+-- a line for each, with its number counted from 1
+abbrev pub lines_of : List Turn → List ℕ
+lines_of [] = []
+lines_of (turn ∷ before) = lines_of before ++ connection_line (length before + 1) turn.how
+
+-- the log with an entry for each
+abbrev pub with_entries : Option (List Connection) → List Turn → Option (List Connection)
+with_entries log [] = log
+with_entries log (turn ∷ before) = with_entry (with_entries log before) turn.entry
+
+-- None ended for want of memory.
+abbrev pub AreTold : List Turn → Type 0
+AreTold [] = ⊤
+AreTold (turn ∷ before) = (turn.how ≢ end.OutOfMemory) × AreTold before
+
+-- Each was served over the history that it was lent.
+abbrev pub AreServed : ℕ → List Turn → Type 0
+AreServed wait [] = ⊤
+AreServed wait (turn ∷ before) = IsServed turn.kept.versions wait turn.how turn.entry × AreServed wait before
+
+-- What a run is seen by at one moment: what the journal has left, what it tells, what the output holds, and the log.
+pub record Seen : Type 0 where
+  pub left : Option (List (List ℕ))
+  pub kept : Kept
+  pub held : Option (List ℕ)
+  pub log : Option (List Connection)
+
+-- From one moment to another there were these turns.
+pub record HasTurns (wait : ℕ) (turns : List Turn) (before after : Seen) : Type 0 where
+  pub gains : Gains turns before.left after.left
+  pub grows : Grows before.kept turns after.kept
+  pub told : AreTold turns
+  pub printed : after.held ≡ appended before.held (lines_of turns)
+  pub logged : IfTold after.log (with_entries before.log turns)
+  pub served : IfSome after.log (λ _. AreServed wait turns)
+
+-- ---- a turn that ended the run, or did not
+
+-- What became of the line of a connection: it was written, or a front of it that lacks something with status 3, or nothing
+-- with status 8, which comes where the connection ended for want of memory.
+abbrev pub IsLined : ℕ → ConnectionEnd → ℕ → (held held' : Option (List ℕ)) → Type 0
+IsLined number how status held held' =
+    ((status ≡ 0) × (how ≢ end.OutOfMemory) × (held' ≡ appended held (connection_line number how)))
+    ⊎ ((status ≡ 3) × (how ≢ end.OutOfMemory) × HasFront held held' (connection_line number how))
+    ⊎ IsSilent 8 status held held'
+
+-- A connection was served, and its line printed.
+pub record IsTold (versions : History) (wait number status : ℕ) (log log' : Option (List Connection))
+    (held held' : Option (List ℕ)) : Type 0 where
+  pub how : ConnectionEnd
+  pub logged : IsLogged (IsServed versions wait how) log log'
+  pub lined : IsLined number how status held held'
+
+-- The history grew, and the connection was served over it.
+pub record HasGrown (wait number status : ℕ) (before after : Seen) : Type 0 where
+  pub gained : List ℕ
+  pub gives : Gives gained true before.left after.left
+  pub grows : read_on before.kept gained ≡ Ok after.kept
+  pub told : IsTold after.kept.versions wait number status before.log after.log before.held after.held
+
+-- what a journal that is refused led to: 8 for want of memory, 2 where it failed, and else its cause was told
+abbrev pub IsRefusal : JournalFault → ℕ → (held held' : Option (List ℕ)) → Type 0
+IsRefusal fault status held held' = IsSilent 8 status held held' ⊎ AfterFault fault status held held'
+
+-- The history did not grow, and the connection went back as it came.
+pub record HasNotGrown (status : ℕ) (before after : Seen) : Type 0 where
+  pub gained : List ℕ
+  pub ended : Bool
+  pub gives : Gives gained ended before.left after.left
+  pub fault : JournalFault
+  pub because : FurtherFault before.kept gained fault
+  pub refusal : IsRefusal fault status before.held after.held
+  pub logged : IsLogged IsUntouched before.log after.log
+
+-- a turn with a connection that the door gave
+abbrev pub IsTurn : ℕ → ℕ → ℕ → Seen → Seen → Type 0
+IsTurn wait number status before after = HasGrown wait number status before after ⊎ HasNotGrown status before after
+
+-- ---- a run
+
+-- The run ended with a status, and nothing changed after its last turn.
+pub record EndsWith (wanted status : ℕ) (before after : Seen) : Type 0 where
+  pub ends : status ≡ wanted
+  pub left : after.left ≡ before.left
+  pub held : after.held ≡ before.held
+  pub log : after.log ≡ before.log
+
+-- How a run ended in place of a further turn: no connection was to come, the door failed, or the turn ended it.
+abbrev pub StopsAt : ℕ → ℕ → ℕ → Seen → Seen → Option (List (List (List ℕ))) → Type 0
+StopsAt wait number status before after coming =
+    (EndsWith 0 status before after × IfTold coming (Some []))
+    ⊎ EndsWith 9 status before after
+    ⊎ ((status ≢ 0) × IsTurn wait number status before after)
+
+-- The same after so many turns, or these were all.
+abbrev pub Stops : ℕ → ℕ → ℕ → ℕ → Seen → Seen → Option (List (List (List ℕ))) → Type 0
+Stops wait connections turns status before after coming =
+    ((turns ≡ connections) × EndsWith 0 status before after) ⊎ StopsAt wait (turns + 1) status before after coming
+
+-- The turns with a journal that was loaded, and the end.
+pub record HasRun (wait connections status : ℕ) (before after : Seen) (coming : Option (List (List (List ℕ)))) : Type 0 where
+  pub turns : List Turn
+  pub last : Seen
+  pub few : length turns ≤ connections
+  pub turned : HasTurns wait turns before last
+  pub stops : Stops wait connections (length turns) status last after coming
+
+-- A journal that was not loaded ends the run before any connection.
+pub record HasNotBegun (fault : JournalFault) (status : ℕ) (left left' : Option (List (List ℕ)))
+    (held held' : Option (List ℕ)) (log log' : Option (List Connection)) : Type 0 where
+  pub unread : left' ≡ left
+  pub refusal : IsRefusal fault status held held'
+  pub untouched : log' ≡ log
+
+pub record HasBegun (wait connections status : ℕ) (kept : Kept) (left left' : Option (List (List ℕ)))
+    (held held' : Option (List ℕ)) (log log' : Option (List Connection)) (coming : Option (List (List (List ℕ)))) : Type 0 where
+  pub last : Kept
+  pub run : HasRun wait connections status (record { left = left; kept = kept; held = held; log = log })
+      (record { left = left'; kept = last; held = held'; log = log' }) coming
+
+-- what the journal led to
+abbrev pub AfterLoad : ℕ → ℕ → Result Kept JournalFault → ℕ → (left left' : Option (List (List ℕ)))
+    → (held held' : Option (List ℕ)) → (log log' : Option (List Connection)) → Option (List (List (List ℕ))) → Type 0
+AfterLoad wait connections (Ok kept) status left left' held held' log log' coming =
+    HasBegun wait connections status kept left left' held held' log log' coming
+AfterLoad wait connections (Err fault) status left left' held held' log log' coming =
+    HasNotBegun fault status left left' held held' log log'
+
+-- A run of `serve`, of a server that says to wait so many seconds, for so many connections: the journal gave these bytes,
+-- with its end or without, and what they come to decided what became of the rest.
+pub record IsServeRun (wait connections status : ℕ) (left left' : Option (List (List ℕ)))
+    (held held' : Option (List ℕ)) (log log' : Option (List Connection)) (coming : Option (List (List (List ℕ)))) : Type 0 where
+  pub bytes : List ℕ
+  pub ended : Bool
+  pub read : Option (List (List ℕ))
+  pub gives : Gives bytes ended left read
+  pub loaded : Result Kept JournalFault
+  pub outcome : JournalOutcome bytes ended loaded
+  pub after : AfterLoad wait connections loaded status read left' held held' log log' coming
+
+-- ---- a wire that the door handed out
+
+-- The log before it was handed out and since, and the wire with nothing done yet.
+pub record IsFresh (log opened : Option (List Connection)) (number : ℕ) (start left : Option (List (List ℕ)))
+    (contents : Option (List ℕ)) (read_faults write_faults : ℕ) : Type 0 where
+  pub numbered : IfSome log (λ entries. number ≡ length entries)
+  pub opens : IfTold opened (with_entry log open_connection)
+  pub pieces : List (List ℕ)
+  pub started : IfTold start (Some pieces)
+  pub remains : IfTold left (Some pieces)
+  pub nothing : IfTold contents (Some [])
+  pub no_reads : read_faults ≡ 0
+  pub no_writes : write_faults ≡ 0
