@@ -12,4 +12,6 @@ mod objects;
 #[cfg(test)]
 mod runs;
 #[cfg(test)]
+mod serving;
+#[cfg(test)]
 mod words;
