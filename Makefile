@@ -8,7 +8,7 @@ LIST := MALWARE/ANY_PLATFORM/URL
 PROGRAMS := sbupdate sbcheck sblistd kernels
 SOURCES := crates.txt HANDLES $(shell find crates \( -name out -o -name must-fail \) -prune -o -type f -print)
 
-.PHONY: all test demo compare bench clean
+.PHONY: all test demo compare try-http bench clean
 .DELETE_ON_ERROR:
 
 all: $(PROGRAMS:%=bin/%)
@@ -33,6 +33,10 @@ demo: bin/sbupdate
 # A second program of the same rules, in Python, has to print what sbupdate, sbcheck and sblistd print.
 compare: bin/sbupdate bin/sbcheck bin/sblistd
 	python3 compare/compare.py
+
+# Drives sblistd over loopback with curl.
+try-http: bin/sblistd
+	bash try/http.sh
 
 bench: all
 	python3 bench/bench.py

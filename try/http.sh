@@ -1,0 +1,133 @@
+#!/usr/bin/env bash
+# Drives the built sblistd over loopback with curl: updates, each refusal that a client can bring about, clients that stall,
+# and many connections. Prints a line for each step, and ends with status 1 at the first that is not as it should be.
+#
+# A stalling client is given up after 30 seconds, and one that sends a byte a second after 60, so this takes two minutes.
+set -u
+cd "$(dirname "$0")/.." || exit 1
+
+if ! command -v curl > /dev/null; then
+  echo "try-http: curl is not installed, so nothing was tried"
+  exit 0
+fi
+
+readonly LIST=MALWARE/ANY_PLATFORM/URL
+readonly MANY=1000
+folder=$(mktemp -d)
+server=
+trap '[ -n "$server" ] && kill "$server" 2> /dev/null; rm -rf "$folder"' EXIT
+
+fail() {
+  echo "try-http: $1"
+  exit 1
+}
+
+# a port of loopback that nobody listens at
+free_port() {
+  local port
+  while port=$((20000 + RANDOM)); do
+    if ! (exec 3<> "/dev/tcp/127.0.0.1/$port") 2> /dev/null; then
+      echo "$port"
+      return
+    fi
+  done
+}
+
+# starts a server for so many connections
+serve() {
+  port=$(free_port)
+  bin/sblistd serve --journal "$folder/journal" --listen "127.0.0.1:$port" --connections "$1" > "$folder/printed" &
+  server=$!
+  url="http://127.0.0.1:$port/v4/threatListUpdates:fetch"
+}
+
+# what a request is answered: its status
+status_of() {
+  curl --silent --retry 20 --retry-connrefused --retry-delay 1 --max-time 100 --output "$folder/body" --write-out '%{http_code}' "$@"
+}
+
+expect() {
+  local step=$1 wanted=$2 found
+  shift 2
+  found=$(status_of "$@")
+  [ "$found" = "$wanted" ] || fail "$step: $found in place of $wanted"
+  echo "$step: $found"
+}
+
+ended() {
+  wait "$server" || fail "the server ended with status $?"
+  server=
+}
+
+hash() {
+  printf '%s%056d' "$1" 0
+}
+
+printf 'sblist 1 0000000000000001\nlist %s 4\nchange %s 2 0\n+%s\n+%s\n' \
+  "$LIST" "$LIST" "$(hash 31323334)" "$(hash 35363738)" > "$folder/journal"
+request='{"listUpdateRequests":[{"threatType":"MALWARE","platformType":"ANY_PLATFORM","threatEntryType":"URL"}]}'
+
+# ---- one of each answer
+
+serve 9
+expect "a fetch" 200 --data "$request" "$url"
+grep -q '"rawHashes":"MTIzNDU2Nzg="' "$folder/body" || fail "a fetch: its body is $(< "$folder/body")"
+printf 'change %s 0 1\n-%s\n' "$LIST" "$(hash 35363738)" >> "$folder/journal"
+expect "a fetch after a change of the journal" 200 --data "$request" "$url"
+grep -q '"rawHashes":"MTIzNA=="' "$folder/body" || fail "a fetch after a change: its body is $(< "$folder/body")"
+expect "another path" 404 --data "$request" "http://127.0.0.1:$port/v4/nothing"
+expect "another method" 405 "$url"
+expect "a body in chunks, without a length" 411 --header 'Transfer-Encoding: chunked' --data "$request" "$url"
+expect "a body that is no message" 400 --data '[' "$url"
+expect "a list that is not declared" 400 --data "${request/MALWARE/SOCIAL_ENGINEERING}" "$url"
+head -c 1048577 /dev/zero > "$folder/long"
+expect "a body that is too long" 413 --header 'Expect:' --data-binary "@$folder/long" "$url"
+expect "a head that is too long" 431 --header "X-Long: $(head -c 17000 /dev/zero | tr '\0' x)" --data "$request" "$url"
+ended
+cat > "$folder/wanted" <<'END'
+connection 1 answered 200
+connection 2 answered 200
+connection 3 answered 404
+connection 4 answered 405
+connection 5 answered 411
+connection 6 answered 400
+connection 7 answered 400
+connection 8 answered 413
+connection 9 answered 431
+END
+diff "$folder/wanted" "$folder/printed" || fail "the server printed other lines"
+echo "the server printed a line for each connection"
+
+# ---- clients that stall
+
+serve 4
+sleep 1
+( exec 3<> "/dev/tcp/127.0.0.1/$port" && printf 'POST /v4' >&3 && sleep 100 ) &
+stalling=$!
+sleep 1
+start=$SECONDS
+expect "a fetch behind a client that stalls" 200 --data "$request" "$url"
+echo "  it waited $((SECONDS - start)) seconds"
+kill "$stalling" 2> /dev/null
+( exec 3<> "/dev/tcp/127.0.0.1/$port" && while printf 'x' >&3; do sleep 1; done ) 2> /dev/null &
+slow=$!
+sleep 1
+start=$SECONDS
+expect "a fetch behind a client that sends a byte a second" 200 --data "$request" "$url"
+echo "  it waited $((SECONDS - start)) seconds"
+kill "$slow" 2> /dev/null
+ended
+[ "$(grep -c 'answered 200' "$folder/printed")" = 2 ] || fail "the server printed $(< "$folder/printed")"
+
+# ---- many connections
+
+serve "$MANY"
+sleep 1
+answered=0
+start=$SECONDS
+for _ in $(seq "$MANY"); do
+  [ "$(status_of --data "$request" "$url")" = 200 ] && answered=$((answered + 1))
+done
+[ "$answered" = "$MANY" ] || fail "$answered of $MANY connections were answered"
+ended
+echo "$MANY connections one after another, in $((SECONDS - start)) seconds"
