@@ -4,14 +4,10 @@
 #[cfg(test)]
 mod answers;
 #[cfg(test)]
-mod connection;
-#[cfg(test)]
 mod journals;
 #[cfg(test)]
 mod objects;
 #[cfg(test)]
 mod runs;
-#[cfg(test)]
-mod serving;
 #[cfg(test)]
 mod words;
