@@ -16,6 +16,7 @@ import multiprocessing
 import os
 import platform
 import random
+import socket
 import subprocess
 import sys
 import tempfile
@@ -37,6 +38,7 @@ SET_LOOK_UPS = 1_000_000
 JOURNAL_CHANGES = 65_536
 LONG_CHANGES = 2_048
 LONG_HASHES = 1_024
+SERVED_CHANGES = 1_023
 USUAL_URLS = 100_000
 HOSTILE_URLS = 2_000
 HOSTILE_BYTES = 8_192
@@ -245,6 +247,54 @@ def bench_answers(folder, runs):
     tell("to one who has the newest", f"{took:.2f} s", f"{peak / MIB:.1f} MiB at most")
 
 
+def ask(port, request):
+    """One connection: sends a request, and reads to the end of the response."""
+    with socket.create_connection(("127.0.0.1", port)) as wire:
+        wire.sendall(request)
+        while wire.recv(1 << 16):
+            pass
+
+
+def serve(journal, request, connections):
+    """Serves connections one after the other: the wall time from the second to the last, and the server's processor times."""
+    with socket.socket() as free:
+        free.bind(("127.0.0.1", 0))
+        port = free.getsockname()[1]
+    words = ["--journal", journal, "--listen", f"127.0.0.1:{port}", "--connections", str(connections)]
+    ran = subprocess.Popen([SBLISTD, "serve", *words], stdout=subprocess.DEVNULL)
+    for _ in range(1_000):
+        try:
+            ask(port, request)
+            break
+        except ConnectionRefusedError:
+            time.sleep(0.01)
+    start = time.perf_counter()
+    for _ in range(connections - 1):
+        ask(port, request)
+    wall = time.perf_counter() - start
+    _, status, usage = os.wait4(ran.pid, 0)
+    ran.returncode = os.waitstatus_to_exitcode(status)
+    if ran.returncode != 0:
+        raise SystemExit(f"sblistd serve: status {ran.returncode}")
+    return wall, usage.ru_utime, usage.ru_stime
+
+
+def bench_serve(folder):
+    """A server of one list. What it does for itself is its user time; the rest is the system's, of its sockets, and the client's."""
+    journal, request = os.path.join(folder, "journal"), os.path.join(folder, "request")
+    in_child(write_journal, journal, [LIST], SERVED_CHANGES, LONG_HASHES)
+    print(f"sblistd serve, a list of about {SERVED_CHANGES * LONG_HASHES:,} prefixes")
+    for name, version, few, many in (("one who has the newest", SERVED_CHANGES, 2, 1_002), ("one who has nothing", None, 2, 22)):
+        write_request(request, version, 0)
+        with open(request, "rb") as body:
+            body = body.read()
+        head = f"POST /v4/threatListUpdates:fetch HTTP/1.1\r\nContent-Length: {len(body)}\r\n\r\n"
+        text = head.encode("ascii") + body
+        small, large = serve(journal, text, few), serve(journal, text, many)
+        wall, user, system = ((more - less) / (many - few) for less, more in zip(small, large))
+        tell(name, f"{1 / wall:,.0f} a second", f"{user * 1e3:.2f} ms of its own and {system * 1e3:.2f} ms of the system's each")
+
+
 def bench_rice(runs):
     kernels = ("rice-values", "rice-encode", "rice-decode")
     values, encode, decode = processor_times(kernels, RICE_VALUES, runs)
@@ -308,6 +358,7 @@ def main():
         bench_replay(f"one update of {MANY_PREFIXES:,} prefixes", large, words.runs)
         bench_replay(f"{MANY_LINES:,} updates of 64 to 256 prefixes", small, words.runs)
         bench_answers(folder, words.runs)
+        bench_serve(folder)
     bench_sets(words.kernel_runs)
     bench_rice(words.kernel_runs)
     bench_messages("prefixes as they are", "raw-", words.kernel_runs)
