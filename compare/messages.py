@@ -187,18 +187,13 @@ class Reader:
         indices = self.list(self.inner(entry, "rawIndices"), "indices")
         return ("raw", [self.number(index, "indices", 0, I32) for index in indices])
 
+    def list_name(self, entry):
+        fields = (("threatType", THREATS), ("platformType", PLATFORMS), ("threatEntryType", ENTRIES))
+        return "/".join(self.word(entry, field, words) for field, words in fields)
+
     def update(self, value):
         entry = self.object(value, "listUpdateResponses")
-        read = {
-            "name": "/".join(
-                self.word(entry, field, words)
-                for field, words in (
-                    ("threatType", THREATS),
-                    ("platformType", PLATFORMS),
-                    ("threatEntryType", ENTRIES),
-                )
-            )
-        }
+        read = {"name": self.list_name(entry)}
         kinds = ("FULL_UPDATE", "PARTIAL_UPDATE")
         read["full"] = self.word(entry, "responseType", kinds) == "FULL_UPDATE"
         read["additions"] = [self.addition(one) for one in self.list(entry, "additions")]
@@ -217,16 +212,7 @@ class Reader:
 
     def request(self, value):
         entry = self.object(value, "listUpdateRequests")
-        read = {
-            "name": "/".join(
-                self.word(entry, field, words)
-                for field, words in (
-                    ("threatType", THREATS),
-                    ("platformType", PLATFORMS),
-                    ("threatEntryType", ENTRIES),
-                )
-            )
-        }
+        read = {"name": self.list_name(entry)}
         read["state"] = self.state(entry, "state")
         constraints = entry.get("constraints")
         constraints = {} if constraints is None else self.object(constraints, "constraints")
