@@ -1,5 +1,5 @@
 -- What a command line says.
-use Rattle.std.proofs.Common.{◌≡◌, ◌≢◌, ℕ, Bool, true, false, List, [], ◌∷◌, refl, sym, ap, ◌∙◌, subst, Option, Some, None, codes}
+use Rattle.std.proofs.Common.{◌≡◌, Bool, true, false, List, [], ◌∷◌, refl, sym, ap, ◌∙◌, subst, Option, Some, None, codes}
 use Rattle.std.specs.Prelude.{option_map, option_and_then, ◌&&◌, if◌then◌else◌}
 use Rattle.std.specs.Str.{bytes_eq}
 use Rattle.std.proofs.lemmas.Slice.Eq.{bytes_eq-Decides}
@@ -7,7 +7,7 @@ use Rattle.sb_words.specs.CommandLine.{Text, Given, CommandShape, given_of}
 use Rattle.delta_server.specs.declared.answering.Settings.{Settings}
 use Rattle.sb_service.specs.declared.command.Command.{Command}
 use Rattle.sb_service.specs.declared.command.Command.TheVariants.{Answer, Serve}
-use Rattle.sb_service.specs.Command.{AnswerWords, ServeWords, answer_given, answer_of, answer_shape, given_to, serve_given, serve_of, serve_shape, AsksAnswer, AsksServe, IsCommandOf, IsNoCommand}
+use Rattle.sb_service.specs.Command.{AnswerWords, ServeWords, answer_given, answer_of, answer_shape, given_to, serve_given, serve_of, serve_shape, AsksAnswer, IsCommandOf, IsNoCommand}
 
 -- ---- no words are those of both commands
 

@@ -4,7 +4,7 @@ use Rattle.std.specs.Prelude.{◌↔◌, IfSome, IsTrue, slice_set, option_map}
 use Rattle.std.specs.List.{concat}
 use Rattle.std.proofs.lemmas.List.{append_cancel_right}
 use Rattle.std.proofs.Math.Seq.{set-append_seam}
-use Rattle.sb_outside.specs.Outside.{IfTold, Rose, next_piece, later_pieces, left_after_end, bytes_left, prepended, appended, with_entry}
+use Rattle.sb_outside.specs.Outside.{IfTold, Rose, next_piece, later_pieces, left_after_end, with_entry}
 use Rattle.sb_outside.specs.Connections.{HasEnded, IsEntryOf, open_connection, Returns}
 use Rattle.sb_outside.specs.declared.doors.Connection.{Connection}
 use Rattle.sb_model.specs.History.{History}

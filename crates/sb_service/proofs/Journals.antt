@@ -1,15 +1,18 @@
 -- What the turns of a run come to, where the journal is told: each history is that of the journal's bytes so far.
-use Rattle.std.proofs.Common.{◌≡◌, ◌≢◌, ◌⊎◌, ◌+◌, inl, inr, ℕ, suc, zero, Bool, true, false, List, [], ◌∷◌, ◌++◌, length, take, drop, refl, sym, ap, ◌∙◌, subst, Option, Some, None, append_assoc, arith}
+use Rattle.std.proofs.Common.{◌≡◌, ◌≢◌, ◌⊎◌, ◌+◌, inl, inr, ℕ, suc, zero, Bool, true, List, [], ◌∷◌, ◌++◌, length, take, drop, refl, sym, ap, ◌∙◌, subst, Option, Some, None, append_assoc}
 use Rattle.std.specs.Prelude.{Result, Ok, Err}
 use Rattle.std.specs.List.{concat}
 use Rattle.std.proofs.lemmas.List.{append-nil}
-use Rattle.sb_outside.specs.Outside.{next_piece, later_pieces, left_after_end}
+use Rattle.sb_outside.specs.Outside.{next_piece, later_pieces}
 use Rattle.list_versions.specs.Journal.{Kept, kept_of, read_on}
-use Rattle.list_versions.specs.Loaded.{Gives, IsBadRest, FurtherFault}
+use Rattle.list_versions.specs.Loaded.{Gives, IsBadRest, FurtherFault, JournalOutcome}
 use Rattle.list_versions.specs.declared.fault.JournalFault.{JournalFault}
 use Rattle.list_versions.specs.declared.fault.JournalFault.TheVariants as journal
-use Rattle.sb_service.specs.Serving.{Turn, Gains, Grows}
-use Rattle.sb_service.proofs.Loads.{told_front}
+use Rattle.sb_service.specs.Answer.{AfterFault, IsSilent}
+use Rattle.sb_service.specs.Serving.{Turn, Gains, Grows, gained_in, AreOfJournal, HasNoBadLine, HasNotGrown, HasRun, IsLined, IsRefusal, IsServeRun, IsTurn, Seen, Stops, HasBegun, AfterLoad}
+use Rattle.sb_service.specs.declared.connection.ConnectionEnd.{ConnectionEnd}
+use Rattle.sb_service.proofs.Loads.{told_front, IsLoadedAs, loaded_as}
+use Rattle.sb_outside.specs.declared.doors.Connection.{Connection}
 
 -- however a journal is cut after its first line, it comes to the same
 abbrev pub CutsLaw : Type 0
@@ -84,3 +87,105 @@ harmless kept further bytes more piece (journal.UnknownList n) because is told =
 harmless kept further bytes more piece (journal.ListTwice n) because is told = absurd (no_bad_rest kept further bytes more piece (journal.ListTwice n) because is told)
 harmless kept further bytes more piece (journal.TooMany n) because is told = absurd (no_bad_rest kept further bytes more piece (journal.TooMany n) because is told)
 harmless kept further bytes more piece (journal.TooLarge n) because is told = absurd (no_bad_rest kept further bytes more piece (journal.TooLarge n) because is told)
+
+-- ---- each history is that of the journal's bytes so far
+
+journal_so_far : CutsLaw → (bytes : List ℕ) (kept : Kept) (turns : List Turn) (last : Kept) → kept_of bytes ≡ Ok kept → Grows kept turns last
+    → AreOfJournal bytes turns × (kept_of (bytes ++ gained_in turns) ≡ Ok last)
+journal_so_far law bytes kept [] last told grows = (tt, ap kept_of (append-nil bytes) ∙ told ∙ ap Ok (sym grows))
+journal_so_far law bytes kept (turn ∷ before) last told grows =
+    let so_far = journal_so_far law bytes kept before grows.0 told grows.1 in
+    let tells : kept_of (bytes ++ (gained_in before ++ turn.gained)) ≡ Ok turn.kept =
+    ap kept_of (sym (append_assoc bytes (gained_in before) turn.gained))
+    ∙ sym (law (bytes ++ gained_in before) turn.gained grows.0 so_far.1) ∙ grows.2 in
+    ((tells, so_far.0), tells ∙ ap Ok (sym grows.3))
+
+pub of_journal : CutsLaw → (bytes : List ℕ) (kept : Kept) (turns : List Turn) (last : Kept) → kept_of bytes ≡ Ok kept → Grows kept turns last → AreOfJournal bytes turns
+of_journal law bytes kept turns last told grows = (journal_so_far law bytes kept turns last told grows).0
+
+-- ---- a run over a journal without a bad line
+
+-- what a status is not
+pub record IsOther (status : ℕ) : Type 0 where
+  pub no_memory : status ≢ 8
+  pub no_read : status ≢ 2
+  pub no_write : status ≢ 3
+  pub no_door : status ≢ 9
+
+faultless : (fault : JournalFault) (status : ℕ) (held held' : Option (List ℕ)) → IsOther status → (fault ≡ journal.ReadFault) ⊎ (fault ≡ journal.OutOfMemory) → IsRefusal fault status held held' → ⊥
+faultless fault status held held' other why (inl silent) = other.no_memory silent.ends
+faultless fault status held held' other (inl is) (inr after) =
+    let read : IsSilent 2 status held held' = subst (λ (f : JournalFault). AfterFault f status held held') is after in
+    other.no_read read.ends
+faultless fault status held held' other (inr is) (inr after) = subst (λ (f : JournalFault). AfterFault f status held held') is after
+
+read_further : CutsLaw → (pieces : List (List ℕ)) (n : ℕ) (last : Kept) → HasNoBadLine pieces → kept_of (concat (take (suc n) pieces)) ≡ Ok last
+    → (further : Kept) × (read_on last (next_piece (drop (suc n) pieces)) ≡ Ok further)
+read_further law pieces n last none tells =
+    let further = none (suc n) in (
+      further.0,
+      law (concat (take (suc n) pieces)) (next_piece (drop (suc n) pieces)) last tells ∙ ap kept_of (sym (one_further (suc n) pieces)) ∙ further.1,
+    )
+
+not_refused : CutsLaw → (pieces : List (List ℕ)) (n status : ℕ) (before after : Seen) → HasNoBadLine pieces → IsAfter pieces n before.left before.kept → IsOther status
+    → HasNotGrown status before after → ⊥
+not_refused law pieces n status before after none at other stop =
+    let front = front_of_told before.left (drop (suc n) pieces) stop.gained stop.ended after.left at.remains stop.gives in
+    let further = read_further law pieces n before.kept none at.tells in
+    faultless stop.fault status before.held after.held other
+    (harmless before.kept further.0 stop.gained front.0 (next_piece (drop (suc n) pieces)) stop.fault stop.because front.1 further.1) stop.refusal
+
+not_lined : (number : ℕ) (how : ConnectionEnd) (status : ℕ) (held held' : Option (List ℕ)) → IsOther status → status ≢ 0 → IsLined number how status held held' → ⊥
+not_lined number how status held held' other some (inl line) = some line.0
+not_lined number how status held held' other some (inr (inl cut)) = other.no_write cut.0
+not_lined number how status held held' other some (inr (inr silent)) = other.no_memory silent.ends
+
+no_last_turn : CutsLaw → (pieces : List (List ℕ)) (n wait number status : ℕ) (before after : Seen) → HasNoBadLine pieces → IsAfter pieces n before.left before.kept → IsOther status → status ≢ 0
+    → IsTurn wait number status before after → ⊥
+no_last_turn law pieces n wait number status before after none at other some (inl grown) =
+    not_lined number grown.told.how status before.held after.held other some grown.told.lined
+no_last_turn law pieces n wait number status before after none at other some (inr stop) = not_refused law pieces n status before after none at other stop
+
+ends_with_0 : CutsLaw → (pieces : List (List ℕ)) (n wait connections status : ℕ) (before after : Seen) (coming : Option (List (List (List ℕ)))) → HasNoBadLine pieces → IsAfter pieces n before.left before.kept
+    → IsOther status → Stops wait connections n status before after coming → status ≡ 0
+ends_with_0 law pieces n wait connections status before after coming none at other (inl done) = done.1.ends
+ends_with_0 law pieces n wait connections status before after coming none at other (inr (inl no_more)) = no_more.0.ends
+ends_with_0 law pieces n wait connections status before after coming none at other (inr (inr (inl failed))) = absurd (other.no_door failed.ends)
+ends_with_0 law pieces n wait connections status before after coming none at other (inr (inr (inr turn))) =
+    absurd (no_last_turn law pieces n wait (n + 1) status before after none at other turn.0 turn.1)
+
+run_ends : CutsLaw → (pieces : List (List ℕ)) (wait connections status : ℕ) (first after : Seen) (coming : Option (List (List (List ℕ)))) → HasNoBadLine pieces → IsAfter pieces 0 first.left first.kept
+    → IsOther status → HasRun wait connections status first after coming → status ≡ 0
+run_ends law pieces wait connections status first after coming none at other run =
+    ends_with_0 law pieces (length run.turns) wait connections status run.last after coming none
+    (after_turns law pieces run.turns first.left run.last.left first.kept run.last.kept at run.turned.gains run.turned.grows) other run.stops
+
+begun_ends : CutsLaw → (pieces : List (List ℕ)) (wait connections status : ℕ) (bytes : List ℕ) (kept : Kept) (read left' : Option (List (List ℕ))) (held held' : Option (List ℕ)) (log log' : Option (List Connection))
+    (coming : Option (List (List (List ℕ)))) → HasNoBadLine pieces → IsAfter pieces 0 read kept → IsOther status → HasBegun wait connections status bytes kept read left' held held' log log' coming → status ≡ 0
+begun_ends law pieces wait connections status bytes kept read left' held held' log log' coming none at other begun =
+    run_ends law pieces wait connections status (record { left = read; kept = kept; held = held; log = log }) (record { left = left'; kept = begun.last; held = held'; log = log' }) coming none at other begun.run
+
+load_ends : CutsLaw → (pieces : List (List ℕ)) (wait connections status : ℕ) (bytes : List ℕ) (ended : Bool) (read left' : Option (List (List ℕ))) (held held' : Option (List ℕ)) (log log' : Option (List Connection))
+    (coming : Option (List (List (List ℕ)))) (kept : Kept) → HasNoBadLine pieces → kept_of (next_piece pieces) ≡ Ok kept → IsOther status → Gives bytes ended (Some pieces) read
+    → (loaded : Result Kept JournalFault) → JournalOutcome bytes ended loaded → IsLoadedAs kept loaded → AfterLoad wait connections bytes loaded status read left' held held' log log' coming → status ≡ 0
+load_ends law pieces wait connections status bytes ended read left' held held' log log' coming kept none told other gives (Ok found) outcome (inl is) begun =
+    let whole : Gives bytes true (Some pieces) read = subst (λ (e : Bool). Gives bytes e (Some pieces) read) outcome.0 gives in
+    let rest = some_left (Some pieces) pieces bytes read refl whole in
+    let first : kept_of (next_piece pieces) ≡ Ok found = told ∙ sym is in
+    begun_ends law pieces wait connections status bytes found read left' held held' log log' coming none (begins pieces read found rest.1 first) other begun
+load_ends law pieces wait connections status bytes ended read left' held held' log log' coming kept none told other gives (Ok found) outcome (inr (inl is)) begun = absurd (cc)
+load_ends law pieces wait connections status bytes ended read left' held held' log log' coming kept none told other gives (Ok found) outcome (inr (inr is)) begun = absurd (cc)
+load_ends law pieces wait connections status bytes ended read left' held held' log log' coming kept none told other gives (Err fault) outcome (inl is) not = absurd (cc)
+load_ends law pieces wait connections status bytes ended read left' held held' log log' coming kept none told other gives (Err fault) outcome (inr (inl is)) not =
+    absurd (faultless fault status held held' other (inl (cc)) not.refusal)
+load_ends law pieces wait connections status bytes ended read left' held held' log log' coming kept none told other gives (Err fault) outcome (inr (inr is)) not =
+    absurd (faultless fault status held held' other (inr (cc)) not.refusal)
+
+pub served_to_the_end : CutsLaw → (wait connections status : ℕ) (pieces : List (List ℕ)) (left left' : Option (List (List ℕ))) (held held' : Option (List ℕ)) (log log' : Option (List Connection))
+    (coming : Option (List (List (List ℕ)))) → left ≡ Some pieces → HasNoBadLine pieces → IsServeRun wait connections status left left' held held' log log' coming → IsOther status → status ≡ 0
+served_to_the_end law wait connections status pieces left left' held held' log log' coming told none run other =
+    let first = none 0 in
+    let begins : kept_of (next_piece pieces) ≡ Ok first.0 = ap kept_of (sym (one_further 0 pieces)) ∙ first.1 in
+    let gives : Gives run.bytes run.ended (Some pieces) run.read = subst (λ (l : Option (List (List ℕ))). Gives run.bytes run.ended l run.read) told run.gives in
+    load_ends law pieces wait connections status run.bytes run.ended run.read left' held held' log log' coming first.0 none begins other gives run.loaded run.outcome
+    (loaded_as run.bytes run.ended pieces run.read first.0 run.loaded gives begins run.outcome) run.after

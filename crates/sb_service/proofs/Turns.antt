@@ -1,14 +1,11 @@
 -- One more turn, and the end of a run.
-use Rattle.std.proofs.Common.{◌≡◌, ◌≢◌, ◌⊎◌, ◌+◌, ◌≤◌, inl, inr, ℕ, Bool, true, false, List, [], ◌∷◌, ◌++◌, length, refl, sym, ap, ◌∙◌, subst, Option, Some, None, append_assoc, arith}
+use Rattle.std.proofs.Common.{◌≡◌, ◌≢◌, ◌+◌, ◌≤◌, inl, inr, ℕ, false, List, [], ◌∷◌, ◌++◌, length, refl, sym, ap, ◌∙◌, subst, Option, Some, None, append_assoc, arith}
 use Rattle.std.specs.Prelude.{IfSome, Err}
 use Rattle.std.proofs.lemmas.List.{append-nil}
 use Rattle.sb_outside.specs.Outside.{GivesFront, IfTold, appended, with_entry}
 use Rattle.sb_outside.specs.declared.doors.Connection.{Connection}
-use Rattle.list_versions.specs.Journal.{Kept, read_on}
-use Rattle.list_versions.specs.Loaded.{Gives}
-use Rattle.sb_service.specs.Answer.{AfterFault, IsSilent}
 use Rattle.sb_service.specs.Printed.{connection_line}
-use Rattle.sb_service.specs.Serving.{IsServed, AreServed, Turn, Seen, HasTurns, HasGrown, HasNotGrown, IsTurn, IsTold, IsLogged, IsLined, IsRefusal, lines_of, with_entries, HasRun, IsServeRun, StopsAt}
+use Rattle.sb_service.specs.Serving.{IsServed, AreServed, Turn, Seen, HasTurns, HasGrown, IsTurn, IsLined, IsRefusal, lines_of, with_entries, HasRun, IsServeRun, StopsAt}
 use Rattle.sb_service.specs.declared.connection.ConnectionEnd.{ConnectionEnd}
 use Rattle.sb_service.specs.declared.connection.ConnectionEnd.TheVariants as end
 use Rattle.list_versions.specs.declared.fault.JournalFault.{JournalFault}

@@ -1,12 +1,13 @@
 -- A run of `serve`: what the journal gave before each connection, how each connection ended and what the door's log says of
 -- it, the lines that were printed, and how the run ended.
-use Rattle.std.specs.Prelude.{◌≡◌, ◌≢◌, ◌⊎◌, ◌↔◌, ◌+◌, ◌≤◌, ℕ, Bool, true, List, [], ◌∷◌, ◌++◌, length, ⊤, Option, Some, Result, Ok, Err, IfSome, IsTrue}
+use Rattle.std.specs.Prelude.{◌≡◌, ◌≢◌, ◌⊎◌, ◌↔◌, ◌+◌, ◌≤◌, ℕ, suc, Bool, true, List, [], ◌∷◌, ◌++◌, length, take, ⊤, Option, Some, Result, Ok, Err, IfSome, IsTrue}
+use Rattle.std.specs.List.{concat}
 use Rattle.sb_outside.specs.Outside.{IfTold, appended, with_entry}
 use Rattle.sb_outside.specs.Writing.{HasFront}
 use Rattle.sb_outside.specs.Connections.{open_connection}
 use Rattle.sb_outside.specs.declared.doors.Connection.{Connection}
 use Rattle.sb_model.specs.History.{History}
-use Rattle.list_versions.specs.Journal.{Kept, read_on}
+use Rattle.list_versions.specs.Journal.{Kept, kept_of, read_on}
 use Rattle.list_versions.specs.Loaded.{Gives, JournalOutcome, FurtherFault}
 use Rattle.list_versions.specs.declared.fault.JournalFault.{JournalFault}
 use Rattle.sb_service.specs.Answer.{AfterFault, IsSilent}
@@ -60,6 +61,17 @@ abbrev pub Grows : Kept → List Turn → Kept → Type 0
 Grows kept [] last = last ≡ kept
 Grows kept (turn ∷ before) last =
     (between : Kept) × Grows kept before between × (read_on between turn.gained ≡ Ok turn.kept) × (last ≡ turn.kept)
+
+-- the bytes that the journal gave in all of them
+abbrev pub gained_in : List Turn → List ℕ
+gained_in [] = []
+gained_in (turn ∷ before) = gained_in before ++ turn.gained
+
+-- Each history is the one of the journal's bytes so far: of those that were loaded, and of those of each turn up to its own.
+abbrev pub AreOfJournal : List ℕ → List Turn → Type 0
+AreOfJournal loaded [] = ⊤
+AreOfJournal loaded (turn ∷ before) =
+    (kept_of (loaded ++ gained_in (turn ∷ before)) ≡ Ok turn.kept) × AreOfJournal loaded before
 
 -- a line for each, with its number counted from 1
 abbrev pub lines_of : List Turn → List ℕ
@@ -175,18 +187,20 @@ pub record HasNotBegun (fault : JournalFault) (status : ℕ) (left left' : Optio
   pub refusal : IsRefusal fault status held held'
   pub untouched : log' ≡ log
 
-pub record HasBegun (wait connections status : ℕ) (kept : Kept) (left left' : Option (List (List ℕ)))
+-- One that was loaded grew from turn to turn, and each history that was lent is the one of its bytes so far.
+pub record HasBegun (wait connections status : ℕ) (bytes : List ℕ) (kept : Kept) (left left' : Option (List (List ℕ)))
     (held held' : Option (List ℕ)) (log log' : Option (List Connection)) (coming : Option (List (List (List ℕ)))) : Type 0 where
   pub last : Kept
   pub run : HasRun wait connections status (record { left = left; kept = kept; held = held; log = log })
       (record { left = left'; kept = last; held = held'; log = log' }) coming
+  pub journal : AreOfJournal bytes run.turns
 
 -- what the journal led to
-abbrev pub AfterLoad : ℕ → ℕ → Result Kept JournalFault → ℕ → (left left' : Option (List (List ℕ)))
+abbrev pub AfterLoad : ℕ → ℕ → List ℕ → Result Kept JournalFault → ℕ → (left left' : Option (List (List ℕ)))
     → (held held' : Option (List ℕ)) → (log log' : Option (List Connection)) → Option (List (List (List ℕ))) → Type 0
-AfterLoad wait connections (Ok kept) status left left' held held' log log' coming =
-    HasBegun wait connections status kept left left' held held' log log' coming
-AfterLoad wait connections (Err fault) status left left' held held' log log' coming =
+AfterLoad wait connections bytes (Ok kept) status left left' held held' log log' coming =
+    HasBegun wait connections status bytes kept left left' held held' log log' coming
+AfterLoad wait connections bytes (Err fault) status left left' held held' log log' coming =
     HasNotBegun fault status left left' held held' log log'
 
 -- A run of `serve`, of a server that says to wait so many seconds, for so many connections: the journal gave these bytes,
@@ -199,7 +213,11 @@ pub record IsServeRun (wait connections status : ℕ) (left left' : Option (List
   pub gives : Gives bytes ended left read
   pub loaded : Result Kept JournalFault
   pub outcome : JournalOutcome bytes ended loaded
-  pub after : AfterLoad wait connections loaded status read left' held held' log log' coming
+  pub after : AfterLoad wait connections bytes loaded status read left' held held' log log' coming
+
+-- A journal that is told has no bad line up to any of its ends.
+abbrev pub HasNoBadLine : List (List ℕ) → Type 0
+HasNoBadLine pieces = (ends : ℕ) → (kept : Kept) × (kept_of (concat (take (suc ends) pieces)) ≡ Ok kept)
 
 -- ---- a wire that the door handed out
 

@@ -8,7 +8,7 @@ use crate::answer::answer_fault;
 use crate::connection::{ConnectionEnd, serve_connection};
 use crate::printing::connection_line;
 use delta_server::Settings;
-use list_versions::{History, JournalFault};
+use list_versions::{History, JournalFault, cuts_make_no_difference};
 use sb_model::OutOfMemory;
 use sb_outside::{Door, Failed, Sink, Source, write_all};
 use std::alloc::Global;
@@ -190,6 +190,7 @@ pub(crate) fn serve<J: Source, O: Sink, D: Door>(
     ensures door_failed { result ≡ 9 → Rose (D.faults door.old) (D.faults door.new) }
     ensures door_kept { result ≢ 9 → D.faults door.new ≡ D.faults door.old }
 {
+    cuts_make_no_difference();
     match History::load(alloc, journal) {
         Ok(mut history) => serve_connections(
             alloc,

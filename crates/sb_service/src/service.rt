@@ -1,5 +1,5 @@
 ghost use Rattle.std.specs.Prelude.{◌≡◌, ◌≢◌, ◌⊎◌, ◌++◌, ◌∷◌, ◌≤◌, ℕ, List, [], length, map, string_bytes, None, Some, Ok};
-ghost use Rattle.sb_outside.specs.Outside.{appended, next_piece};
+ghost use Rattle.sb_outside.specs.Outside.{Rose, appended, next_piece};
 ghost use Rattle.list_versions.specs.Journal.{Kept, kept_of};
 ghost use Rattle.update_messages.specs.Messages.{Request};
 ghost use Rattle.update_messages.specs.Reading.{ReadsRequest, IsTextOf};
@@ -8,11 +8,12 @@ ghost use Rattle.delta_server.specs.declared.answering.Settings.{Settings};
 ghost use Rattle.sb_service.specs.Command.{AnswerWords, IsNoCommand, ServeWords, answer_of, serve_of};
 ghost use Rattle.sb_service.specs.Printed.{answer_line};
 ghost use Rattle.sb_service.specs.Answer.{AreCounted, HasNoFault, IsAnswerRun, IsStatus, TellsUsage, most_body};
-ghost use Rattle.sb_service.specs.Serving.{IsServeRun};
+ghost use Rattle.sb_service.specs.Serving.{HasNoBadLine, IsServeRun};
 
 use crate::answer::answer;
 use crate::command::{Command, command_of};
 use crate::serve::serve;
+use list_versions::cuts_make_no_difference;
 use sb_model::OutOfMemory;
 use sb_outside::{Door, Failed, Sink, Source, write_all};
 use std::alloc::Global;
@@ -55,6 +56,8 @@ fn run_command<J: Source, S: Source, O: Sink, D: Door>(
         (O.contents out.old) (O.contents out.new) (D.log door.old) (D.log door.new) (D.coming door.new) }
     ensures unread { (settings : Settings) (connections : ℕ) → command ≡ Command.Serve settings connections
         → input.new ≡ input.old }
+    ensures journal_failed { (settings : Settings) (connections : ℕ) → command ≡ Command.Serve settings connections
+        → result ≡ 2 → Rose (J.faults journal.old) (J.faults journal.new) }
     ensures counts { AreCounted result (J.faults journal.old) (J.faults journal.new) (S.faults input.old) (S.faults input.new)
         (O.faults out.old) (O.faults out.new) (D.faults door.old) (D.faults door.new) }
 {
@@ -122,6 +125,15 @@ pub fn run_server<J: Source, S: Source, O: Sink, D: Door>(
         (O.contents out.old) (O.contents out.new) (D.log door.old) (D.log door.new) (D.coming door.new) }
     ensures no_input { (line : ServeWords) → serve_of (map string_bytes words.now) ≡ Some line → input.new ≡ input.old }
 
+    // A journal without a bad line is served to the end, where no count rose.
+    ensures serves_all { (line : ServeWords) (pieces : List (List ℕ))
+        → serve_of (map string_bytes words.now) ≡ Some line
+        → J.left journal.old ≡ Some pieces → HasNoBadLine pieces
+        → HasNoFault (J.faults journal.old) (J.faults journal.new)
+        → HasNoFault (O.faults out.old) (O.faults out.new)
+        → HasNoFault (D.faults door.old) (D.faults door.new)
+        → (result ≡ 0) ⊎ (result ≡ 8) }
+
     // A count that rose names its fault.
     ensures counts { AreCounted result (J.faults journal.old) (J.faults journal.new) (S.faults input.old) (S.faults input.new)
         (O.faults out.old) (O.faults out.new) (D.faults door.old) (D.faults door.new) }
@@ -148,6 +160,7 @@ pub fn run_server<J: Source, S: Source, O: Sink, D: Door>(
 {
     values_read_one_way();
     values_read_or_have_a_fault();
+    cuts_make_no_difference();
     match command_of(alloc, words) {
         Ok(Some(command)) => run_command(alloc, command, journal, input, out, door),
         Ok(None) => tell_usage(out),

@@ -37,7 +37,7 @@ fn an_input_that_fails_is_named(rt: HostRuntime) -> Result<(), Fail> {
 fn breaks(
     rt: &impl Abort,
     alloc: Global,
-    texts: &[&str],
+    line: &str,
     journal: &str,
     body: &str,
     wanted: (u8, &str),
@@ -45,7 +45,7 @@ fn breaks(
     let mut journal = source(alloc, journal.as_bytes(), &[], 100)?;
     let mut input = source(alloc, body.as_bytes(), &[], 100)?;
     let mut out = MemorySink::new(alloc, 1000, Row::from_slice(alloc, &[2])?)?.with_step(10);
-    let status = run(alloc, texts, &mut journal, &mut input, &mut out)?;
+    let status = run(alloc, line, &mut journal, &mut input, &mut out)?;
     assert_eq!(rt; out.bytes(), wanted.1.as_bytes());
     assert_eq!(rt; status, wanted.0);
     Ok(())
@@ -68,7 +68,7 @@ fn an_output_that_fails_at_the_cause_of_a_journal_is_named(rt: HostRuntime) -> R
 
 #[test]
 fn a_usage_that_is_not_written_whole_is_a_usage(rt: HostRuntime) -> Result<(), Fail> {
-    breaks(&rt, rt.alloc(), &[], JOURNAL, "{}", (1, "usage: sbl"))
+    breaks(&rt, rt.alloc(), "", JOURNAL, "{}", (1, "usage: sbl"))
 }
 
 // Sees what a body of so many bytes answers: an empty object and spaces after it.

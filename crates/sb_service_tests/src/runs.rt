@@ -1,4 +1,4 @@
-//! Runs of `sblistd answer` on objects in memory.
+//! Runs of `sblistd` on objects in memory, at a door to which no connection comes.
 ghost use Rattle.std.specs.Prelude.{◌<◌};
 
 use sb_model::{Bytes, OutOfMemory, Row};
@@ -18,7 +18,7 @@ pub(crate) const JOURNAL: &str = "sblist 1 0000000000000001\n\
     -3536373800000000000000000000000000000000000000000000000000000000\n";
 
 /// The words of `answer` without the times.
-pub(crate) const ANSWER: &[&str] = &["sblistd", "answer", "--journal", "j", "--kind", "fetch"];
+pub(crate) const ANSWER: &str = "sblistd answer --journal j --kind fetch";
 
 /// The answer to a request that asks for nothing.
 pub(crate) const NOTHING: &str = "{\"minimumWaitDuration\":\"1800s\"}\n";
@@ -37,11 +37,14 @@ pub(crate) fn source(
     Ok(MemorySource::new(pieces, Row::from_slice(alloc, failing)?).with_step(step))
 }
 
-/// Words of a command line.
-pub(crate) fn words(alloc: Global, texts: &[&str]) -> Result<Vec<String>, AllocError> {
+/// The words of a line, which single spaces part. The empty line has none.
+pub(crate) fn words(alloc: Global, line: &str) -> Result<Vec<String>, AllocError> {
     let mut words = Vec::new(alloc);
-    for text in texts {
-        words.push(String::from_str(alloc, text)?)?;
+    if line.is_empty() {
+        return Ok(words);
+    }
+    for word in line.split(' ') {
+        words.push(String::from_str(alloc, word)?)?;
     }
     Ok(words)
 }
@@ -54,12 +57,12 @@ fn door(alloc: Global) -> Result<MemoryDoor, OutOfMemory> {
 /// What a run of these words answers, on these objects.
 pub(crate) fn run(
     alloc: Global,
-    texts: &[&str],
+    line: &str,
     journal: &mut MemorySource,
     input: &mut MemorySource,
     out: &mut MemorySink,
 ) -> Result<u8, Fail> {
-    let words = words(alloc, texts)?;
+    let words = words(alloc, line)?;
     let mut door = door(alloc)?;
     Ok(run_server(alloc, words.as_slice(), journal, input, out, &mut door))
 }
@@ -67,14 +70,14 @@ pub(crate) fn run(
 /// What a run of these words answers and writes, for a journal and an input.
 pub(crate) fn answered(
     alloc: Global,
-    texts: &[&str],
+    line: &str,
     journal: &[u8],
     input: &[u8],
 ) -> Result<(u8, MemorySink), Fail> {
     let mut journal = source(alloc, journal, &[], 1000)?;
     let mut input = source(alloc, input, &[], 100_000)?;
     let mut out = MemorySink::new(alloc, 2000, Row::new(alloc))?;
-    let status = run(alloc, texts, &mut journal, &mut input, &mut out)?;
+    let status = run(alloc, line, &mut journal, &mut input, &mut out)?;
     Ok((status, out))
 }
 

@@ -1,10 +1,12 @@
 use Rattle.std.proofs.Common.{refl}
 use Rattle.std.specs.Prelude.{Ok, Err}
+use Rattle.sb_service.proofs.Journals.{of_journal}
 use Rattle.sb_service.proofs.serve.serve.Goals as goal
 
 pub returns-in-Ok-clause-run : goal.returns-in-Ok-clause-run
 returns-in-Ok-clause-run g c =
     let load = c.in-Ok.ensures.outcome in
+    let run = c.serve_connections.ensures.run in
     record {
       bytes = load.0;
       ended = load.1;
@@ -12,7 +14,11 @@ returns-in-Ok-clause-run g c =
       gives = load.2;
       loaded = Ok c.in-Ok.history;
       outcome = load.3;
-      after = record { last = c.serve_connections.new.history; run = c.serve_connections.ensures.run };
+      after = record {
+        last = c.serve_connections.new.history;
+        run = run;
+        journal = of_journal c.cuts_make_no_difference.ensures load.0 c.in-Ok.history run.turns run.last.kept load.3.1 run.turned.grows;
+      };
     }
 
 pub returns-in-Err-clause-run : goal.returns-in-Err-clause-run

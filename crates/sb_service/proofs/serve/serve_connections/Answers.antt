@@ -1,5 +1,5 @@
-use Rattle.std.proofs.Common.{◌+◌, ◌<◌, [], refl, ap, ◌∙◌, arith}
-use Rattle.sb_service.proofs.Turns.{all_done, no_turn, one_more, stopped}
+use Rattle.std.proofs.Common.{◌+◌, ◌<◌, [], refl, ◌∙◌, arith}
+use Rattle.sb_service.proofs.Turns.{no_turn, one_more, stopped}
 use Rattle.sb_service.proofs.serve.serve_connections.Goals as goal
 
 pub loop-taken-init : goal.loop-taken-init

@@ -1,4 +1,4 @@
-use Rattle.std.proofs.Common.{◌≡◌, ℕ, List, length}
+use Rattle.std.proofs.Common.{◌≡◌, List, length}
 use Rattle.sb_service.specs.Serving.{Turn, HasTurns}
 use Rattle.sb_service.proofs.serve.serve_connections.Given as goal
 

@@ -1,6 +1,7 @@
 use Rattle.sb_service.proofs.Runs.{answered, served, none_risen, not_risen, not_8, zero_or_memory}
 use Rattle.sb_service.proofs.Commands.{is_answer, is_other, is_serve}
 use Rattle.sb_service.proofs.Turns.{nothing_done}
+use Rattle.sb_service.proofs.Journals.{served_to_the_end}
 use Rattle.sb_service.proofs.service.run_server.Goals as goal
 
 pub returns-in-Ok-Some-clause-answers : goal.returns-in-Ok-Some-clause-answers
@@ -45,3 +46,16 @@ returns-in-Ok-Some-clause-no_input g c line words =
 
 pub returns-in-Err-clause-serves : goal.returns-in-Err-clause-serves
 returns-in-Err-clause-serves g c line words = nothing_done _ _ _ _ _ _
+
+pub returns-in-Ok-Some-clause-serves_all : goal.returns-in-Ok-Some-clause-serves_all
+returns-in-Ok-Some-clause-serves_all g c line pieces words told none journal out door =
+    let is = is_serve _ _ _ line c.in-Ok-Some.ensures c.in-Ok-Some.field-0-is words in
+    let counts = c.run_command.ensures.counts in
+    zero_or_memory c.run_command.result c.run_command.ensures.statuses (λ other.
+    served_to_the_end c.cuts_make_no_difference.ensures line.settings.wait line.connections c.run_command.result pieces _ _ _ _ _ _ _ told none
+    (c.run_command.ensures.serves line.settings line.connections is) (record {
+      no_memory = other;
+      no_read = λ two. not_risen _ _ journal (c.run_command.ensures.journal_failed line.settings line.connections is two);
+      no_write = λ three. not_risen _ _ out (counts.written three);
+      no_door = λ nine. not_risen _ _ door (counts.door_failed nine);
+    }))
