@@ -1,6 +1,6 @@
 -- Full hashes that begin with a prefix.
-use Rattle.std.proofs.Common.{◌≡◌, ℕ, zero, suc, ◌+◌, ◌<◌, ◌≤◌, List, [], ◌∷◌, ◌++◌, length, take, map, get_or, refl, sym, ap, subst, ◌∙◌, arith, Bool, true, false, cond, Option, Some, None, Result, Ok, Err, IfOk}
-use Rattle.std.specs.Prelude.{All, Contains, filter, slice_get}
+use Rattle.std.proofs.Common.{◌≡◌, ℕ, zero, suc, ◌+◌, ◌<◌, ◌≤◌, List, [], ◌∷◌, ◌++◌, length, take, map, get_or, refl, sym, ap, ◌∙◌, Bool, true, false, cond, Some, Result, Ok, Err, IfOk}
+use Rattle.std.specs.Prelude.{All, filter, slice_get}
 use Rattle.std.specs.Str.{bytes_eq}
 use Rattle.std.proofs.lemmas.List.{take_more, map-append, take-take}
 use Rattle.std.proofs.lemmas.List.Elements.{filter-append, All-filter, All-map}

@@ -15,6 +15,8 @@ use Rattle.sb_model.specs.Names.{same_name}
 use Rattle.list_versions.specs.Lines.{IsAdded}
 use Rattle.list_versions.specs.Limits.{IsWithin, WithinLimits, limit_fault, is_crowded, prefix_bytes, most_hashes, most_prefix_bytes, hash_lines, most_lists}
 use Rattle.list_versions.specs.Journal.{Reading, settled, is_complete, if_within_limits, with_change, change_of, next_line, lines_begun, after_list}
+use Rattle.list_versions.specs.Checkpoints.{HasPoints}
+use Rattle.list_versions.specs.declared.checkpoints.Checkpoint.{Checkpoint}
 use Rattle.list_versions.specs.Draft.{declared_of, history_of, kept_of_draft, IsDraft, begun_of}
 use Rattle.list_versions.specs.Live.{Holds}
 use Rattle.list_versions.specs.declared.draft.Begin.{Begin}
@@ -28,7 +30,7 @@ use Rattle.list_versions.proofs.NameCodes.{names_same}
 
 -- ---- versions
 
-fold_both : (f : List Added → Change → List Added) (a : List Added) (xs ys : List Change) → fold f a (xs ++ ys) ≡ fold f (fold f a xs) ys
+pub fold_both : (f : List Added → Change → List Added) (a : List Added) (xs ys : List Change) → fold f a (xs ++ ys) ≡ fold f (fold f a xs) ys
 fold_both f a [] ys = refl
 fold_both f a (x ∷ xs) ys = fold_both f (f a x) xs ys
 
@@ -89,7 +91,7 @@ pub history_is : (epoch : ℕ) (declared declared' : List (ListName × ℕ)) (ch
     → let new : History = record { epoch = epoch; declared = declared'; changes = changes' } in new ≡ with_change change (record { epoch = epoch; declared = declared; changes = changes })
 history_is epoch declared declared' changes changes' change d c = λ i. record { epoch = epoch; declared = d i; changes = c i }
 
-hash_lines_more : (changes : List Change) (change : Change) → hash_lines (changes ++ change ∷ []) ≡ hash_lines changes + (length change.adds + length change.removes)
+pub hash_lines_more : (changes : List Change) (change : Change) → hash_lines (changes ++ change ∷ []) ≡ hash_lines changes + (length change.adds + length change.removes)
 hash_lines_more changes change = sum_by-append (λ (c : Change). length c.adds + length c.removes) changes (change ∷ []) ∙ ap (λ n. hash_lines changes + n) (one (length change.adds + length change.removes))
   where
     one : (n : ℕ) → 0 + n ≡ n
@@ -100,8 +102,8 @@ pub draft_completed : (old new : Draft) (change : Change) (n : ℕ) → IsDraft 
     → All (IsApplied change (λ name. sizes_at (history_of old) name (length old.changes.items))) new.lists.items
     → limit_fault n (after_change change.list (sizes_at (history_of old) change.list (length old.changes.items)) change) ≡ None
     → length old.changes.items < 65536 → old.hashes + (length change.adds + length change.removes) ≤ 2097152 → declares (history_of old) change.list ≡ true
-    → All IsAdded change.adds → All (λ (hash : List ℕ). length hash ≡ 32) change.removes → IsDraft new
-draft_completed old new change n draft epoch declared changes hashes applied none few count named adds removes =
+    → All IsAdded change.adds → All (λ (hash : List ℕ). length hash ≡ 32) change.removes → HasPoints new.points.items (old.changes.items ++ change ∷ []) → IsDraft new
+draft_completed old new change n draft epoch declared changes hashes applied none few count named adds removes points =
     let history = history_completed old new change epoch declared changes in
     let long = ap length changes ∙ length-append old.changes.items (change ∷ []) in
     record {
@@ -124,6 +126,7 @@ draft_completed old new change n draft epoch declared changes hashes applied non
         removes = subst (λ cs. All (λ (c : Change). All (λ (hash : List ℕ). length hash ≡ 32) c.removes) cs) (sym changes)
             (All-push (λ (c : Change). All (λ (hash : List ℕ). length hash ≡ 32) c.removes) old.changes.items change draft.well_formed.removes removes);
       };
+      points = subst (λ (cs : List Change). HasPoints new.points.items cs) (sym changes) points;
     }
 
 -- ---- what the last line does
@@ -160,7 +163,7 @@ any_more p (x ∷ xs) ys h = or_more (p x) (list_any p xs) (list_any p (xs ++ ys
     or_more true b c f h = refl
     or_more false b c f h = f h
 
-no_change : (name : ListName) (change : Change) (b : Bool) → same_name change.list name ≡ b → b ≡ false → after_change name [] change ≡ []
+pub no_change : (name : ListName) (change : Change) (b : Bool) → same_name change.list name ≡ b → b ≡ false → after_change name [] change ≡ []
 no_change name change true e h = absurd (cc)
 no_change name change false e h = rw e refl
 
@@ -170,7 +173,7 @@ no_changes name (change ∷ changes) h =
     ap (λ es. fold (after_change name) es changes) (no_change name change false (All-head (λ (c : Change). same_name c.list name ≡ false) change changes h) refl)
     ∙ no_changes name changes (All-tail (λ (c : Change). same_name c.list name ≡ false) change changes h)
 
-other_name : (history : History) (name list : ListName) (b : Bool) → same_name list name ≡ b → declares history name ≡ false → declares history list ≡ true → b ≡ false
+pub other_name : (history : History) (name list : ListName) (b : Bool) → same_name list name ≡ b → declares history name ≡ false → declares history list ≡ true → b ≡ false
 other_name history name list true e absent is = let same = ap (λ n. declares history n) (names_same list name e) in absurd (cc)
 other_name history name list false e absent is = refl
 
@@ -183,9 +186,9 @@ pub declared_more : (lists : List Listed) (listed : Listed) → declared_of (lis
 declared_more [] listed = refl
 declared_more (x ∷ xs) listed = ap (λ ds. (x.name, x.size) ∷ ds) (declared_more xs listed)
 
-pub draft_declared : (old new : Draft) (listed : Listed) → IsDraft old → new.lists.items ≡ old.lists.items ++ listed ∷ [] → new.changes ≡ old.changes → new.hashes ≡ old.hashes → length old.lists.items < 8
-    → declares (history_of old) listed.name ≡ false → IsPrefixSize listed.size → Holds listed.live [] → IsDraft new
-draft_declared old new listed draft lists changes hashes few absent size live =
+pub draft_declared : (old new : Draft) (listed : Listed) → IsDraft old → new.lists.items ≡ old.lists.items ++ listed ∷ [] → new.changes ≡ old.changes → new.hashes ≡ old.hashes → new.points ≡ old.points
+    → length old.lists.items < 8 → declares (history_of old) listed.name ≡ false → IsPrefixSize listed.size → Holds listed.live [] → IsDraft new
+draft_declared old new listed draft lists changes hashes points few absent size live =
     let items = ap (λ cs. cs.items) changes in
     let declared = ap declared_of lists ∙ declared_more old.lists.items listed in
     let sizes : (name : ListName) → sizes_at (history_of new) name (length new.changes.items) ≡ sizes_at (history_of old) name (length old.changes.items) =
@@ -208,6 +211,7 @@ draft_declared old new listed draft lists changes hashes few absent size live =
         adds = subst (λ cs. All (λ (c : Change). All (λ (added : Added). (length added.hash ≡ 32) × IsPrefixSize added.size) c.adds) cs) (sym items) draft.well_formed.adds;
         removes = subst (λ cs. All (λ (c : Change). All (λ (hash : List ℕ). length hash ≡ 32) c.removes) cs) (sym items) draft.well_formed.removes;
       };
+      points = subst (λ (cs : List Change). HasPoints new.points.items cs) (sym items) (subst (λ (ps : List Checkpoint). HasPoints ps old.changes.items) (sym (ap (λ ps. ps.items) points)) draft.points);
     }
 
 -- ---- a line that declares a list

@@ -1,6 +1,6 @@
 -- A journal that is cut: the front, and then the rest.
-use Rattle.std.proofs.Common.{◌≡◌, ℕ, zero, suc, ◌+◌, ◌<◌, ◌≤◌, ◌⊎◌, inl, inr, List, [], ◌∷◌, ◌++◌, length, length-append, Bool, true, false, ◌||◌, nat_lt, nat_le, if◌then◌else◌, Option, Some, None, Result, Ok, Err, refl, sym, ap, subst, ◌∙◌, append_assoc, arith}
-use Rattle.std.specs.Prelude.{⊤, All}
+use Rattle.std.proofs.Common.{◌≡◌, ℕ, zero, suc, ◌+◌, ◌<◌, ◌≤◌, ◌⊎◌, inl, inr, List, [], ◌∷◌, ◌++◌, length, length-append, Bool, true, false, nat_lt, nat_le, if◌then◌else◌, Option, Some, None, Result, Ok, Err, refl, sym, ap, subst, ◌∙◌, append_assoc, arith}
+use Rattle.std.specs.Prelude.{⊤}
 use Rattle.std.specs.List.{slice_split}
 use Rattle.std.proofs.lemmas.Bool.{eqb-true}
 use Rattle.std.proofs.lemmas.List.Elements.{All-nil, All-cons}
@@ -13,8 +13,8 @@ use Rattle.list_versions.specs.declared.fault.JournalFault.TheVariants as fault
 use Rattle.list_versions.specs.declared.heads.Head.{Head}
 use Rattle.list_versions.specs.declared.heads.Head.TheVariants as head
 use Rattle.list_versions.specs.declared.heads.Header.{Header}
-use Rattle.list_versions.specs.Journal.{Kept, Begun, Reading, ◌>>=◌, kept_of, read_on, at_record, after_list, after_change_line, after_head, if_within_limits, completed, settled, counted, with_add, with_remove, after_line_of, after_line, after_front, after_part, after_parts, after_bytes, after_first, after_header, if_short, line_fault, declared_size_of, with_bytes, adds_next, is_complete, with_change, change_of, next_line, lines_begun, most_line, with_list}
-use Rattle.list_versions.specs.Limits.{limit_fault, is_crowded, prefix_bytes, most_hashes, most_prefix_bytes, most_changes, most_lists, most_hash_lines, hash_lines}
+use Rattle.list_versions.specs.Journal.{Kept, Begun, Reading, ◌>>=◌, kept_of, read_on, at_record, after_list, after_change_line, after_head, if_within_limits, completed, settled, counted, with_add, with_remove, after_line_of, after_line, after_front, after_parts, after_bytes, after_first, after_header, if_short, line_fault, declared_size_of, with_bytes, adds_next, is_complete, with_change, change_of, next_line, lines_begun, most_line, with_list}
+use Rattle.list_versions.specs.Limits.{limit_fault, most_changes, most_lists, most_hash_lines, hash_lines}
 use Rattle.list_versions.specs.Lines.{newline, is_newline, head_of, header_of, added_of, removed_of}
 use Rattle.list_versions.specs.Pieces.{reading_of}
 use Rattle.list_versions.specs.Split.{IsOneLine}

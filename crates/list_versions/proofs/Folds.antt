@@ -1,23 +1,28 @@
 -- Folding the changes of a history.
-use Rattle.std.proofs.Common.{◌≡◌, ◌≢◌, ℕ, ◌+◌, ◌^◌, ◌<◌, ◌≤◌, List, [], ◌∷◌, length, take, get_or, refl, sym, ap, subst, ◌∙◌, arith, Bool, true, false, nat_le, get_or-set_other, get_or-set_same}
+use Rattle.std.proofs.Common.{◌≡◌, ◌≢◌, ℕ, ◌+◌, ◌^◌, ◌<◌, ◌≤◌, List, [], ◌∷◌, length, take, get_or, refl, sym, ap, subst, ◌∙◌, arith, Bool, true, false, not, cond, fold, nat_le, get_or-set_other, get_or-set_same}
 use Rattle.std.specs.Prelude.{All}
+use Rattle.std.specs.Str.{bytes_eq}
 use Rattle.std.proofs.Math.ListN.{set}
 use Rattle.std.proofs.lemmas.Bool.Decides.{nat_tests}
 use Rattle.std.proofs.lemmas.List.{take_all, take-take, length-map, length-take}
-use Rattle.std.proofs.lemmas.List.Elements.{All-weaker, All-cons, All-nil}
+use Rattle.std.proofs.lemmas.List.Elements.{All-weaker, All-cons, All-nil, All-head, All-tail, All-push, All-filter, All-take}
 use Rattle.std.proofs.lemmas.List.Sums.{sum_by-append}
 use borrow.Author.Count.{below_more}
 use Rattle.sb_model.specs.declared.history.Added.{Added}
 use Rattle.sb_model.specs.declared.history.Change.{Change}
 use Rattle.sb_model.specs.declared.names.ListName.{ListName}
-use Rattle.sb_model.specs.History.{History, declares, sizes_at, IsPrefixSize, IsWellFormed}
+use Rattle.sb_model.specs.History.{History, declares, sizes_at, after_change, with_added, without_hash, IsPrefixSize, IsWellFormed}
+use Rattle.sb_model.specs.Names.{same_name}
+use Rattle.list_versions.specs.Checkpoints.{HasPoints}
+use Rattle.list_versions.specs.declared.checkpoints.Checkpoint.{Checkpoint}
 use Rattle.list_versions.specs.declared.draft.Draft.{Draft}
 use Rattle.list_versions.specs.declared.draft.Listed.{Listed}
 use Rattle.list_versions.specs.Draft.{declared_of, history_of, IsDraft}
 use Rattle.list_versions.specs.Folding.{after_changes, IsFoldable, StaysSmall}
 use Rattle.list_versions.specs.Limits.{hash_lines, WithinLimits}
-use Rattle.list_versions.specs.Live.{Holds}
+use Rattle.list_versions.specs.Live.{Holds, IsPublishable}
 use Rattle.list_versions.specs.Loaded.{IsStem}
+use Rattle.list_versions.proofs.Holding.{publishable}
 
 few_adds : (changes : List Change) → All (λ (c : Change). length c.adds ≤ hash_lines changes) changes
 few_adds [] = All-nil (λ (c : Change). length c.adds ≤ 0)
@@ -70,8 +75,8 @@ refreshed_more changes lists i v d lt name holds before k e =
 
 -- a history whose tables are made anew
 pub draft_refreshed : (old new : Draft) → IsStem old → declared_of new.lists.items ≡ declared_of old.lists.items → new.epoch ≡ old.epoch → new.changes ≡ old.changes → new.hashes ≡ old.hashes
-    → All (IsRefreshed old.changes.items) new.lists.items → IsDraft new
-draft_refreshed old new h declared epoch changes hashes all =
+    → new.points ≡ old.points → All (IsRefreshed old.changes.items) new.lists.items → IsDraft new
+draft_refreshed old new h declared epoch changes hashes points all =
     let items = ap (λ cs. cs.items) changes in
     let history : history_of new ≡ history_of old = λ i. record { epoch = epoch i; declared = declared i; changes = items i } in
     let whole : take (length new.changes.items) new.changes.items ≡ old.changes.items = take_all (length new.changes.items) new.changes.items (omega arith) ∙ items in
@@ -85,6 +90,7 @@ draft_refreshed old new h declared epoch changes hashes all =
       declared = subst (λ (v : History). All (λ (c : Change). declares v c.list ≡ true) v.changes) (sym history) h.declared;
       within = subst (λ (v : History). WithinLimits v) (sym history) h.within;
       well_formed = subst (λ (v : History). IsWellFormed v) (sym history) h.well_formed;
+      points = subst (λ (cs : List Change). HasPoints new.points.items cs) (sym items) (subst (λ (ps : List Checkpoint). HasPoints ps old.changes.items) (sym (ap (λ ps. ps.items) points)) h.points);
     }
 
 pub draft_stem : (draft : Draft) → IsDraft draft → IsStem draft
@@ -96,4 +102,36 @@ draft_stem draft h = record {
   declared = h.declared;
   within = h.within;
   well_formed = h.well_formed;
+  points = h.points;
 }
+
+-- ---- what is published of each version
+
+abbrev IsWell : Added → Type 0
+IsWell added = (length added.hash ≡ 32) × IsPrefixSize added.size
+
+publishable_removed : (removes : List (List ℕ)) (entries : List Added) → All IsPublishable entries → All IsPublishable (fold without_hash entries removes)
+publishable_removed [] entries h = h
+publishable_removed (hash ∷ removes) entries h = publishable_removed removes (without_hash entries hash) (All-filter (λ (entry : Added). not (bytes_eq entry.hash hash)) IsPublishable entries h)
+
+publishable_added : (adds entries : List Added) → All IsWell adds → All IsPublishable entries → All IsPublishable (fold with_added entries adds)
+publishable_added [] entries well h = h
+publishable_added (added ∷ adds) entries well h =
+    let own = All-head IsWell added adds well in
+    publishable_added adds (with_added entries added) (All-tail IsWell added adds well)
+    (All-push IsPublishable (without_hash entries added.hash) added (All-filter (λ (entry : Added). not (bytes_eq entry.hash added.hash)) IsPublishable entries h) (publishable added own.1.low own.0))
+
+publishable_cond : (b : Bool) (x y : List Added) → All IsPublishable x → All IsPublishable y → All IsPublishable (cond b x y)
+publishable_cond true x y h k = h
+publishable_cond false x y h k = k
+
+publishable_changes : (list : ListName) (changes : List Change) (entries : List Added) → All (λ (c : Change). All IsWell c.adds) changes → All IsPublishable entries → All IsPublishable (fold (after_change list) entries changes)
+publishable_changes list [] entries well h = h
+publishable_changes list (change ∷ changes) entries well h =
+    publishable_changes list changes (after_change list entries change) (All-tail (λ (c : Change). All IsWell c.adds) change changes well)
+    (publishable_cond (same_name change.list list) _ entries
+    (publishable_added change.adds (fold without_hash entries change.removes) (All-head (λ (c : Change). All IsWell c.adds) change changes well) (publishable_removed change.removes entries h)) h)
+
+pub publishable_at : (draft : Draft) (list : ListName) (version : ℕ) → IsStem draft → All IsPublishable (sizes_at (history_of draft) list version)
+publishable_at draft list version h =
+    publishable_changes list (take version draft.changes.items) [] (All-take (λ (c : Change). All IsWell c.adds) version draft.changes.items h.well_formed.adds) (All-nil IsPublishable)

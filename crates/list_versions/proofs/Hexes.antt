@@ -6,7 +6,7 @@ use Rattle.std.specs.Result.{result_ok, MatchResult}
 use Rattle.std.proofs.lemmas.Bool.Decides.{nat_tests}
 use Rattle.hex.specs.Hex.{decode_of, decode_sized}
 use Rattle.hex.specs.declared.FromHexError.{FromHexError}
-use Rattle.list_versions.specs.Lines.{bytes_of, hash_of}
+use Rattle.list_versions.specs.Lines.{bytes_of}
 
 found : (b : Bool) (r : Result (List ℕ) FromHexError) (bytes : List ℕ) → b ≡ true → r ≡ Ok bytes → (if b then result_ok r else None) ≡ Some bytes
 found b r bytes e d = rw (e, d) refl
@@ -14,22 +14,6 @@ found b r bytes e d = rw (e, d) refl
 missed : (b : Bool) (r : Result (List ℕ) FromHexError) (fault : FromHexError) → r ≡ Err fault → (if b then result_ok r else None) ≡ None
 missed true r fault d = rw d refl
 missed false r fault d = refl
-
-pub hash_found : (digits bytes : List ℕ) → length digits ≡ 64 → decode_of digits ≡ Ok bytes → Some bytes ≡ hash_of digits
-unfolding bytes_of
-hash_found digits bytes h d = sym (found (nat_eq (length digits) 64) (decode_of digits) bytes (eq-eqb _ _ h) d)
-
-lost : (b : Bool) (r : Result (List ℕ) FromHexError) → ((bytes : List ℕ) → b ≡ true → r ≡ Ok bytes → ⊥) → None ≡ (if b then result_ok r else None)
-lost false r h = refl
-lost true (Err e) h = refl
-lost true (Ok bytes) h = absurd (h bytes refl refl)
-
-same_from_test : (m n : ℕ) → nat_eq m n ≡ true → m ≡ n
-same_from_test m n h = grind (arith, nat_tests)
-
-pub hash_lost : (digits : List ℕ) → ((bytes : List ℕ) → length digits ≡ 64 → decode_of digits ≡ Ok bytes → ⊥) → None ≡ hash_of digits
-unfolding bytes_of
-hash_lost digits h = lost (nat_eq (length digits) 64) (decode_of digits) (λ bytes e d. h bytes (same_from_test _ _ e) d)
 
 pub bytes_short : (digits : List ℕ) → (length digits ≡ 16 → ⊥) → None ≡ option_map (from_be_bytes w64) (bytes_of 8 digits)
 unfolding bytes_of

@@ -1,5 +1,5 @@
 -- What is held where a bucket takes the place of another.
-use Rattle.std.proofs.Common.{◌≡◌, ℕ, ◌+◌, ◌-◌, ◌^◌, ◌<◌, ◌≤◌, List, [], ◌∷◌, Bool, true, false, not, cond, length, take, drop, refl, sym, ap, ◌∙◌, arith, get_or, add-one, length-append}
+use Rattle.std.proofs.Common.{◌≡◌, ℕ, ◌+◌, ◌^◌, ◌<◌, ◌≤◌, List, [], ◌∷◌, Bool, true, false, not, cond, length, take, refl, sym, ap, ◌∙◌, arith, length-append}
 use Rattle.std.specs.List.{filter}
 use Rattle.std.specs.Str.{bytes_eq}
 use Rattle.std.specs.Prelude.{All, fold, OnOk, Result, Ok, Err}
@@ -7,14 +7,12 @@ use Rattle.std.proofs.lemmas.Grind.{common_steps}
 use Rattle.std.proofs.lemmas.List.Elements.{All-filter, All-push}
 use Rattle.std.proofs.lemmas.List.Filters.{length-filter_both}
 use Rattle.sb_model.specs.declared.history.Added.{Added}
-use Rattle.sb_model.specs.History.{prefix_of, without_hash, with_added}
+use Rattle.sb_model.specs.History.{without_hash, with_added}
 use Rattle.list_versions.specs.Limits.{prefix_bytes, has_head}
 use Rattle.list_versions.specs.Live.{IsPublishable, Holds, Replaces, bucket_in}
 use Rattle.list_versions.specs.declared.live.Live.{Live}
 use Rattle.list_versions.proofs.Finding.{same_bytes, bytes_are_same}
-use Rattle.list_versions.proofs.PrefixBytes.{prefix_bytes-le, prefix_bytes-cons, is_published_in}
-use Rattle.std.proofs.lemmas.List.{length-drop, take_all}
-use Rattle.std.proofs.Math.Seq.{drop-cons}
+use Rattle.list_versions.proofs.PrefixBytes.{prefix_bytes-le}
 use Rattle.list_versions.proofs.Splitting.{lacks_head, length-split, prefix_bytes-split, without-other, without-same, without-lacking, with-other, with-same, with-lacking}
 
 pub length-filter-le : (p : Added → Bool) (entries : List Added) → length (filter p entries) ≤ length entries
@@ -52,11 +50,8 @@ holds_replaced before after entries more next head small holds replaces changes 
     let holds_count : before.count ≡ length entries = holds.count in
     let holds_bytes : before.bytes ≡ prefix_bytes entries = holds.bytes in
     let new_small : length more < 2 ^ 50 = changes.small in
-    let fits : before.count + length next < 2 ^ 64 = omega arith in
-    let fits_bucket : prefix_bytes (bucket_in before.buckets.entries head) < 2 ^ 64 = omega arith in
-    let fits_bytes : before.bytes + prefix_bytes next < 2 ^ 64 = omega arith in
-    let count_is = replaces.count fits in
-    let bytes_is = replaces.bytes fits_bucket fits_bytes in
+    let count_is = replaces.count (omega arith) (omega arith) in
+    let bytes_is = replaces.bytes (omega arith) (omega arith) in
     record {
       buckets = λ other. buckets_at (bytes_eq head other) next (bucket_in before.buckets.entries other) (filter (has_head other) more) (bucket_in after.buckets.entries other)
           (replaces.buckets other)
@@ -107,11 +102,3 @@ length-fold_added (added ∷ adds) entries = omega (arith, length-with_added ent
 pub length-fold_removed : (removes : List (List ℕ)) (entries : List Added) → length (fold without_hash entries removes) ≤ length entries
 length-fold_removed [] entries = omega arith
 length-fold_removed (hash ∷ removes) entries = omega (arith, length-filter-le (λ entry. not (bytes_eq entry.hash hash)) entries, length-fold_removed removes (without_hash entries hash))
-
--- the next of a bucket
-pub bytes_more : (bucket : List Added) (i : ℕ) (d : Added) → i < length bucket
-    → prefix_bytes (drop i bucket) ≡ cond (is_published_in (take (length bucket - (i + 1)) (drop (i + 1) bucket)) (prefix_of (get_or bucket i d))) 0 (length (prefix_of (get_or bucket i d))) + prefix_bytes (drop (i + 1) bucket)
-bytes_more bucket i d lt =
-    let whole : take (length bucket - (i + 1)) (drop (i + 1) bucket) ≡ drop (i + 1) bucket = take_all _ (drop (i + 1) bucket) (omega (arith, length-drop (i + 1) bucket)) in
-    let cons : drop i bucket ≡ get_or bucket i d ∷ drop (i + 1) bucket = rw (add-one, drop-cons bucket i d lt) refl in
-    rw (whole, cons) (prefix_bytes-cons (get_or bucket i d) (drop (i + 1) bucket))

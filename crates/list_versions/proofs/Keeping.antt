@@ -4,6 +4,8 @@ use Rattle.std.specs.Prelude.{All}
 use Rattle.std.proofs.lemmas.List.{take-append-drop, take_at, take_all, length-map, length-take, take-map}
 use Rattle.sb_model.specs.declared.history.Change.{Change}
 use Rattle.sb_model.specs.History.{History, declares, IsWellFormed}
+use Rattle.list_versions.specs.Checkpoints.{HasPoints}
+use Rattle.list_versions.specs.declared.checkpoints.Checkpoint.{Checkpoint}
 use Rattle.list_versions.specs.Journal.{after_bytes}
 use Rattle.list_versions.specs.Limits.{hash_lines, WithinLimits}
 use Rattle.list_versions.specs.Loaded.{IsStem, IsNewest, IsLoaded}
@@ -34,6 +36,7 @@ keeps_same draft = record {
   epoch = refl;
   changes = take_all (length draft.changes.items) draft.changes.items (omega arith);
   declared = take_all (length draft.lists.items) (declared_of draft.lists.items) (omega (arith, length_declared draft.lists.items));
+  points = take_all (length draft.points.items) draft.points.items (omega arith);
 }
 
 pub keeps_then : (first second third : Draft) → KeepsFront first second → KeepsFront second third → KeepsFront first third
@@ -43,6 +46,7 @@ keeps_then first second third h k = record {
   changes = front_then (length first.changes.items) first.changes.items second.changes.items third.changes.items refl h.changes k.changes;
   declared = front_then (length first.lists.items) (declared_of first.lists.items) (declared_of second.lists.items) (declared_of third.lists.items) (length_declared first.lists.items) h.declared
       (ap (λ n. take n (declared_of third.lists.items)) (length_declared second.lists.items) ∙ k.declared);
+  points = front_then (length first.points.items) first.points.items second.points.items third.points.items refl h.points k.points;
 }
 
 -- the declared lists are the same, and there is one more
@@ -87,8 +91,8 @@ names_front old new h =
     ap (take (length old.lists.items)) (names_declared new.lists.items) ∙ take-map (λ (d : ListName × ℕ). d.0) (length old.lists.items) (declared_of new.lists.items)
     ∙ ap (map (λ (d : ListName × ℕ). d.0)) h.declared ∙ sym (names_declared old.lists.items)
 
-stem_same : (old new : Draft) → IsStem old → history_of new ≡ history_of old → new.hashes ≡ old.hashes → IsStem new
-stem_same old new h history hashes = record {
+stem_same : (old new : Draft) → IsStem old → history_of new ≡ history_of old → new.hashes ≡ old.hashes → new.points.items ≡ old.points.items → IsStem new
+stem_same old new h history hashes points = record {
   hashes = hashes ∙ h.hashes ∙ ap (λ (v : History). hash_lines v.changes) (sym history);
   few_lists = omega (arith, ap (λ (v : History). length v.declared) history, h.few_lists, length_declared new.lists.items, length_declared old.lists.items);
   few_changes = omega (arith, ap (λ (v : History). length v.changes) history, h.few_changes);
@@ -96,11 +100,13 @@ stem_same old new h history hashes = record {
   declared = subst (λ (v : History). All (λ (c : Change). declares v c.list ≡ true) v.changes) (sym history) h.declared;
   within = subst (λ (v : History). WithinLimits v) (sym history) h.within;
   well_formed = subst (λ (v : History). IsWellFormed v) (sym history) h.well_formed;
+  points = subst (λ (v : History). HasPoints new.points.items v.changes) (sym history) (subst (λ (ps : List Checkpoint). HasPoints ps old.changes.items) (sym points) h.points);
 }
 
-pub loaded_cut : (old new : Draft) (newest : List Newest) (rest : List ℕ) (stale : Bool) → IsLoaded old newest rest stale → new.sized ≡ old.sized → history_of new ≡ history_of old → new.hashes ≡ old.hashes → IsLoaded new newest rest true
-loaded_cut old new newest rest stale h sized history hashes = record {
-  stem = stem_same old new h.stem history hashes;
+pub loaded_cut : (old new : Draft) (newest : List Newest) (rest : List ℕ) (stale : Bool) → IsLoaded old newest rest stale → new.sized ≡ old.sized → history_of new ≡ history_of old → new.hashes ≡ old.hashes → new.points.items ≡ old.points.items
+    → IsLoaded new newest rest true
+loaded_cut old new newest rest stale h sized history hashes points = record {
+  stem = stem_same old new h.stem history hashes points;
   fresh = inl refl;
   names = h.names ∙ sym (names_same_lists old new history);
   each = subst (λ (v : History). All (IsNewest v) newest) (sym history) h.each;

@@ -8,13 +8,14 @@ use Rattle.std.specs.Ordering.{match_ordering, ordering_reverse, is_eq}
 use Rattle.std.specs.Str.{bytes_eq}
 use Rattle.std.specs.Prelude.{All}
 use Rattle.std.proofs.lemmas.Map.Text.{is_eq-slice_cmp}
+use Rattle.std.proofs.lemmas.List.{append-nil}
 use Rattle.std.proofs.lemmas.List.Elements.{All-head, All-tail}
 use Rattle.sb_model.specs.declared.history.Added.{Added}
 use Rattle.sb_model.specs.History.{prefix_of}
 use Rattle.sb_model.specs.Prefixes.{bytes_cmp, IsRising, with_member, set_of, concatenation}
 use Rattle.list_versions.specs.Limits.{prefix_bytes}
 use Rattle.list_versions.specs.Live.{IsPublishable}
-use Rattle.list_versions.proofs.Finding.{same_bytes}
+use Rattle.list_versions.proofs.Finding.{same_bytes, bytes_are_same}
 
 -- whether some bytes are a member
 abbrev pub has_member : List (List ℕ) → List ℕ → Bool
@@ -113,7 +114,7 @@ prefix_bytes-cons entry entries =
     counted_with (prefix_of entry) (set_of (map prefix_of entries)) (rising_set (map prefix_of entries))
     ∙ ap (λ b. cond b 0 (length (prefix_of entry)) + prefix_bytes entries) (has_set (prefix_of entry) (map prefix_of entries) ∙ has_map (prefix_of entry) entries)
 
-cond_le : (b : Bool) (n : ℕ) → cond b 0 n ≤ n
+pub cond_le : (b : Bool) (n : ℕ) → cond b 0 n ≤ n
 cond_le true n = omega arith
 cond_le false n = omega arith
 
@@ -125,3 +126,51 @@ prefix_bytes-le (entry ∷ entries) a =
     let more = prefix_bytes-le entries (All-tail IsPublishable entry entries a) in
     let short : length (prefix_of entry) ≤ 32 = (All-head IsPublishable entry entries a).short in
     omega (arith, h, more, short, cond_le (is_published_in entries (prefix_of entry)) (length (prefix_of entry)))
+
+-- ---- a full hash anywhere in a list
+
+published-insert : (front : List Added) (entry : Added) (back : List Added) (prefix : List ℕ)
+    → is_published_in (front ++ entry ∷ back) prefix ≡ (bytes_eq (prefix_of entry) prefix || is_published_in (front ++ back) prefix)
+published-insert [] entry back prefix = refl
+published-insert (x ∷ front) entry back prefix =
+    ap (λ b. bytes_eq (prefix_of x) prefix || b) (published-insert front entry back prefix)
+    ∙ or_swap (bytes_eq (prefix_of x) prefix) (bytes_eq (prefix_of entry) prefix) (is_published_in (front ++ back) prefix)
+
+eq_swap : (a b : List ℕ) (t u : Bool) → bytes_eq a b ≡ t → bytes_eq b a ≡ u → t ≡ u
+eq_swap a b true true h k = refl
+eq_swap a b false false h k = refl
+eq_swap a b true false h k = let same : a ≡ b = same_bytes a b h in sym (bytes_are_same b) ∙ ap (λ x. bytes_eq b x) (sym same) ∙ k
+eq_swap a b false true h k = let same : b ≡ a = same_bytes b a k in sym (sym (bytes_are_same a) ∙ ap (λ x. bytes_eq a x) (sym same) ∙ h)
+
+swap_sums : (a b n : ℕ) → a + (b + n) ≡ b + (a + n)
+swap_sums a b n = omega arith
+
+insert_at : (rest : List Added) (x y : List ℕ) (b : Bool) → (b ≡ true → x ≡ y) → (n : ℕ)
+    → cond (b || is_published_in rest x) 0 (length x) + (cond (is_published_in rest y) 0 (length y) + n)
+    ≡ cond (b || is_published_in rest y) 0 (length y) + (cond (is_published_in rest x) 0 (length x) + n)
+insert_at rest x y true h n = rw (h refl) refl
+insert_at rest x y false h n = swap_sums _ _ n
+
+pub prefix_bytes-insert : (front : List Added) (entry : Added) (back : List Added)
+    → prefix_bytes (front ++ entry ∷ back) ≡ cond (is_published_in (front ++ back) (prefix_of entry)) 0 (length (prefix_of entry)) + prefix_bytes (front ++ back)
+prefix_bytes-insert [] entry back = prefix_bytes-cons entry back
+prefix_bytes-insert (x ∷ front) entry back =
+    let p = prefix_of x in
+    let q = prefix_of entry in
+    let rest = front ++ back in
+    prefix_bytes-cons x (front ++ entry ∷ back)
+    ∙ ap (λ b. cond b 0 (length p) + prefix_bytes (front ++ entry ∷ back)) (published-insert front entry back p)
+    ∙ ap (λ n. cond (bytes_eq q p || is_published_in rest p) 0 (length p) + n) (prefix_bytes-insert front entry back)
+    ∙ insert_at rest p q (bytes_eq q p) (λ e. sym (same_bytes q p e)) (prefix_bytes rest)
+    ∙ ap (λ b. cond (b || is_published_in rest q) 0 (length q) + (cond (is_published_in rest p) 0 (length p) + prefix_bytes rest)) (eq_swap q p _ _ refl refl)
+    ∙ ap (λ n. cond (bytes_eq p q || is_published_in rest q) 0 (length q) + n) (sym (prefix_bytes-cons x rest))
+
+pub prefix_bytes-push : (entries : List Added) (entry : Added)
+    → prefix_bytes (entries ++ entry ∷ []) ≡ prefix_bytes entries + cond (is_published_in entries (prefix_of entry)) 0 (length (prefix_of entry))
+prefix_bytes-push entries entry =
+    prefix_bytes-insert entries entry []
+    ∙ ap (λ es. cond (is_published_in es (prefix_of entry)) 0 (length (prefix_of entry)) + prefix_bytes es) (append-nil entries)
+    ∙ swapped _ (prefix_bytes entries)
+  where
+    swapped : (a b : ℕ) → a + b ≡ b + a
+    swapped a b = omega arith

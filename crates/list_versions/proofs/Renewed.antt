@@ -15,10 +15,10 @@ use Rattle.list_versions.specs.declared.draft.Draft.{Draft}
 use Rattle.list_versions.specs.declared.draft.Listed.{Listed}
 use Rattle.list_versions.specs.declared.newest.Newest.{Newest}
 use Rattle.list_versions.specs.declared.renewing.Before.{Before}
-use Rattle.list_versions.specs.Draft.{history_of, KeepsFront}
+use Rattle.list_versions.specs.Draft.{declared_of, history_of, KeepsFront}
 use Rattle.list_versions.specs.Loaded.{IsNewest}
 use Rattle.list_versions.specs.Renewing.{concerns, stays}
-use Rattle.list_versions.proofs.Keeping.{keeps_longer, names_front}
+use Rattle.list_versions.proofs.Keeping.{keeps_longer, length_declared, names_front}
 
 pub names_more : (newest grown : List Newest) (lists : List Listed) (i : ℕ) (next : Newest) → i < length lists → grown ≡ newest ++ next ∷ [] → ((d : Listed) → next.name ≡ (get_or lists i d).name)
     → map (λ (n : Newest). n.name) newest ≡ map (λ (l : Listed). l.name) (take i lists) → map (λ (n : Newest). n.name) grown ≡ map (λ (l : Listed). l.name) (take (i + 1) lists)
@@ -186,3 +186,18 @@ are_newest old new newest before taken keeps names_old names_new each made h =
       names = same_names taken newest long (λ k d lt. (good k d (omega arith)).0) ∙ names_new;
       each = λ k d lt. (good k d (omega arith)).1;
     }
+
+-- ---- where there were no lists
+
+none_below : (k n : ℕ) → n ≡ 0 → nat_lt k n ≡ false
+none_below k n e = grind (arith, nat_tests)
+
+and_none : (a b : Bool) → a ≡ false → (a && b) ≡ false
+and_none true b h = absurd (cc)
+and_none false b h = refl
+
+pub all_renewed : (old new : Draft) (newest : List Newest) → declared_of old.lists.items ≡ []
+    → ((k : ℕ) (d : Newest) → k < length newest → stays new.changes.items (first_of old) k (get_or newest k d).name ≡ false → IsNewest (history_of new) (get_or newest k d)) → All (IsNewest (history_of new)) newest
+all_renewed old new newest none h = λ k d lt.
+    let long : length old.lists.items ≡ 0 = omega (arith, ap length none, length_declared old.lists.items) in
+    h k d lt (and_none (nat_lt k (length old.lists.items)) _ (none_below k (length old.lists.items) long))

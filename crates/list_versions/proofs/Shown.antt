@@ -1,20 +1,17 @@
 -- The full hashes that are kept, and the prefixes that are published of them.
 use Rattle.std.proofs.Common.{◌≡◌, ℕ, ◌<◌, ◌≤◌, min, max, List, [], length, take, map, refl, sym, ap, subst, ◌∙◌, arith, Bool, true, false, Option, Some, None, nat_lt}
 use Rattle.std.specs.Prelude.{Contains, filter, slice_get, ◌↔◌}
-use Rattle.std.specs.BTreeMap.{is_at}
-use Rattle.std.specs.Cmp.{eq_by_cmp_equiv}
-use Rattle.std.specs.Cmp.Lexicographic.{nat_list_cmp_total}
-use Rattle.std.specs.List.Sorted.{IsStrictlySortedBy}
+use Rattle.std.specs.Cmp.Lexicographic.{nat_list_eq_equiv}
+use Rattle.std.specs.List.{IsDistinct}
+use Rattle.std.specs.Str.{bytes_eq}
 use Rattle.std.specs.Map.{keys_of, values_of}
 use Rattle.std.specs.Option.{unwrap_or}
 use Rattle.std.proofs.lemmas.Bool.Decides.{nat_tests}
 use Rattle.std.proofs.lemmas.List.{take_all, length-take}
 use Rattle.std.proofs.lemmas.List.Elements.{All-contains}
 use Rattle.std.proofs.lemmas.Map.Entries.{place_from_lookup, lookup_from_place}
-use Rattle.std.proofs.lemmas.Map.Keys.{IsDistinct-from_sorted}
 use Rattle.sb_model.specs.declared.history.Added.{Added}
 use Rattle.sb_model.specs.History.{prefix_of}
-use Rattle.sb_model.specs.Prefixes.{bytes_cmp}
 use Rattle.list_versions.specs.Limits.{has_head}
 use Rattle.list_versions.specs.Live.{Buckets, found_in, bucket_in, IsPublishable, Holds, shown, in_buckets}
 use Rattle.list_versions.specs.declared.live.Live.{Live}
@@ -38,24 +35,24 @@ pub shown_is : (entry : Added) → IsPublishable entry → shown entry ≡ prefi
 shown_is entry h = shown_at entry h (nat_lt 32 entry.size) refl
 
 -- a bucket of the map
-bucket_at : (buckets : Buckets) (head : List ℕ) (bucket : List Added) (i : ℕ) → IsStrictlySortedBy bytes_cmp (keys_of buckets) → slice_get buckets i ≡ Some (head, bucket) → bucket_in buckets head ≡ bucket
-bucket_at buckets head bucket i ordered h =
+bucket_at : (buckets : Buckets) (head : List ℕ) (bucket : List Added) (i : ℕ) → IsDistinct bytes_eq (keys_of buckets) → slice_get buckets i ≡ Some (head, bucket) → bucket_in buckets head ≡ bucket
+bucket_at buckets head bucket i unique h =
     ap (λ found. unwrap_or found [])
-    (lookup_from_place (eq_by_cmp_equiv nat_list_cmp_total) buckets i head bucket (IsDistinct-from_sorted bytes_cmp (keys_of buckets) ordered) h)
+    (lookup_from_place nat_list_eq_equiv buckets i head bucket unique h)
 
-pub kept_in : (live : Live) (entries : List Added) → Holds live entries → IsStrictlySortedBy bytes_cmp (keys_of live.buckets.entries) → (entry : Added) → In entry (in_buckets (values_of live.buckets.entries)) → In entry entries
-kept_in live entries h ordered entry there =
+pub kept_in : (live : Live) (entries : List Added) → Holds live entries → IsDistinct bytes_eq (keys_of live.buckets.entries) → (entry : Added) → In entry (in_buckets (values_of live.buckets.entries)) → In entry entries
+kept_in live entries h unique entry there =
     let bucket = from_flat_map (λ (b : List Added). b) entry (values_of live.buckets.entries) there in
     let pair = from_map (λ (e : List ℕ × List Added). e.1) bucket.item live.buckets.entries bucket.there in
     let place = place_of pair.item live.buckets.entries pair.there in
-    let is = bucket_at live.buckets.entries pair.item.0 pair.item.1 place.0 ordered place.1 in
+    let is = bucket_at live.buckets.entries pair.item.0 pair.item.1 place.0 unique place.1 in
     let found : In entry (filter (has_head pair.item.0) entries) = subst (λ es. In entry es) (sym pair.holds ∙ sym is ∙ h.buckets pair.item.0) bucket.holds in
     (from_filter (has_head pair.item.0) entry entries found).0
 
 found_at : (buckets : Buckets) (head : List ℕ) (entry : Added) (found : Option (List Added)) → found_in buckets head ≡ found → In entry (unwrap_or found []) → In entry (in_buckets (values_of buckets))
 found_at buckets head entry None e there = absurd there
 found_at buckets head entry (Some bucket) e there =
-    let place = place_from_lookup (is_at (bytes_cmp head)) buckets bucket e in
+    let place = place_from_lookup (bytes_eq head) buckets bucket e in
     in_flat_map (λ (b : List Added). b) entry bucket (values_of buckets)
     (in_map (λ (e : List ℕ × List Added). e.1) (place.1, bucket) buckets (in_place (place.1, bucket) buckets place.0 place.2)) there
 
@@ -66,14 +63,14 @@ held_in live entries h entry there =
     (subst (λ es. In entry es) (sym (h.buckets head)) (in_filter (has_head head) entry entries (bytes_are_same head) there))
 
 -- the same prefixes
-pub same_prefixes : (live : Live) (entries : List Added) → Holds live entries → IsStrictlySortedBy bytes_cmp (keys_of live.buckets.entries) → (x : List ℕ)
+pub same_prefixes : (live : Live) (entries : List Added) → Holds live entries → IsDistinct bytes_eq (keys_of live.buckets.entries) → (x : List ℕ)
     → Contains (map shown (in_buckets (values_of live.buckets.entries))) x ↔ Contains (map prefix_of entries) x
-same_prefixes live entries h ordered x = (there, back)
+same_prefixes live entries h unique x = (there, back)
   where
     there : Contains (map shown (in_buckets (values_of live.buckets.entries))) x → Contains (map prefix_of entries) x
     there c =
         let from = from_map shown x (in_buckets (values_of live.buckets.entries)) (in_contained x _ c) in
-        let kept = kept_in live entries h ordered from.item from.there in
+        let kept = kept_in live entries h unique from.item from.there in
         let is = shown_is from.item (All-contains IsPublishable entries from.item h.sizes (contains_in from.item entries kept)) in
         contains_in x _ (subst (λ y. In y (map prefix_of entries)) (sym is ∙ from.holds) (in_map prefix_of from.item entries kept))
 

@@ -1,7 +1,15 @@
 -- The words of a line.
-use Rattle.std.proofs.Common.{◌≡◌, ℕ, ◌+◌, ◌-◌, ◌<◌, List, [], ◌∷◌, Bool, true, false, length, take, drop, refl, ap, sym, ◌∙◌, Option, Some, None, arith}
+use Rattle.std.proofs.Common.{◌≡◌, ℕ, ◌+◌, ◌-◌, ◌<◌, List, [], ◌∷◌, Bool, true, false, length, take, drop, refl, ap, sym, ◌∙◌, Option, Some, None, Result, Ok, Err, nat_eq, if◌then◌else◌, arith}
 use Rattle.std.specs.Prelude.{position, is_some}
-use Rattle.list_versions.specs.Lines.{is_space, words_of, header_of, header_of_words, head_of, head_of_words, added_of_words}
+use Rattle.std.specs.Option.{option_map}
+use Rattle.std.specs.Result.{result_ok}
+use Rattle.std.proofs.lemmas.Bool.{eqb-true}
+use Rattle.std.proofs.lemmas.List.Splits.{slice_split_none}
+use Rattle.hex.specs.Hex.{decode_of, is_hex_digit}
+use Rattle.hex.specs.declared.FromHexError.{FromHexError}
+use Rattle.hex.proofs.HexLemmas.{decode_of-ok}
+use Rattle.sb_model.specs.declared.history.Added.{Added}
+use Rattle.list_versions.specs.Lines.{is_space, words_of, bytes_of, hash_of, header_of, header_of_words, head_of, head_of_words, added_of_words}
 use Rattle.list_versions.proofs.Parts.{parts_cut, parts_none, parts_some}
 
 pub words_cut : (xs : List ℕ) (i : ℕ) → position is_space xs ≡ Some i → words_of xs ≡ take i xs ∷ words_of (take (length xs - (i + 1)) (drop (i + 1) xs))
@@ -73,3 +81,30 @@ pub nothing_of_three : (sized : Bool) (declared : ℕ) (text digits size : List 
 nothing_of_three sized declared text digits size h s =
     let cut = words_spaced size s in
     rw (h ∙ ap (λ ws. digits ∷ ws) cut.2) (sym (three_words sized declared digits cut.0 (words_of cut.1) (words_some cut.1)))
+
+-- ---- a text that is a hash has no space
+
+digit_at : (byte : ℕ) (t : Bool) → is_space byte ≡ t → is_hex_digit byte ≡ true → is_space byte ≡ false
+digit_at byte true e h = let is : byte ≡ 32 = eqb-true byte 32 e in let no = rw is at h in absurd (cc)
+digit_at byte false e h = e
+
+decoded : (b : Bool) (r : Result (List ℕ) FromHexError) (hash : List ℕ) → Some hash ≡ (if b then result_ok r else None) → r ≡ Ok hash
+decoded true (Ok bytes) hash h = cc
+decoded true (Err fault) hash h = absurd (cc)
+decoded false r hash h = absurd (cc)
+
+pub words_of_hash : (text hash : List ℕ) → Some hash ≡ hash_of text → words_of text ≡ text ∷ []
+unfolding words_of bytes_of
+words_of_hash text hash h =
+    let digits = (decode_of-ok text hash (decoded (nat_eq (length text) 64) (decode_of text) hash h)).1 in
+    slice_split_none is_space text (λ k d lt. digit_at _ _ refl (digits k d lt))
+
+abbrev added_with : ℕ → List ℕ → Added
+added_with declared bytes = record { hash = bytes; size = declared }
+
+pub added_alone : (sized : Bool) (declared : ℕ) (text hash : List ℕ) → Some hash ≡ hash_of text
+    → Some (record { hash = hash; size = declared }) ≡ added_of_words sized declared (words_of text)
+added_alone sized declared text hash h = rw (words_of_hash text hash h) (ap (option_map (added_with declared)) h)
+
+pub nothing_alone : (sized : Bool) (declared : ℕ) (text : List ℕ) → hash_of text ≡ None → words_of text ≡ text ∷ [] → None ≡ added_of_words sized declared (words_of text)
+nothing_alone sized declared text h alone = rw alone (sym (ap (option_map (added_with declared)) h))

@@ -7,6 +7,7 @@ use Rattle.list_versions.specs.declared.fault.JournalFault.{JournalFault}
 use Rattle.list_versions.specs.declared.draft.Begin.{Begin}
 use Rattle.list_versions.specs.declared.draft.Draft.{Draft}
 use Rattle.list_versions.specs.declared.draft.Listed.{Listed}
+use Rattle.list_versions.specs.Checkpoints.{HasPoints}
 use Rattle.list_versions.specs.Journal.{Kept, Begun, after_bytes, settled, ◌>>=◌, after_change_line, declared_size_of}
 use Rattle.list_versions.specs.Limits.{most_lists, most_changes, most_hash_lines, hash_lines, WithinLimits}
 use Rattle.list_versions.specs.Live.{Holds}
@@ -31,6 +32,7 @@ pub record IsDraft (draft : Draft) : Type 0 where
   pub declared : All (λ change. declares (history_of draft) change.list ≡ true) draft.changes.items
   pub within : WithinLimits (history_of draft)
   pub well_formed : IsWellFormed (history_of draft)
+  pub points : HasPoints draft.points.items draft.changes.items
 
 -- a change of which these hashes have come
 abbrev pub begun_of : Begin → List Added → List (List ℕ) → Begun
@@ -58,12 +60,13 @@ Waits draft before bytes = (seen : List ℕ) → before seen bytes ≡ Ok (kept_
 abbrev pub Fails : (List ℕ → List ℕ → Result Kept JournalFault) → List ℕ → JournalFault → Type 0
 Fails before bytes fault = (seen more : List ℕ) → before seen (bytes ++ more) ≡ Err fault
 
--- what stays also where a record is refused: the lists and the changes that were there are the first ones
+-- what stays also where a record is refused: the lists, the changes and the checkpoints that were there are the first ones
 pub record KeepsFront (before after : Draft) : Type 0 where
   pub sized : after.sized ≡ before.sized
   pub epoch : after.epoch ≡ before.epoch
   pub changes : take (length before.changes.items) after.changes.items ≡ before.changes.items
   pub declared : take (length before.lists.items) (declared_of after.lists.items) ≡ declared_of before.lists.items
+  pub points : take (length before.points.items) after.points.items ≡ before.points.items
 
 -- what bytes become after the line that begins a change, and before the next record
 abbrev pub after_begin : Draft → ListName → ℕ → ℕ → List ℕ → List ℕ → Result Kept JournalFault

@@ -1,5 +1,9 @@
+pub mod Buckets
+pub mod Checkpoints
 pub mod Draft
 pub mod Folding
+pub mod HashSizes
+pub mod Hexes
 pub mod Journal
 pub mod Limits
 pub mod Lines

@@ -1,12 +1,10 @@
 -- How the newest full hashes of a list are kept: in buckets, one for each four bytes that a hash begins with.
-use Rattle.std.specs.Prelude.{◌≡◌, ℕ, ◌+◌, ◌-◌, ◌^◌, ◌<◌, ◌≤◌, List, [], length, filter, take, All, Option, Some, cond, min, max}
-use Rattle.std.specs.BTreeMap.{is_at}
+use Rattle.std.specs.Prelude.{◌≡◌, ℕ, ◌+◌, ◌^◌, ◌<◌, ◌≤◌, List, [], length, filter, take, All, Option, cond, min, max}
 use Rattle.std.specs.List.{flat_map}
 use Rattle.std.specs.Map.{lookup}
 use Rattle.std.specs.Option.{unwrap_or}
 use Rattle.sb_model.specs.declared.history.Added.{Added}
 use Rattle.sb_model.specs.History.{prefix_of}
-use Rattle.sb_model.specs.Prefixes.{bytes_cmp}
 use Rattle.list_versions.specs.Limits.{has_head, prefix_bytes}
 use Rattle.list_versions.specs.declared.live.Live.{Live}
 use Rattle.std.specs.Str.{bytes_eq}
@@ -16,7 +14,7 @@ abbrev pub Buckets : Type 0
 Buckets = List (List ℕ × List Added)
 
 abbrev pub found_in : Buckets → List ℕ → Option (List Added)
-found_in buckets head = lookup (is_at (bytes_cmp head)) buckets
+found_in buckets head = lookup (bytes_eq head) buckets
 
 -- a bucket that is not there is empty
 abbrev pub bucket_in : Buckets → List ℕ → List Added
@@ -24,7 +22,7 @@ bucket_in buckets head = unwrap_or (found_in buckets head) []
 
 -- what a map becomes where a bucket is put
 abbrev pub Puts : Buckets → Buckets → List ℕ → List Added → Type 0
-Puts before after head next = (other : List ℕ) → found_in after other ≡ cond (bytes_eq head other) (Some next) (found_in before other)
+Puts before after head next = (other : List ℕ) → bucket_in after other ≡ cond (bytes_eq head other) next (bucket_in before other)
 
 -- at least four bytes of a hash are published, and no more than it has
 pub record IsPublishable (entry : Added) : Type 0 where
@@ -40,10 +38,11 @@ pub record Holds (live : Live) (entries : List Added) : Type 0 where
 
 -- a bucket took the place of another
 pub record Replaces (before after : Live) (head : List ℕ) (next : List Added) : Type 0 where
-  pub buckets : (other : List ℕ) → bucket_in after.buckets.entries other ≡ cond (bytes_eq head other) next (bucket_in before.buckets.entries other)
-  pub count : before.count + length next < 2 ^ 64 → after.count ≡ before.count + length next - length (bucket_in before.buckets.entries head)
-  pub bytes : prefix_bytes (bucket_in before.buckets.entries head) < 2 ^ 64 → before.bytes + prefix_bytes next < 2 ^ 64
-      → after.bytes ≡ before.bytes + prefix_bytes next - prefix_bytes (bucket_in before.buckets.entries head)
+  pub buckets : Puts before.buckets.entries after.buckets.entries head next
+  pub count : length (bucket_in before.buckets.entries head) ≤ before.count → before.count < 2 ^ 63
+      → after.count + length (bucket_in before.buckets.entries head) ≡ before.count + length next
+  pub bytes : prefix_bytes (bucket_in before.buckets.entries head) ≤ before.bytes → before.bytes < 2 ^ 63
+      → after.bytes + prefix_bytes (bucket_in before.buckets.entries head) ≡ before.bytes + prefix_bytes next
 
 -- the prefix that is made of a full hash; where its size is from 4 to 32, the one that is published
 abbrev pub shown : Added → List ℕ

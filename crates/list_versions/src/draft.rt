@@ -9,6 +9,7 @@ ghost use Rattle.list_versions.specs.Draft.{history_of, kept_of_draft, IsDraft, 
 ghost use Rattle.list_versions.specs.Split.{EndsWith};
 
 use crate::JournalFault;
+use crate::checkpoints::{Checkpoint, keep_point};
 use crate::heads::{Head, Header};
 use crate::lines::{read_add, read_head, read_remove};
 use crate::lists::{apply_each, is_declared, limit_of, size_of};
@@ -41,6 +42,8 @@ pub(crate) struct Draft {
     pub changes: Vec<Change>,
     /// How many hash lines the changes have.
     pub hashes: u64,
+    /// The full hashes of every list at some of the versions.
+    pub points: Vec<Checkpoint>,
 }
 
 /// What the first line of a change says, and the size that is declared for its list.
@@ -65,6 +68,7 @@ impl Draft {
             lists: Vec::new(alloc),
             changes: Vec::new(alloc),
             hashes: 0,
+            points: Vec::new(alloc),
         }
     }
 
@@ -176,7 +180,9 @@ impl Draft {
         ensures count { IfOk result (λ found. IfSome found (λ taken. self.now.hashes + length taken.0 ≤ most_hash_lines)) }
         ensures sizes { IfOk result (λ found. IfSome found (λ taken. All IsAdded taken.0)) }
     {
-        let mut adds = Row::new(alloc);
+        let Ok(mut adds) = Row::with_capacity(alloc, begin.to_add as usize) else {
+            return Err(JournalFault::OutOfMemory);
+        };
         let mut rest = bytes;
         while adds.len() < begin.to_add as usize {
             match self.take_add(begin, &mut adds, rest) {
@@ -210,7 +216,9 @@ impl Draft {
         ensures count { IfOk result (λ found. IfSome found (λ taken. self.now.hashes + length adds.now + length taken.0 ≤ most_hash_lines)) }
         ensures sizes { IfOk result (λ found. IfSome found (λ taken. All (λ hash. length hash ≡ 32) taken.0)) }
     {
-        let mut removes = Row::new(alloc);
+        let Ok(mut removes) = Row::with_capacity(alloc, begin.to_remove as usize) else {
+            return Err(JournalFault::OutOfMemory);
+        };
         let mut rest = bytes;
         while removes.len() < begin.to_remove as usize {
             match self.take_remove(begin, adds, &mut removes, rest) {
@@ -258,10 +266,22 @@ impl Draft {
         if let Some(fault) = limit_of(&self.lists, &change, line) {
             return Err(fault);
         }
+        let hashes = self.hashes + count;
+        let version = self.changes.len() + 1;
+        let Ok(()) = keep_point(
+            alloc,
+            &mut self.points,
+            &self.lists,
+            version,
+            self.hashes,
+            hashes,
+        ) else {
+            return Err(JournalFault::OutOfMemory);
+        };
         let Ok(()) = self.changes.push(change) else {
             return Err(JournalFault::OutOfMemory);
         };
-        self.hashes += count;
+        self.hashes = hashes;
         Ok(())
     }
 
@@ -412,16 +432,18 @@ impl Draft {
         }
     }
 
-    /// Keeps the first lists and changes, of which the changes have so many hash lines.
-    pub fn cut(&mut self, lists: usize, changes: usize, hashes: u64)
+    /// Keeps the first lists, changes and checkpoints. The changes have so many hash lines.
+    pub fn cut(&mut self, lists: usize, changes: usize, points: usize, hashes: u64)
         ensures sized { self.new.sized ≡ self.old.sized }
         ensures epoch { self.new.epoch ≡ self.old.epoch }
         ensures lists { self.new.lists.items ≡ take lists self.old.lists.items }
         ensures changes { self.new.changes.items ≡ take changes self.old.changes.items }
+        ensures points { self.new.points.items ≡ take points self.old.points.items }
         ensures hashes { self.new.hashes ≡ hashes }
     {
         self.lists.truncate(lists);
         self.changes.truncate(changes);
+        self.points.truncate(points);
         self.hashes = hashes;
     }
 }

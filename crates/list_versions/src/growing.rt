@@ -8,9 +8,9 @@ ghost use Rattle.list_versions.specs.declared.newest.Newest.{Newest as Ready};
 
 use crate::JournalFault;
 use crate::draft::Draft;
-use crate::folding::freshen;
 use crate::newest::Newest;
 use crate::pieces::{read_further, take_records};
+use crate::refreshing::freshen;
 use crate::renewing::{Before, renew};
 use sb_model::Bytes;
 use sb_outside::Source;

@@ -1,4 +1,4 @@
-ghost use Rattle.std.specs.Prelude.{◌≡◌, ◌≢◌, ◌⊎◌, ℕ, ◌≤◌, ◌<◌, Bool, true, false, List, [], ◌++◌, length, take, map, filter, find, option_copied, All, Option, Some, None, Result, Ok, Err, IsErrOf, IsTrue, IfOk, OnOk, OnErr, IfErr, IfSome, IfNone};
+ghost use Rattle.std.specs.Prelude.{◌≡◌, ◌≢◌, ◌⊎◌, ℕ, ◌+◌, ◌^◌, ◌≤◌, ◌<◌, Bool, true, false, List, [], ◌++◌, length, take, map, filter, find, option_copied, All, Option, Some, None, Result, Ok, Err, IsErrOf, IsTrue, IfOk, OnOk, OnErr, IfErr, IfSome, IfNone};
 ghost use Rattle.std.specs.Str.{bytes_eq};
 ghost use Rattle.sha2.specs.Sha256.{sha256};
 ghost use Rattle.sb_outside.specs.Outside.{Rose};
@@ -14,20 +14,21 @@ ghost use Rattle.list_versions.specs.Pieces.{ReadsAll, StopsAt};
 
 use crate::JournalFault;
 use crate::draft::Draft;
-use crate::folding::live_at;
 use crate::growing::{More, read_more};
+use crate::listing::{hashes_begun, hashes_of, prefixes_of};
 use crate::lists::{same, size_of};
 use crate::lookup::{hashes_with, live_of};
 use crate::newest::Newest;
+use crate::older::{folded, folding_at};
 use crate::pieces::{buffer_of, read_first};
-use crate::published::published_set;
 use crate::renewing::{Before, take_kept};
 use hash_prefixes::{FullHash, Prefix};
 use prefix_set::PrefixSet;
-use sb_model::{Bytes, Change, ListName, OutOfMemory, Row, names_go_by_their_codes};
+use sb_model::{Bytes, Change, ListName, OutOfMemory, Row, Steps, names_go_by_their_codes};
 use sb_outside::{ReadFault, Source, read_piece};
 use std::alloc::Global;
 use std::marker::Model;
+use std::sync::ledger::Ledger;
 
 /// The history that a journal tells so far. Contracts see it as `Kept` of `specs/Journal.antt`: the
 /// form of the journal, its epoch, the declared lists with their prefix sizes, the changes in
@@ -159,6 +160,7 @@ impl History {
     {
         let lists = self.draft.lists.len();
         let changes = self.draft.changes.len();
+        let points = self.draft.points.len();
         let hashes = self.draft.hashes;
         match read_more(alloc, source, buffer, &mut self.draft, self.stale, text) {
             Ok(mut more) => {
@@ -177,7 +179,7 @@ impl History {
                 Ok(())
             }
             Err(fault) => {
-                self.draft.cut(lists, changes, hashes);
+                self.draft.cut(lists, changes, points, hashes);
                 self.stale = true;
                 Err(fault)
             }
@@ -277,8 +279,8 @@ impl History {
         if version == self.draft.changes.len() {
             return Ok(Some(newest.set.copy(alloc)?));
         }
-        let live = live_at(alloc, &self.draft, list, version)?;
-        Ok(Some(published_set(alloc, &live)?))
+        let folding = folding_at(alloc, &self.draft, list, version)?;
+        Ok(Some(prefixes_of(alloc, &folding)?))
     }
 
     /// The full hashes of a declared list at a version that begin with a prefix, rising.
@@ -300,7 +302,29 @@ impl History {
         {
             return hashes_with(alloc, live, prefix);
         }
-        let live = live_at(alloc, &self.draft, list, version)?;
-        hashes_with(alloc, &live, prefix)
+        let folding = folding_at(alloc, &self.draft, list, version)?;
+        hashes_begun(alloc, &folding, prefix)
+    }
+
+    /// The full hashes of a declared list at a version, rising. Each hash line that is folded for
+    /// them is counted as a step: fewer than 65,536, since they are folded from the last checkpoint
+    /// at or before the version.
+    pub fn hashes_counted<L: Ledger>(
+        &self,
+        alloc: Global,
+        list: ListName,
+        version: u64,
+        steps: &mut Steps<L>,
+    ) -> Result<Row<FullHash>, OutOfMemory>
+        requires declared { declares self.now.versions list ≡ true }
+        requires within { version ≤ version_count self.now.versions }
+        requires few { steps.old < 2 ^ 32 }
+        ensures hashes { IfOk result (λ hashes.
+            map (λ hash. hash.bytes) hashes ≡ set_of (full_hashes_at self.now.versions list version)) }
+        ensures few { steps.new < steps.old + 65536 }
+        ensures counted { steps.old ≤ steps.new }
+    {
+        let folding = folded(alloc, &self.draft, list, version as usize, steps)?;
+        hashes_of(alloc, &folding)
     }
 }

@@ -3,6 +3,7 @@
 #![tactic(auto)]
 
 pub use fault::JournalFault;
+pub use hash_sizes::Folding;
 pub use heads::{Head, Header};
 pub use history::History;
 pub use laws::cuts_make_no_difference;
@@ -11,21 +12,27 @@ pub use newest::Newest;
 pub use printing::push_journal_cause;
 pub use split::{LongLine, next_line};
 
+mod bucket;
 mod buckets;
+mod checkpoints;
 mod draft;
 mod fault;
-mod folding;
 mod growing;
+mod hash_sizes;
 mod heads;
+mod hex_digits;
 mod history;
 mod laws;
 mod lines;
+mod listing;
 mod lists;
 mod live;
 mod lookup;
 mod newest;
+mod older;
 mod pieces;
 mod printing;
 mod published;
+mod refreshing;
 mod renewing;
 mod split;

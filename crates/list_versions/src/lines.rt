@@ -1,4 +1,4 @@
-ghost use Rattle.std.specs.Prelude.{◌≡◌, ◌≤◌, ◌<◌, ◌*◌, ◌+◌, ◌^◌, ◌∷◌, ◌++◌, [], Bool, true, length, MatchOption, IfSome, position, codes, option_to_list, option_map, is_some};
+ghost use Rattle.std.specs.Prelude.{◌≡◌, ◌≤◌, ◌<◌, ◌*◌, ◌+◌, ◌^◌, ◌∷◌, ◌++◌, [], true, length, MatchOption, IfSome, position, codes, option_to_list, option_map, is_some};
 ghost use Rattle.std.specs.Int.{w64, from_be_bytes};
 ghost use Rattle.std.specs.Result.{result_ok};
 ghost use Rattle.sb_model.specs.Names.{name_of};
@@ -6,18 +6,18 @@ ghost use Rattle.sb_model.specs.History.{IsPrefixSize};
 ghost use Rattle.std.specs.Str.Parse.{digits_value as value_of_digits};
 ghost use Rattle.std.specs.Char.{is_ascii_digit};
 ghost use Rattle.std.specs.List.{list_all};
-ghost use Rattle.hash_prefixes.specs.declared.hashes.FullHash.{FullHash as Hash};
 ghost use Rattle.list_versions.specs.Lines.{IsAdded, IsHead, is_space, words_of, is_numeral as is_numeral_text, within, number_of, size_of, bytes_of, hash_of, form_of, header_of, header_of_words, head_of, head_of_words, list_head as list_head_of, change_head as change_head_of, added_of, added_of_words, removed_of};
 
 use crate::heads::{Head, Header};
-use hash_prefixes::read_hex;
+use crate::hex_digits::read_hash;
+use memchr::memchr;
 use sb_model::{Added, read_list_name};
 
 // The place of the first space.
 fn space_in(text: &[u8]) -> Option<usize>
     ensures { result ≡ position is_space text.now }
 {
-    text.iter().position(|byte| *byte == b' ')
+    memchr(b' ', text)
 }
 
 fn has_space(text: &[u8]) -> bool
@@ -95,17 +95,6 @@ fn prefix_size(text: &[u8]) -> Option<u8>
     match number(text, 4, 32) {
         Some(size) => Some(size as u8),
         None => None,
-    }
-}
-
-// A full hash, in 64 digits.
-fn hash(digits: &[u8]) -> Option<[u8; 32]>
-    ensures value { result ≡ hash_of digits.now }
-    ensures whole { IfSome result (λ hash. length hash ≡ 32) }
-{
-    match read_hex(digits) {
-        Ok(hash) => Some(hash.bytes),
-        Err(_) => None,
     }
 }
 
@@ -223,37 +212,41 @@ pub fn read_head(line: &[u8]) -> Option<Head>
 
 // ---- hash lines
 
-fn plain_add(digits: &[u8], declared: u8) -> Option<Added>
-    ensures value { (sized : Bool) → result ≡ added_of_words sized declared (digits.now ∷ []) }
-    ensures well { IsPrefixSize declared → IfSome result IsAdded }
-{
-    let hash = hash(digits)?;
-    Some(Added {
-        hash,
-        size: declared,
-    })
-}
-
 fn sized_add(digits: &[u8], size: &[u8], declared: u8) -> Option<Added>
     ensures value { result ≡ added_of_words true declared (digits.now ∷ size.now ∷ []) }
     ensures well { IfSome result IsAdded }
 {
-    let hash = hash(digits)?;
+    let hash = read_hash(digits)?;
     let size = prefix_size(size)?;
     Some(Added { hash, size })
+}
+
+// A text that is more than a hash.
+fn longer_add(text: &[u8], sized: bool, declared: u8) -> Option<Added>
+    requires { hash_of text.now ≡ None }
+    ensures value { result ≡ added_of_words sized declared (words_of text.now) }
+    ensures well { IfSome result IsAdded }
+{
+    let Some((digits, size)) = split_word(text) else {
+        return None;
+    };
+    if !sized || has_space(size) {
+        return None;
+    }
+    sized_add(digits, size, declared)
 }
 
 fn added_of_text(text: &[u8], sized: bool, declared: u8) -> Option<Added>
     ensures value { result ≡ added_of_words sized declared (words_of text.now) }
     ensures well { IsPrefixSize declared → IfSome result IsAdded }
 {
-    let Some((digits, size)) = split_word(text) else {
-        return plain_add(text, declared);
-    };
-    if !sized || has_space(size) {
-        return None;
+    match read_hash(text) {
+        Some(hash) => Some(Added {
+            hash,
+            size: declared,
+        }),
+        None => longer_add(text, sized, declared),
     }
-    sized_add(digits, size, declared)
 }
 
 /// Reads a line that adds. Without a size of its own the hash has the declared one.
@@ -273,7 +266,7 @@ pub fn read_remove(line: &[u8]) -> Option<[u8; 32]>
     ensures whole { IfSome result (λ hash. length hash ≡ 32) }
 {
     match line {
-        [b'-', text @ ..] => hash(text),
+        [b'-', text @ ..] => read_hash(text),
         _ => None,
     }
 }

@@ -1,18 +1,16 @@
-ghost use Rattle.std.specs.Prelude.{◌≡◌, ◌≢◌, ℕ, ◌+◌, ◌-◌, ◌*◌, ◌^◌, ◌<◌, ◌≤◌, nat_lt, Bool, true, cond, List, [], ◌∷◌, ◌++◌, length, filter, take, fold, map, All, IsSome, IfOk, OnOk, OnErr};
-ghost use Rattle.std.specs.BTreeMap.{is_at};
+ghost use Rattle.std.specs.Prelude.{◌≡◌, ℕ, ◌+◌, ◌^◌, ◌<◌, ◌≤◌, nat_lt, List, [], length, take, fold, All, OnOk};
 ghost use Rattle.std.specs.List.{list_any};
-ghost use Rattle.std.specs.Str.{bytes_eq};
-ghost use Rattle.sb_model.specs.History.{prefix_of, with_added, without_hash};
-ghost use Rattle.sb_model.specs.Prefixes.{bytes_cmp};
+ghost use Rattle.sb_model.specs.History.{with_added, without_hash};
 ghost use Rattle.sb_model.specs.declared.history.Added.{Added as Entry};
-ghost use Rattle.list_versions.specs.Limits.{has_head, prefix_bytes, limit_fault, most_alike, IsUncrowded};
+ghost use Rattle.list_versions.specs.Limits.{limit_fault, most_alike, IsUncrowded};
 ghost use Rattle.list_versions.specs.Live.{bucket_in, Replaces, Holds};
 
 use crate::JournalFault;
-use crate::buckets::{Buckets, HashHead, bucket, put_bucket};
-use sb_model::{Added, OutOfMemory, Row};
+use crate::bucket::Tally;
+use crate::buckets::{Buckets, HashHead, entries_at, put_at, remove_at};
+use sb_model::{Added, OutOfMemory};
 use std::alloc::Global;
-use std::collections::BTreeMap;
+use std::collections::HashMap;
 
 // The most full hashes of a list, the most of them that share their first four bytes, and the most bytes of prefixes.
 const MOST_HASHES: u64 = 1_048_576;
@@ -36,60 +34,6 @@ fn head_of(hash: &[u8; 32]) -> HashHead
     [hash[0], hash[1], hash[2], hash[3]]
 }
 
-// ---- one bucket
-
-// The bytes that are published of a full hash.
-fn published(entry: &Added) -> &[u8]
-    ensures value { result.now ≡ prefix_of entry.now }
-    ensures short { length (prefix_of entry.now) ≤ 32 }
-{
-    let size = usize::from(entry.size).min(32);
-    &entry.hash[..size]
-}
-
-// Whether one of them publishes the same bytes.
-fn is_published(bucket: &[Added], prefix: &[u8]) -> bool
-    ensures { result ≡ list_any (λ entry. bytes_eq (prefix_of entry) prefix.now) bucket.now }
-{
-    bucket.iter().any(|entry| published(entry) == prefix)
-}
-
-// How many bytes are published, each prefix counted once.
-fn bytes_in(bucket: &[Added]) -> u64
-    ensures { prefix_bytes bucket.now < 2 ^ 64 → result ≡ prefix_bytes bucket.now }
-{
-    let mut bytes = 0u64;
-    for (i, entry) in bucket.iter().enumerate() {
-        let prefix = published(entry);
-        if !is_published(&bucket[i + 1..], prefix) {
-            bytes = bytes.saturating_add(prefix.len() as u64);
-        }
-    }
-    bytes
-}
-
-// The bucket without a hash.
-fn without(alloc: Global, bucket: &[Added], hash: &[u8; 32]) -> Result<Vec<Added>, OutOfMemory>
-    ensures { IfOk result (λ next. next.items ≡ without_hash bucket.now hash.now) }
-{
-    Ok(
-        bucket
-            .iter()
-            .copied()
-            .filter(|entry| entry.hash != *hash)
-            .collect(alloc)?,
-    )
-}
-
-// The bucket with a hash, in place of the entry that it had.
-fn with(alloc: Global, bucket: &[Added], added: Added) -> Result<Vec<Added>, OutOfMemory>
-    ensures { IfOk result (λ next. next.items ≡ with_added bucket.now added) }
-{
-    let mut next = without(alloc, bucket, &added.hash)?;
-    next.push(added)?;
-    Ok(next)
-}
-
 impl Live {
     pub fn new(alloc: Global) -> Live
         ensures holds { Holds result [] }
@@ -97,61 +41,76 @@ impl Live {
         ensures bytes { result.bytes ≡ 0 }
     {
         Live {
-            buckets: BTreeMap::new(alloc),
+            buckets: HashMap::new(alloc),
             count: 0,
             bytes: 0,
         }
     }
 
-    // Puts a bucket in place of the one with these four bytes.
-    fn replace(&mut self, head: HashHead, next: Row<Added>) -> Result<(), OutOfMemory>
-        ensures { OnOk result (Replaces self.old self.new head next) }
+    // Counts what came into a bucket and what went out.
+    fn settle(&mut self, tally: &Tally)
+        ensures buckets { self.new.buckets ≡ self.old.buckets }
+        ensures count { tally.now.hashes_in ≤ 1 → self.old.count < 2 ^ 63
+            → tally.now.hashes_out ≤ self.old.count + tally.now.hashes_in
+            → self.new.count + tally.now.hashes_out ≡ self.old.count + tally.now.hashes_in }
+        ensures bytes { tally.now.bytes_in ≤ 32 → self.old.bytes < 2 ^ 63
+            → tally.now.bytes_out ≤ self.old.bytes + tally.now.bytes_in
+            → self.new.bytes + tally.now.bytes_out ≡ self.old.bytes + tally.now.bytes_in }
     {
-        let before = bucket(&self.buckets, &head);
-        let count_before = before.len() as u64;
-        let bytes_before = bytes_in(before);
-        let count_after = next.len() as u64;
-        let bytes_after = bytes_in(next.as_slice());
-        put_bucket(&mut self.buckets, head, next)?;
         self.count = self
             .count
-            .saturating_add(count_after)
-            .saturating_sub(count_before);
+            .saturating_add(tally.hashes_in)
+            .saturating_sub(tally.hashes_out);
         self.bytes = self
             .bytes
-            .saturating_add(bytes_after)
-            .saturating_sub(bytes_before);
+            .saturating_add(tally.bytes_in)
+            .saturating_sub(tally.bytes_out);
+    }
+
+    // Takes a hash out of a bucket.
+    fn remove_from(&mut self, head: &HashHead, hash: &[u8; 32])
+        ensures { Replaces self.old self.new head.now
+            (without_hash (bucket_in self.old.buckets.entries head.now) hash.now) }
+    {
+        let tally = remove_at(&mut self.buckets, head, hash);
+        self.settle(&tally);
+    }
+
+    // Puts a hash into a bucket, in place of the entry that it had.
+    fn put_into(&mut self, alloc: Global, head: HashHead, added: Added) -> Result<(), OutOfMemory>
+        ensures { OnOk result (Replaces self.old self.new head
+            (with_added (bucket_in self.old.buckets.entries head) added)) }
+    {
+        let tally = put_at(&mut self.buckets, alloc, head, added)?;
+        self.settle(&tally);
         Ok(())
     }
 
     // Takes a hash out.
-    fn remove(&mut self, alloc: Global, hash: &[u8; 32]) -> Result<(), OutOfMemory>
-        ensures { OnOk result ((entries : List Entry) → length entries < 2 ^ 40 → Holds self.old entries → Holds self.new (without_hash entries hash.now)) }
+    fn remove(&mut self, hash: &[u8; 32])
+        ensures { (entries : List Entry) → length entries < 2 ^ 40 → Holds self.old entries
+            → Holds self.new (without_hash entries hash.now) }
     {
-        let head = head_of(hash);
-        let next = without(alloc, bucket(&self.buckets, &head), hash)?;
-        self.replace(head, Row::from_vec(next))
+        self.remove_from(&head_of(hash), hash);
     }
 
     // Puts a hash in, in place of the entry that it had.
     fn add(&mut self, alloc: Global, added: Added) -> Result<(), OutOfMemory>
         requires { 4 ≤ added.size }
-        ensures { OnOk result ((entries : List Entry) → length entries < 2 ^ 40 → Holds self.old entries → Holds self.new (with_added entries added)) }
+        ensures { OnOk result ((entries : List Entry) → length entries < 2 ^ 40 → Holds self.old entries
+            → Holds self.new (with_added entries added)) }
     {
-        let head = head_of(&added.hash);
-        let next = with(alloc, bucket(&self.buckets, &head), added)?;
-        self.replace(head, Row::from_vec(next))
+        self.put_into(alloc, head_of(&added.hash), added)
     }
 
     // Takes out what a change removes.
-    fn remove_each(&mut self, alloc: Global, removes: &[[u8; 32]]) -> Result<(), OutOfMemory>
-        ensures { OnOk result ((entries : List Entry) → length entries < 2 ^ 32 → Holds self.old entries
-            → Holds self.new (fold without_hash entries removes.now)) }
+    fn remove_each(&mut self, removes: &[[u8; 32]])
+        ensures { (entries : List Entry) → length entries < 2 ^ 32 → Holds self.old entries
+            → Holds self.new (fold without_hash entries removes.now) }
     {
         for hash in removes {
-            self.remove(alloc, hash)?;
+            self.remove(hash);
         }
-        Ok(())
     }
 
     // Puts in what a change adds.
@@ -177,7 +136,7 @@ impl Live {
         ensures { OnOk result ((entries : List Entry) → length entries < 2 ^ 32 → length adds.now < 2 ^ 32 → Holds self.old entries
             → Holds self.new (fold with_added (fold without_hash entries removes.now) adds.now)) }
     {
-        self.remove_each(alloc, removes)?;
+        self.remove_each(removes);
         self.add_each(alloc, adds)
     }
 
@@ -185,7 +144,7 @@ impl Live {
     fn is_crowded_at(&self, hash: &[u8; 32]) -> bool
         ensures { result ≡ nat_lt most_alike (length (bucket_in self.now.buckets.entries (take 4 hash.now))) }
     {
-        bucket(&self.buckets, &head_of(hash)).len() > MOST_ALIKE
+        entries_at(&self.buckets, &head_of(hash)).len() > MOST_ALIKE
     }
 
     // Whether more than 16 full hashes begin as one of these does.

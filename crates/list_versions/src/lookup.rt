@@ -8,7 +8,7 @@ ghost use Rattle.sb_model.specs.declared.names.ListName.{ListName as Name};
 ghost use Rattle.list_versions.specs.Live.{Holds};
 ghost use Rattle.list_versions.specs.Lookup.{begins};
 
-use crate::buckets::{HashHead, bucket};
+use crate::buckets::{HashHead, entries_at};
 use crate::draft::Listed;
 use crate::lists::same;
 use crate::live::Live;
@@ -41,8 +41,8 @@ fn head_of(prefix: &Prefix) -> HashHead
     [bytes[0], bytes[1], bytes[2], bytes[3]]
 }
 
-// Whether a full hash begins with a prefix.
-fn is_begun(prefix: &Prefix, hash: &[u8; 32]) -> bool
+/// Whether a full hash begins with a prefix.
+pub(crate) fn is_begun(prefix: &Prefix, hash: &[u8; 32]) -> bool
     ensures { result ≡ begins prefix.now hash.now }
 {
     let bytes = prefix.as_bytes();
@@ -124,6 +124,6 @@ pub(crate) fn hashes_with(
         → map (λ hash. hash.bytes) hashes ≡ set_of (filter (begins prefix.now) (map (λ entry. entry.hash) entries))) }
 {
     let head = head_of(prefix);
-    let found = begun_with(alloc, bucket(&live.buckets, &head), prefix)?;
+    let found = begun_with(alloc, entries_at(&live.buckets, &head), prefix)?;
     rising(alloc, found.as_slice())
 }

@@ -1,8 +1,9 @@
 ghost use Rattle.std.specs.Prelude.{◌≡◌, List, ◌++◌, map, IfOk, OnOk};
-ghost use Rattle.std.specs.List.Sorted.{IsStrictlySortedBy};
+ghost use Rattle.std.specs.List.{IsDistinct};
 ghost use Rattle.std.specs.Map.{keys_of, values_of};
 ghost use Rattle.sb_model.specs.History.{prefix_of};
-ghost use Rattle.sb_model.specs.Prefixes.{bytes_cmp, set_of};
+ghost use Rattle.std.specs.Str.{bytes_eq};
+ghost use Rattle.sb_model.specs.Prefixes.{set_of};
 ghost use Rattle.sb_model.specs.declared.history.Added.{Added as Entry};
 ghost use Rattle.list_versions.specs.Live.{Holds, shown, in_buckets};
 
@@ -12,8 +13,8 @@ use prefix_set::{PrefixSet, sets_go_by_members};
 use sb_model::{Added, OutOfMemory};
 use std::alloc::Global;
 
-// The prefix that is published of a full hash.
-fn shown_prefix(entry: &Added) -> Prefix
+/// The prefix that is published of a full hash.
+pub(crate) fn shown_prefix(entry: &Added) -> Prefix
     ensures { result ≡ shown entry.now }
 {
     let hash = FullHash { bytes: entry.hash };
@@ -33,7 +34,7 @@ fn push_prefixes(prefixes: &mut Vec<Prefix>, bucket: &[Added]) -> Result<(), Out
 // The prefixes of all full hashes that are kept, one bucket after the other.
 fn all_prefixes(alloc: Global, live: &Live) -> Result<Vec<Prefix>, OutOfMemory>
     ensures value { IfOk result (λ prefixes. prefixes.items ≡ map shown (in_buckets (values_of live.now.buckets.entries))) }
-    ensures ordered { OnOk result (IsStrictlySortedBy bytes_cmp (keys_of live.now.buckets.entries)) }
+    ensures unique { OnOk result (IsDistinct bytes_eq (keys_of live.now.buckets.entries)) }
 {
     let mut prefixes = Vec::with_capacity(alloc, live.count as usize)?;
     'buckets: for bucket in live.buckets.values() {

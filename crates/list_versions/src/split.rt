@@ -2,6 +2,8 @@ ghost use Rattle.std.specs.Prelude.{◌≡◌, position, IfOk, IfSome, IfNone, O
 ghost use Rattle.list_versions.specs.Lines.{is_newline};
 ghost use Rattle.list_versions.specs.Split.{IsLine, IsFront, IsLong};
 
+use memchr::memchr;
+
 /// The most bytes of a line.
 const MOST_LINE: usize = 128;
 
@@ -13,7 +15,7 @@ pub struct LongLine;
 fn newline_in(text: &[u8]) -> Option<usize>
     ensures { result ≡ position is_newline text.now }
 {
-    text.iter().position(|byte| *byte == b'\n')
+    memchr(b'\n', text)
 }
 
 /// The first line and what stands after its newline; `None` where no line has ended.

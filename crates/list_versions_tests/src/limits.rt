@@ -145,8 +145,8 @@ fn a_line_that_has_not_ended_has_at_most_128_bytes(rt: HostRuntime) {
     assert!(rt; fault_of(&rt, letters(rt.alloc(), 129)) == Some(JournalFault::Line(3)));
 }
 
-// So many changes that add 1,024 hashes each.
-fn many_changes(alloc: Global, count: u32) -> Result<Bytes, OutOfMemory> {
+/// So many changes that add 1,024 hashes each. The first four bytes of the hashes count up from 0.
+pub(crate) fn many_changes(alloc: Global, count: u32) -> Result<Bytes, OutOfMemory> {
     let mut text = one_list(alloc)?;
     for number in 0..count {
         push_change(&mut text, number)?;

@@ -1,4 +1,4 @@
-use Rattle.std.proofs.Common.{◌≡◌, ◌<◌, length, arith}
+use Rattle.std.proofs.Common.{◌≡◌, length}
 use Rattle.std.proofs.lemmas.List.Elements.{All-more}
 use Rattle.sb_model.specs.declared.history.Added.{Added}
 use Rattle.list_versions.proofs.Begun.{begun_more}

@@ -1,4 +1,4 @@
-use Rattle.std.proofs.Common.{◌≡◌, ◌≤◌, ◌∙◌, length, arith, rules}
+use Rattle.std.proofs.Common.{◌≡◌, ◌∙◌, length, arith, rules}
 use Rattle.std.proofs.lemmas.List.{take_all}
 use Rattle.list_versions.proofs.lookup.whole_of.Goals as goal
 

@@ -9,6 +9,7 @@ use Rattle.list_versions.specs.Journal.{change_of, ◌>>=◌, after_bytes}
 use Rattle.list_versions.specs.Limits.{IsUncrowded}
 use Rattle.list_versions.specs.declared.draft.Draft.{Draft}
 use Rattle.list_versions.proofs.Completing.{any_declared, at_the_end, draft_completed, history_is}
+use Rattle.list_versions.proofs.Reached.{points_kept}
 use Rattle.list_versions.proofs.draft.Draft.complete.Goals as goal
 
 small_sizes : (draft : Draft) → IsDraft draft → (name : ListName) → length (sizes_at (history_of draft) name (length draft.changes.items)) < 2 ^ 32
@@ -43,6 +44,8 @@ returns-clause-draft c =
     let names = c.apply_each.ensures.names in
     draft_completed old _ change _ c.requires.draft refl names c.in-Ok-push.ensures.items (omega (arith, c.len.ensures, c.len-2.ensures)) applied (sym limit ∙ c.in_default-limit_of.is)
     c.requires.few (omega (arith, c.requires.count)) c.requires.declared c.requires.adds_well c.requires.removes_well
+    (points_kept old c.keep_point.new.points.items c.apply_each.new.lists.items change _ _ _ c.requires.draft (rw c.deref-2.ensures.value at c.in-Ok-keep_point.ensures.ok)
+    (omega (arith, c.len-version.ensures)) refl (omega (arith, c.len.ensures, c.len-2.ensures)) names applied c.requires.declared)
 
 pub returns-clause-ok : goal.returns-clause-ok
 returns-clause-ok c seen bytes =

@@ -21,7 +21,7 @@ returns-then-len-ge-MOST_LISTS-clause-fault c =
 pub returns-clause-draft : goal.returns-clause-draft
 returns-clause-draft c =
     let named = sym (any_declared c.args.name c.args.self.now.lists.items) ∙ ap (list_any (λ (list : Listed). same_name list.name c.args.name)) (sym c.deref.ensures.value) ∙ sym c.is_declared.ensures ∙ c.if-is_declared.false in
-    draft_declared c.args.self.now _ (record { name = c.args.name; size = c.args.size; live = c.new.result }) c.requires.draft c.in-Ok.ensures.items refl refl (omega (arith, c.len.ensures, c.if-len-ge-MOST_LISTS.false)) named c.requires.size c.new.ensures.holds
+    draft_declared c.args.self.now _ (record { name = c.args.name; size = c.args.size; live = c.new.result }) c.requires.draft c.in-Ok.ensures.items refl refl refl (omega (arith, c.len.ensures, c.if-len-ge-MOST_LISTS.false)) named c.requires.size c.new.ensures.holds
 
 pub returns-clause-ok : goal.returns-clause-ok
 returns-clause-ok c =

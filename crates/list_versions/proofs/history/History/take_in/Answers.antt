@@ -36,9 +36,11 @@ pub invariant_of-self-in-Err : goal.invariant_of-self-in-Err
 invariant_of-self-in-Err g c =
     let lists_are : c.len-lists.result ≡ length c.self.inside.draft.lists.items = omega (arith, c.len-lists.ensures, c.self.inside.draft.lists.ok) in
     let changes_are : c.len-changes.result ≡ length c.self.inside.draft.changes.items = omega (arith, c.len-changes.ensures, c.self.inside.draft.changes.ok) in
+    let points_are : c.len-points.result ≡ length c.self.inside.draft.points.items = omega (arith, c.len-points.ensures, c.self.inside.draft.points.ok) in
     let history = cut_history c.self.inside.draft c.read_more.new.draft c.cut.new.self c.read_more.ensures.front c.cut.ensures.epoch
     (c.cut.ensures.lists ∙ ap (λ n. take n c.read_more.new.draft.lists.items) lists_are) (c.cut.ensures.changes ∙ ap (λ n. take n c.read_more.new.draft.changes.items) changes_are) in
     loaded_cut c.self.inside.draft c.cut.new.self c.self.inside.newest.items c.self.inside.rest c.self.inside.stale c.self.invariant (c.cut.ensures.sized ∙ c.read_more.ensures.front.sized) history c.cut.ensures.hashes
+    (c.cut.ensures.points ∙ ap (λ n. take n c.read_more.new.draft.points.items) points_are ∙ c.read_more.ensures.front.points)
 
 pub returns-in-Err-clause-same : goal.returns-in-Err-clause-same
 returns-in-Err-clause-same g c =

@@ -6,5 +6,5 @@ use Rattle.list_versions.proofs.live.Live.apply.Goals as goal
 pub returns : goal.returns
 returns c =
     mapped_ok _ _ c.add_each.result
-    (λ adds entries small few holds. adds (fold without_hash entries c.args.removes.now) (omega (arith, length-fold_removed c.args.removes.now entries)) few (c.in_ok-remove_each.ensures entries small holds))
+    (λ adds entries small few holds. adds (fold without_hash entries c.args.removes.now) (omega (arith, length-fold_removed c.args.removes.now entries)) few (c.remove_each.ensures entries small holds))
     c.add_each.ensures

@@ -6,6 +6,6 @@ use Rattle.list_versions.proofs.live.Live.remove_each.Goals as goal
 
 pub loop-hash-preserved : goal.loop-hash-preserved
 loop-hash-preserved c = λ entries small h.
-    let step = c.in_ok-remove.ensures (fold without_hash entries (take c.loop-hash.hash-index c.args.removes.now))
+    let step = c.remove.ensures (fold without_hash entries (take c.loop-hash.hash-index c.args.removes.now))
     (omega (arith, length-fold_removed (take c.loop-hash.hash-index c.args.removes.now) entries)) (c.loop-hash.invariant entries small h) in
     rw (fold_more without_hash entries c.args.removes.now c.loop-hash.hash-index [] c.loop-hash-test.true) step

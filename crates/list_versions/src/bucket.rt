@@ -1,0 +1,176 @@
+ghost use Rattle.std.specs.Prelude.{◌≡◌, ◌+◌, ◌^◌, ◌<◌, ◌≤◌, [], ◌∷◌, ◌++◌, length, cond, IfOk, OnOk};
+ghost use Rattle.std.specs.List.{list_any};
+ghost use Rattle.std.specs.Str.{bytes_eq};
+ghost use Rattle.sb_model.specs.History.{prefix_of, without_hash, with_added};
+ghost use Rattle.list_versions.specs.Limits.{prefix_bytes};
+ghost use Rattle.list_versions.specs.Buckets.{IsTally};
+
+use sb_model::{Added, OutOfMemory};
+use std::alloc::Global;
+use std::marker::Model;
+use std::slice;
+
+/// Full hashes with their sizes. Contracts see them as a list. One alone takes no memory of its
+/// own.
+#[derive(Debug, Drop)]
+pub(crate) struct Bucket {
+    entries: Entries,
+}
+
+#[derive(Debug, Drop)]
+pub(crate) enum Entries {
+    Nothing,
+    One(Added),
+    More(Vec<Added>),
+}
+
+impl Model for Bucket {
+    ghost use Rattle.std.specs.Prelude.{List};
+    ghost use Rattle.sb_model.specs.declared.history.Added.{Added as Entry};
+    ghost use Rattle.list_versions.specs.Buckets.{entries_of};
+
+    ghost Value = { List Entry };
+
+    ghost view = { λ bucket. entries_of bucket.entries };
+}
+
+/// How many full hashes and how many published bytes came into a bucket, and how many went out.
+#[derive(Clone, Copy, Debug)]
+pub(crate) struct Tally {
+    pub hashes_in: u64,
+    pub hashes_out: u64,
+    pub bytes_in: u64,
+    pub bytes_out: u64,
+}
+
+impl Tally {
+    // What went out, where nothing came in.
+    fn of_removal(hashes: u64, bytes: u64) -> Tally
+        ensures { result ≡ record { hashes_in = 0; hashes_out = hashes; bytes_in = 0; bytes_out = bytes } }
+    {
+        Tally {
+            hashes_in: 0,
+            hashes_out: hashes,
+            bytes_in: 0,
+            bytes_out: bytes,
+        }
+    }
+}
+
+// The bytes that are published of a full hash.
+fn published(entry: &Added) -> &[u8]
+    ensures value { result.now ≡ prefix_of entry.now }
+    ensures short { length (prefix_of entry.now) ≤ 32 }
+{
+    let size = usize::from(entry.size).min(32);
+    &entry.hash[..size]
+}
+
+// Whether one of these full hashes publishes the same bytes.
+fn is_published(entries: &[Added], prefix: &[u8]) -> bool
+    ensures { result ≡ list_any (λ entry. bytes_eq (prefix_of entry) prefix.now) entries.now }
+{
+    entries.iter().any(|entry| published(entry) == prefix)
+}
+
+// How many bytes a prefix has, where none of these full hashes publishes it.
+fn further_bytes(entries: &[Added], prefix: &[u8]) -> u64
+    ensures { result ≡ cond (list_any (λ entry. bytes_eq (prefix_of entry) prefix.now) entries.now)
+        0 (length prefix.now) }
+{
+    if is_published(entries, prefix) {
+        return 0;
+    }
+    prefix.len() as u64
+}
+
+// Takes a full hash out of a list.
+fn take_out(entries: &mut Vec<Added>, hash: &[u8; 32]) -> Tally
+    ensures left { entries.new.items ≡ without_hash entries.old.items hash.now }
+    ensures tally { IsTally entries.old.items entries.new.items result }
+    ensures none_in { result.hashes_in ≡ 0 }
+    ensures nothing_in { result.bytes_in ≡ 0 }
+{
+    let mut hashes = 0;
+    let mut bytes = 0u64;
+    let mut i = entries.len();
+    'back: while i > 0 {
+        i -= 1;
+        if entries[i].hash == *hash {
+            let entry = entries.remove(i);
+            hashes += 1;
+            bytes = bytes.saturating_add(further_bytes(entries, published(&entry)));
+        }
+    }
+    Tally::of_removal(hashes, bytes)
+}
+
+impl Bucket {
+    /// No full hash.
+    pub fn empty() -> Bucket
+        ensures { result ≡ [] }
+    {
+        Bucket {
+            entries: Entries::Nothing,
+        }
+    }
+
+    pub fn as_slice(&self) -> &[Added]
+        ensures { result.now ≡ self.now }
+    {
+        match &self.entries {
+            Entries::Nothing => &[],
+            Entries::One(entry) => slice::from_ref(entry),
+            Entries::More(entries) => entries.as_slice(),
+        }
+    }
+
+    /// Takes a full hash out.
+    pub fn remove(&mut self, hash: &[u8; 32]) -> Tally
+        ensures left { self.new ≡ without_hash self.old hash.now }
+        ensures tally { IsTally self.old self.new result }
+        ensures none_in { result.hashes_in ≡ 0 }
+        ensures nothing_in { result.bytes_in ≡ 0 }
+    {
+        match &mut self.entries {
+            Entries::More(entries) => take_out(entries, hash),
+            Entries::One(entry) if entry.hash == *hash => {
+                let bytes = published(entry).len() as u64;
+                self.entries = Entries::Nothing;
+                Tally::of_removal(1, bytes)
+            }
+            _ => Tally::of_removal(0, 0),
+        }
+    }
+
+    // Puts a full hash at the end.
+    fn push(&mut self, alloc: Global, added: Added) -> Result<(), OutOfMemory>
+        ensures { OnOk result (self.new ≡ self.old ++ added ∷ []) }
+    {
+        match &mut self.entries {
+            Entries::More(entries) => entries.push(added)?,
+            Entries::One(first) => {
+                let entries = vec![in alloc; *first, added]?;
+                self.entries = Entries::More(entries);
+            }
+            Entries::Nothing => self.entries = Entries::One(added),
+        }
+        Ok(())
+    }
+
+    /// Puts a full hash in, in place of the entry that it had.
+    pub fn put(&mut self, alloc: Global, added: Added) -> Result<Tally, OutOfMemory>
+        ensures items { OnOk result (self.new ≡ with_added self.old added) }
+        ensures tally { IfOk result (IsTally self.old self.new) }
+    {
+        let gone = self.remove(&added.hash);
+        let bytes_in = further_bytes(self.as_slice(), published(&added));
+        self.push(alloc, added)?;
+        Ok(Tally {
+            hashes_in: 1,
+            hashes_out: gone.hashes_out,
+            bytes_in,
+            bytes_out: gone.bytes_out,
+        })
+    }
+}
