@@ -1,0 +1,74 @@
+-- The one spelling of each message: the compact JSON of a value whose members stand in the byte order
+-- of their keys.
+use Rattle.std.specs.Prelude.{ℕ, List, Some}
+use Rattle.serde_json.specs.Data.{Data, string, object, no_members}
+use Rattle.serde_json.specs.Written.{compact_text}
+use Rattle.base64.specs.Engines.{standard}
+use Rattle.base64.specs.GeneralPurpose.{encode_of}
+use Rattle.sb_json.specs.declared.fields.Field.TheVariants as field
+use Rattle.sb_model.specs.declared.names.ThreatType.{ThreatType}
+use Rattle.sb_model.specs.declared.names.PlatformType.{PlatformType}
+use Rattle.sb_model.specs.declared.names.EntryType.{EntryType}
+use Rattle.sb_model.specs.Names.{threat_word, platform_word, entry_word}
+use Rattle.update_messages.specs.Writing.{with_member, bytes_written, duration_written, list_written, unless_bare, client_members}
+use Rattle.hash_messages.specs.Messages.{AskedHashes}
+use Rattle.hash_messages.specs.declared.response.Match.{Match}
+use Rattle.hash_messages.specs.declared.response.FindResponse.{FindResponse}
+
+-- ---- the request
+
+-- a state in the list of states, where an empty one stands too
+abbrev pub state_written : List ℕ → Data
+state_written state = string (encode_of standard state)
+
+abbrev pub threat_written : ThreatType → Data
+threat_written threat = string (threat_word threat)
+
+abbrev pub platform_written : PlatformType → Data
+platform_written platform = string (platform_word platform)
+
+abbrev pub entry_written : EntryType → Data
+entry_written entry = string (entry_word entry)
+
+abbrev pub prefix_written : List ℕ → Data
+prefix_written prefix = object (with_member field.Hash (bytes_written prefix) no_members)
+
+abbrev pub info_written : AskedHashes → Data
+info_written message = object (
+    with_member field.PlatformTypes (list_written platform_written message.platforms) (
+    with_member field.ThreatEntries (list_written prefix_written message.prefixes) (
+    with_member field.ThreatEntryTypes (list_written entry_written message.entries) (
+    with_member field.ThreatTypes (list_written threat_written message.threats) no_members))))
+
+abbrev pub find_request_written : AskedHashes → Data
+find_request_written message = object (
+    with_member field.Client (unless_bare (client_members message.client)) (
+    with_member field.ClientStates (list_written state_written message.states) (
+    with_member field.ThreatInfo (Some (info_written message)) no_members)))
+
+-- ---- the response
+
+abbrev pub hash_written : List ℕ → Data
+hash_written hash = object (with_member field.ThreatHash (bytes_written hash) no_members)
+
+abbrev pub match_written : Match → Data
+match_written found = object (
+    with_member field.CacheDuration (duration_written found.cache) (
+    with_member field.PlatformType (Some (platform_written found.name.platform)) (
+    with_member field.Threat (Some (hash_written found.hash.bytes)) (
+    with_member field.ThreatEntryType (Some (entry_written found.name.entry)) (
+    with_member field.ThreatType (Some (threat_written found.name.threat)) no_members)))))
+
+abbrev pub find_response_written : FindResponse → Data
+find_response_written message = object (
+    with_member field.Matches (list_written match_written message.matches) (
+    with_member field.MinimumWaitDuration (duration_written message.wait) (
+    with_member field.NegativeCacheDuration (duration_written message.negative) no_members)))
+
+-- ---- the spellings
+
+abbrev pub spelling_of_find_request : AskedHashes → List ℕ
+spelling_of_find_request message = compact_text (find_request_written message)
+
+abbrev pub spelling_of_find_response : FindResponse → List ℕ
+spelling_of_find_response message = compact_text (find_response_written message)
