@@ -1,4 +1,4 @@
-ghost use Rattle.std.specs.Prelude.{◌≡◌, ◌≢◌, ℕ, ◌≤◌, length, map, All, IfOk, OnOk, OnErr};
+ghost use Rattle.std.specs.Prelude.{◌≡◌, ◌≢◌, ℕ, ◌≤◌, length, vec_len, map, All, IfOk, OnOk, OnErr};
 ghost use Rattle.std.specs.List.Sorted.{IsStrictlySortedBy};
 ghost use Rattle.std.specs.Option.{option_copied};
 ghost use Rattle.rice_coding.specs.declared.fault.RiceFault.TheVariants as rice;
@@ -89,6 +89,31 @@ impl ClientLists {
         let names = ordered(alloc, names)?;
         let lists = empty_lists(alloc, &names)?;
         Ok(ClientLists { lists })
+    }
+
+    /// The client's lists that these are, which are moved and not copied.
+    pub fn from_lists(lists: Vec<HeldList>) -> ClientLists
+        requires few { vec_len lists ≤ most_lists }
+        requires rising { IsStrictlySortedBy name_cmp
+            (map (λ (held : Held). held.name) lists.items) }
+        ensures { result ≡ lists.items }
+    {
+        ClientLists { lists }
+    }
+
+    /// The lists, in the order of their names, moved and not copied.
+    pub fn into_lists(self) -> Vec<HeldList>
+        ensures value { result.items ≡ self }
+
+        // What the lists always keep to.
+        ensures few { vec_len result ≤ most_lists }
+        ensures rising { IsStrictlySortedBy name_cmp
+            (map (λ (held : Held). held.name) result.items) }
+        ensures tokens { All IsHeld result.items }
+    {
+        let ClientLists { lists } = self;
+        know_each(&lists);
+        lists
     }
 
     /// The lists, in the order of their names.
