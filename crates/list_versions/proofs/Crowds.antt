@@ -112,6 +112,18 @@ crowds_held live before adds removes few holds =
     (λ entry. ap (λ bucket. nat_lt most_alike (length bucket)) (holds.buckets (take 4 entry.hash))) adds
     ∙ crowds_of_adds before adds removes few
 
+none_above : (n : ℕ) → n ≤ 16 → nat_lt most_alike n ≡ false
+none_above n h = grind (arith, nat_tests)
+
+-- where no bucket has more than 16
+pub no_crowds : (live : Live) (adds : List Added) → ((head : List ℕ) → length (bucket_in live.buckets.entries head) ≤ live.most) → live.most ≤ 16
+    → false ≡ list_any (λ added. nat_lt most_alike (length (bucket_in live.buckets.entries (take 4 added.hash)))) adds
+no_crowds live [] alike few = refl
+no_crowds live (added ∷ adds) alike few =
+    let head = take 4 added.hash in
+    let none : nat_lt most_alike (length (bucket_in live.buckets.entries head)) ≡ false = none_above _ (omega (arith, alike head, few)) in
+    rw none (no_crowds live adds alike few)
+
 uncrowded_at : (entries : List Added) (head : List ℕ) (b : Bool) → nat_lt most_alike (length (filter (has_head head) entries)) ≡ b → is_crowded entries ≡ false → length (filter (has_head head) entries) ≤ most_alike
 uncrowded_at entries head true e h =
     let many = above _ e in

@@ -26,6 +26,10 @@ buckets_at : (b : Bool) (next before after bucket : List Added) → bucket ≡ c
 buckets_at true next before after bucket h here there = h ∙ here refl
 buckets_at false next before after bucket h here there = h ∙ there refl
 
+alike_at : (b : Bool) (next before after : List Added) (m n : ℕ) → after ≡ cond b next before → length before ≤ m → m ≤ n → length next ≤ n → length after ≤ n
+alike_at true next before after m n h was more now = omega (arith, ap length h, now)
+alike_at false next before after m n h was more now = omega (arith, ap length h, was, more)
+
 -- The full hashes change in one bucket alone.
 pub record ChangesBucket (entries after next : List Added) (head : List ℕ) : Type 0 where
   pub here : next ≡ filter (has_head head) after
@@ -60,6 +64,8 @@ holds_replaced before after entries more next head small holds replaces changes 
       count = omega arith;
       bytes = omega arith;
       sizes = changes.sizes;
+      alike = λ other. alike_at (bytes_eq head other) next (bucket_in before.buckets.entries other) (bucket_in after.buckets.entries other) before.most after.most
+          (replaces.buckets other) (holds.alike other) replaces.most replaces.alike;
     }
 
 -- a hash that is taken out

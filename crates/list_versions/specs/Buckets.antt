@@ -15,5 +15,6 @@ entries_of (More entries) = entries.items
 pub record IsTally (before after : List Added) (tally : Tally) : Type 0 where
   pub hashes : length after + tally.hashes_out ≡ length before + tally.hashes_in
   pub bytes : prefix_bytes before < 2 ^ 64 → prefix_bytes after + tally.bytes_out ≡ prefix_bytes before + tally.bytes_in
+  pub left : tally.hashes ≡ length after
   pub few : tally.hashes_in ≤ 1
   pub short : tally.bytes_in ≤ 32

@@ -35,6 +35,7 @@ pub record Holds (live : Live) (entries : List Added) : Type 0 where
   pub count : live.count ≡ length entries
   pub bytes : live.bytes ≡ prefix_bytes entries
   pub sizes : All IsPublishable entries
+  pub alike : (head : List ℕ) → length (bucket_in live.buckets.entries head) ≤ live.most
 
 -- a bucket took the place of another
 pub record Replaces (before after : Live) (head : List ℕ) (next : List Added) : Type 0 where
@@ -43,6 +44,8 @@ pub record Replaces (before after : Live) (head : List ℕ) (next : List Added) 
       → after.count + length (bucket_in before.buckets.entries head) ≡ before.count + length next
   pub bytes : prefix_bytes (bucket_in before.buckets.entries head) ≤ before.bytes → before.bytes < 2 ^ 63
       → after.bytes + prefix_bytes (bucket_in before.buckets.entries head) ≡ before.bytes + prefix_bytes next
+  pub most : before.most ≤ after.most
+  pub alike : length next ≤ after.most
 
 -- the prefix that is made of a full hash; where its size is from 4 to 32, the one that is published
 abbrev pub shown : Added → List ℕ

@@ -34,25 +34,28 @@ impl Model for Bucket {
     ghost view = { λ bucket. entries_of bucket.entries };
 }
 
-/// How many full hashes and how many published bytes came into a bucket, and how many went out.
+/// How many full hashes and how many published bytes came into a bucket, how many went out, and how
+/// many full hashes it has then.
 #[derive(Clone, Copy, Debug)]
 pub(crate) struct Tally {
     pub hashes_in: u64,
     pub hashes_out: u64,
     pub bytes_in: u64,
     pub bytes_out: u64,
+    pub hashes: u64,
 }
 
 impl Tally {
-    // What went out, where nothing came in.
-    fn of_removal(hashes: u64, bytes: u64) -> Tally
-        ensures { result ≡ record { hashes_in = 0; hashes_out = hashes; bytes_in = 0; bytes_out = bytes } }
+    // What went out and what was left, where nothing came in.
+    fn of_removal(left: u64, hashes: u64, bytes: u64) -> Tally
+        ensures { result ≡ record { hashes_in = 0; hashes_out = hashes; bytes_in = 0; bytes_out = bytes; hashes = left } }
     {
         Tally {
             hashes_in: 0,
             hashes_out: hashes,
             bytes_in: 0,
             bytes_out: bytes,
+            hashes: left,
         }
     }
 }
@@ -102,7 +105,7 @@ fn take_out(entries: &mut Vec<Added>, hash: &[u8; 32]) -> Tally
             bytes = bytes.saturating_add(further_bytes(entries, published(&entry)));
         }
     }
-    Tally::of_removal(hashes, bytes)
+    Tally::of_removal(entries.len() as u64, hashes, bytes)
 }
 
 impl Bucket {
@@ -137,9 +140,10 @@ impl Bucket {
             Entries::One(entry) if entry.hash == *hash => {
                 let bytes = published(entry).len() as u64;
                 self.entries = Entries::Nothing;
-                Tally::of_removal(1, bytes)
+                Tally::of_removal(0, 1, bytes)
             }
-            _ => Tally::of_removal(0, 0),
+            Entries::One(_) => Tally::of_removal(1, 0, 0),
+            Entries::Nothing => Tally::of_removal(0, 0, 0),
         }
     }
 
@@ -166,11 +170,13 @@ impl Bucket {
         let gone = self.remove(&added.hash);
         let bytes_in = further_bytes(self.as_slice(), published(&added));
         self.push(alloc, added)?;
+        let hashes = self.as_slice().len() as u64;
         Ok(Tally {
             hashes_in: 1,
             hashes_out: gone.hashes_out,
             bytes_in,
             bytes_out: gone.bytes_out,
+            hashes,
         })
     }
 }

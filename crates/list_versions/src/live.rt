@@ -25,6 +25,8 @@ pub(crate) struct Live {
     pub buckets: Buckets,
     pub count: u64,
     pub bytes: u64,
+    /// No more than these share their first four bytes.
+    pub most: u64,
 }
 
 fn head_of(hash: &[u8; 32]) -> HashHead
@@ -44,6 +46,7 @@ impl Live {
             buckets: HashMap::new(alloc),
             count: 0,
             bytes: 0,
+            most: 0,
         }
     }
 
@@ -56,6 +59,8 @@ impl Live {
         ensures bytes { tally.now.bytes_in ≤ 32 → self.old.bytes < 2 ^ 63
             → tally.now.bytes_out ≤ self.old.bytes + tally.now.bytes_in
             → self.new.bytes + tally.now.bytes_out ≡ self.old.bytes + tally.now.bytes_in }
+        ensures most { self.old.most ≤ self.new.most }
+        ensures alike { tally.now.hashes ≤ self.new.most }
     {
         self.count = self
             .count
@@ -65,6 +70,7 @@ impl Live {
             .bytes
             .saturating_add(tally.bytes_in)
             .saturating_sub(tally.bytes_out);
+        self.most = self.most.max(tally.hashes);
     }
 
     // Takes a hash out of a bucket.
@@ -147,11 +153,22 @@ impl Live {
         entries_at(&self.buckets, &head_of(hash)).len() > MOST_ALIKE
     }
 
-    // Whether more than 16 full hashes begin as one of these does.
-    fn is_crowded(&self, adds: &[Added]) -> bool
+    // Whether more than 16 full hashes begin as one of these does, by a look at each.
+    fn is_crowded_among(&self, adds: &[Added]) -> bool
         ensures { result ≡ list_any (λ added. nat_lt most_alike (length (bucket_in self.now.buckets.entries (take 4 added.hash)))) adds.now }
     {
         adds.iter().any(|added| self.is_crowded_at(&added.hash))
+    }
+
+    // Whether more than 16 full hashes begin as one of these does.
+    fn is_crowded(&self, adds: &[Added]) -> bool
+        ensures { ((head : List ℕ) → length (bucket_in self.now.buckets.entries head) ≤ self.now.most)
+            → result ≡ list_any (λ added. nat_lt most_alike (length (bucket_in self.now.buckets.entries (take 4 added.hash)))) adds.now }
+    {
+        if self.most <= MOST_ALIKE as u64 {
+            return false;
+        }
+        self.is_crowded_among(adds)
     }
 
     /// The fault of a line that ends a change which adds these.

@@ -1,4 +1,5 @@
 use Rattle.std.proofs.Common.{◌≡◌, ◌+◌, ◌≤◌, ◌∙◌, ℕ, List, cond, length, sym, ap, arith}
+use Rattle.std.proofs.lemmas.Grind.{common_steps}
 use Rattle.std.proofs.lemmas.List.{length_push}
 use Rattle.sb_model.specs.declared.history.Added.{Added}
 use Rattle.list_versions.specs.Limits.{prefix_bytes}
@@ -20,6 +21,7 @@ returns-clause-tally c =
     record {
       hashes = omega (arith, count, gone.hashes, c.remove-gone.ensures.none_in);
       bytes = λ small. let before = gone.bytes small in omega (arith, bytes, before, c.remove-gone.ensures.nothing_in);
+      left = grind (arith, common_steps);
       few = omega arith;
       short = few;
     }
