@@ -1,0 +1,9 @@
+pub mod Filling
+pub mod Heads
+pub mod Members
+pub mod Named
+pub mod Parts
+pub mod Rising
+pub mod Sets
+pub mod Stores
+pub mod Walks

@@ -1,0 +1,39 @@
+ghost use Rattle.std.specs.Prelude.{◌≡◌, ◌++◌, decimal, OnOk};
+ghost use Rattle.client_store.specs.Printed.{cause_text};
+
+use crate::StoreFault;
+use hash_prefixes::append_hex;
+use itoa::Buffer;
+use sb_model::{Bytes, OutOfMemory};
+
+// Appends a word and a number.
+fn push_counted(page: &mut Bytes, word: &str, number: u64) -> Result<(), OutOfMemory>
+    ensures { OnOk result (page.new ≡ page.old ++ (word.now ++ decimal number)) }
+{
+    let mut buffer = Buffer::new();
+    page.append(word.as_bytes())?;
+    page.append(buffer.format(number).as_bytes())
+}
+
+// Appends both digests.
+fn push_digests(page: &mut Bytes, got: &[u8], given: &[u8]) -> Result<(), OutOfMemory>
+    ensures { OnOk result
+        (page.new ≡ page.old ++ cause_text (StoreFault.Digest got.now given.now)) }
+{
+    page.append(b"digest ")?;
+    append_hex(page, got)?;
+    page.append(b" ")?;
+    append_hex(page, given)
+}
+
+/// Appends the cause of a text that is no store, as it is printed.
+pub fn push_store_cause(page: &mut Bytes, fault: &StoreFault) -> Result<(), OutOfMemory>
+    ensures { OnOk result (page.new ≡ page.old ++ cause_text fault.now) }
+{
+    match fault {
+        StoreFault::Shape(place) => push_counted(page, "shape ", *place),
+        StoreFault::Digest { got, given } => push_digests(page, got, given),
+        StoreFault::Format(number) => push_counted(page, "format ", u64::from(*number)),
+        StoreFault::OutOfMemory => page.append(b"out-of-memory"),
+    }
+}
