@@ -4,7 +4,6 @@ use Rattle.std.specs.Prelude.{◌↔◌, min, filter, Contains, if◌then◌else
 use Rattle.std.specs.Option.{unwrap_or}
 use Rattle.std.specs.Str.{bytes_eq}
 use Rattle.std.proofs.lemmas.Bool.{false≢true}
-use Rattle.std.proofs.lemmas.Map.Text.{is_eq-slice_cmp}
 use Rattle.sb_model.specs.declared.history.Added.{Added}
 use Rattle.sb_model.specs.Difference.{has_member}
 use Rattle.sb_model.specs.History.{prefix_of}
@@ -42,7 +41,7 @@ pub put_holders : (before after : List (List ℕ × ℕ)) (q : List ℕ) (from t
     → ((p : List ℕ) → bytes_eq q p ≡ false → holders_of p to ≡ holders_of p from) → Puts before after q (counted (holders_of q to))
     → (p : List ℕ) → found_in after p ≡ counted (holders_of p to)
 put_holders before after q from to counts others puts p =
-    puts p ∙ ap (λ (t : Bool). if t then counted (holders_of q to) else found_in before p) (is_eq-slice_cmp q p) ∙ go (bytes_eq q p) refl
+    puts p ∙ go (bytes_eq q p) refl
   where
     go : (t : Bool) → bytes_eq q p ≡ t → (if t then counted (holders_of q to) else found_in before p) ≡ counted (holders_of p to)
     go true is = ap (λ (x : List ℕ). counted (holders_of x to)) (equal_bytes q p is)
@@ -281,29 +280,44 @@ shared_some now entries counts q there some laws =
 
 -- ---- where one full hash less has a prefix
 
-counted_some : (n : ℕ) → 0 < n → counted n ≡ Some n
-counted_some zero h = absurd (omega arith)
-counted_some (suc n) h = refl
+-- what is left of its count
+pub left_is : (before : List (List ℕ × ℕ)) (q : List ℕ) (fewer more : List Added) (left : ℕ) → Gains fewer more q
+    → ((p : List ℕ) → found_in before p ≡ counted (holders_of p more)) → left ≡ unwrap_or (found_in before q) 0 - 1 → left ≡ holders_of q fewer
+left_is before q fewer more left gains counts is =
+    let own : unwrap_or (found_in before q) 0 ≡ holders_of q more = count_is before q more _ counts refl in
+    omega (arith, gains_own fewer more q gains, own, is)
 
 -- its count falls by one
-pub leaves : (before after : List (List ℕ × ℕ)) (q : List ℕ) (fewer more : List Added) (count value : ℕ) → Gains fewer more q
-    → ((p : List ℕ) → found_in before p ≡ counted (holders_of p more)) → count ≡ holders_of q more → 1 < count → value + 1 ≡ count
-    → Puts before after q (Some value) → (p : List ℕ) → found_in after p ≡ counted (holders_of p fewer)
-leaves before after q fewer more count value gains counts is several less puts =
-    let all : holders_of q more ≡ holders_of q fewer + 1 = gains_own fewer more q gains in
-    let next : value ≡ holders_of q fewer = omega arith in
-    put_holders before after q more fewer counts (λ p other. sym (gains_other fewer more q gains p other))
-    (subst (Puts before after q) (ap Some next ∙ sym (counted_some (holders_of q fewer) (omega arith))) puts)
-
--- the last one takes it out
-pub leaves_last : (before after : List (List ℕ × ℕ)) (q : List ℕ) (fewer more : List Added) → Gains fewer more q
-    → ((p : List ℕ) → found_in before p ≡ counted (holders_of p more)) → holders_of q fewer ≡ 0 → Puts before after q None
+pub leaves : (before after : List (List ℕ × ℕ)) (q : List ℕ) (fewer more : List Added) (left : ℕ) → Gains fewer more q
+    → ((p : List ℕ) → found_in before p ≡ counted (holders_of p more)) → left ≡ holders_of q fewer → Puts before after q (counted left)
     → (p : List ℕ) → found_in after p ≡ counted (holders_of p fewer)
-leaves_last before after q fewer more gains counts none puts =
+leaves before after q fewer more left gains counts is puts =
     put_holders before after q more fewer counts (λ p other. sym (gains_other fewer more q gains p other))
-    (subst (Puts before after q) (sym (none_counted (holders_of q fewer) none)) puts)
+    (subst (λ (n : ℕ). Puts before after q (counted n)) is puts)
 
 -- the map has the prefix
 pub there_before : (before : List (List ℕ × ℕ)) (q : List ℕ) (fewer more : List Added) → Gains fewer more q → ((p : List ℕ) → found_in before p ≡ counted (holders_of p more))
     → is_some (found_in before q) ≡ true
 there_before before q fewer more gains counts = ap is_some (counts q) ∙ some_counted (holders_of q more) (omega (arith, gains_own fewer more q gains))
+
+-- the map is as long as there are prefixes left
+pub leaves_len : (laws : SetLaws) (before after : List (List ℕ × ℕ)) (q : List ℕ) (fewer more : List Added) (left : ℕ) → Gains fewer more q
+    → ((p : List ℕ) → found_in before p ≡ counted (holders_of p more)) → length before ≡ length (published more) → left ≡ holders_of q fewer
+    → length after + (if is_some (found_in before q) then 1 else 0) ≡ length before + (if is_some (counted left) then 1 else 0)
+    → (held : List (List ℕ)) → IsRising held → length after ≡ length (published fewer)
+leaves_len laws before after q fewer more left gains counts before_len is after_len held up = go (holders_of q fewer) refl
+  where
+    whole : length after + 1 ≡ length before + (if is_some (counted (holders_of q fewer)) then 1 else 0)
+    whole =
+        sym (ap (λ (t : Bool). length after + (if t then 1 else 0)) (there_before before q fewer more gains counts)) ∙ after_len
+        ∙ ap (λ (n : ℕ). length before + (if is_some (counted n) then 1 else 0)) is
+
+    go : (n : ℕ) → holders_of q fewer ≡ n → length after ≡ length (published fewer)
+    go zero none =
+        let own = whole ∙ ap (λ (n : ℕ). length before + (if is_some (counted n) then 1 else 0)) none in
+        let first : length (published more) ≡ length (published fewer) + 1 = (first_changes laws fewer more q gains held up none).members in
+        omega (arith, own, before_len, first)
+    go (suc n) some =
+        let own = whole ∙ ap (λ (n : ℕ). length before + (if is_some (counted n) then 1 else 0)) some in
+        let again : published more ≡ published fewer = published_again laws fewer more q gains (omega (arith, some)) in
+        omega (arith, own, before_len, ap length again)

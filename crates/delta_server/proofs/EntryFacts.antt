@@ -139,7 +139,7 @@ gains_push entries added = record {
       ∙ ap (λ n. holders_of other entries + n) (holders_cons other added [] ∙ zero-add (if has_prefix other added then 1 else 0));
 }
 
-pub prefix_at-push : (entries : List Added) (added : Added) (other : List ℕ) → Lacks entries added.hash
+prefix_at-push : (entries : List Added) (added : Added) (other : List ℕ) → Lacks entries added.hash
     → prefix_at other (entries ++ added ∷ []) ≡ (if bytes_eq added.hash other then Some (prefix_of added) else prefix_at other entries)
 prefix_at-push [] added other lacks = refl
 prefix_at-push (e ∷ es) added other lacks = go (bytes_eq e.hash other) refl (prefix_at-push es added other lacks.1)
@@ -157,10 +157,31 @@ all_push : (P : Added → Type 0) (entries : List Added) (added : Added) → All
 all_push P [] added all here = (here, tt)
 all_push P (e ∷ es) added all here = (all.0, all_push P es added all.1 here)
 
-pub apart_push : (entries : List Added) (added : Added) → AreApart entries → Lacks entries added.hash → AreApart (entries ++ added ∷ [])
+apart_push : (entries : List Added) (added : Added) → AreApart entries → Lacks entries added.hash → AreApart (entries ++ added ∷ [])
 apart_push [] added apart lacks = (tt, tt)
 apart_push (e ∷ es) added apart lacks =
     (all_push (λ (other : Added). bytes_eq other.hash e.hash ≡ false) es added apart.0 (flip_other e.hash added.hash lacks.0), apart_push es added apart.1 lacks.1)
+
+-- ---- with an entry in place of the one that its hash had
+
+lacks_without : (entries : List Added) (hash : List ℕ) → Lacks (without_hash entries hash) hash
+lacks_without entries hash = lacks_none (without_hash entries hash) hash
+    (prefix_at-without_hash entries hash hash ∙ ap (λ (t : Bool). if t then None else prefix_at hash entries) (same_bytes hash hash refl))
+
+pub prefix_at-with_added : (entries : List Added) (added : Added) (other : List ℕ)
+    → prefix_at other (with_added entries added) ≡ (if bytes_eq added.hash other then Some (prefix_of added) else prefix_at other entries)
+prefix_at-with_added entries added other =
+    prefix_at-push (without_hash entries added.hash) added other (lacks_without entries added.hash)
+    ∙ go (bytes_eq added.hash other) (prefix_at-without_hash entries added.hash other)
+  where
+    go : (t : Bool) → prefix_at other (without_hash entries added.hash) ≡ (if t then None else prefix_at other entries)
+        → (if t then Some (prefix_of added) else prefix_at other (without_hash entries added.hash)) ≡ (if t then Some (prefix_of added) else prefix_at other entries)
+    go true is = refl
+    go false is = is
+
+pub apart_added : (entries : List Added) (added : Added) → AreApart entries → AreApart (with_added entries added)
+apart_added entries added apart =
+    apart_push (without_hash entries added.hash) added (apart_without entries added.hash apart) (lacks_without entries added.hash)
 
 -- ---- entries that are apart, put in one by one
 
@@ -190,11 +211,13 @@ taken_count entries hash left None apart is count =
     omega (arith, count, ap length same)
 taken_count entries hash left (Some prefix) apart is count = omega (arith, count, (goes entries hash prefix apart (sym is)).count)
 
-pub put_count : (entries : List Added) (added : Added) (before after : ℕ) (found : Option (List ℕ)) → found ≡ None → before ≡ length entries
-    → after ≡ before + (if is_some found then 0 else 1) → after ≡ length (entries ++ added ∷ [])
-put_count entries added before after found none is count =
-    let one : after ≡ before + 1 = count ∙ ap (λ (o : Option (List ℕ)). before + (if is_some o then 0 else 1)) none in
-    omega (arith, one, is, length-append entries (added ∷ []))
+pub added_count : (entries : List Added) (added : Added) (before after : ℕ) (found : Option (List ℕ)) → AreApart entries → found ≡ prefix_at added.hash entries
+    → before ≡ length entries → after ≡ before + (if is_some found then 0 else 1) → after ≡ length (with_added entries added)
+added_count entries added before after None apart is count grows =
+    let same : without_hash entries added.hash ≡ entries = without_lacking entries added.hash (lacks_none entries added.hash (sym is)) in
+    omega (arith, count, grows, ap length same, length-append (without_hash entries added.hash) (added ∷ []))
+added_count entries added before after (Some prefix) apart is count grows =
+    omega (arith, count, grows, (goes entries added.hash prefix apart (sym is)).count, length-append (without_hash entries added.hash) (added ∷ []))
 
 -- ---- a fold that goes on
 

@@ -1,6 +1,7 @@
 pub mod AnswerFacts
 pub mod CountFacts
 pub mod EntryFacts
+pub mod FindFacts
 pub mod Membership
 pub mod NumberFacts
 pub mod SetCounts

@@ -1,13 +1,17 @@
 -- Members of one size, their bytes and their numbers, in a walk through the members.
-use Rattle.std.proofs.Common.{◌≡◌, ℕ, zero, suc, ◌+◌, ◌-◌, ◌*◌, ◌<◌, ◌≤◌, Bool, true, false, cond, List, [], ◌∷◌, ◌++◌, length, take, map, get_or, refl, sym, ap, ◌∙◌, arith, append-nil, length-append}
+use Rattle.std.proofs.Common.{◌≡◌, ℕ, zero, suc, ◌+◌, ◌-◌, ◌*◌, ◌<◌, ◌≤◌, Bool, true, false, cond, List, [], ◌∷◌, ◌++◌, length, take, map, get_or, set, replicate, refl, sym, ap, ◌∙◌, arith, append-nil, length-append}
 use Rattle.std.specs.Prelude.{◌==◌, ◌%◌, ◌||◌, filter}
 use Rattle.std.specs.Int.{w32, from_le_bytes}
 use Rattle.std.specs.List.{list_any, range_with_len}
-use Rattle.std.proofs.lemmas.Bool.{eqb-true}
-use Rattle.std.proofs.lemmas.List.{map-append}
+use Rattle.std.proofs.lemmas.Bool.{eqb-true, false≢true}
+use Rattle.std.proofs.lemmas.Bool.Decides.{Decides-eqb}
+use Rattle.std.proofs.Math.Bool.{or-false, or-true}
+use Rattle.std.proofs.lemmas.Grind.{get_or-set_at}
+use Rattle.std.proofs.lemmas.List.{map-append, get_or-set_other}
 use Rattle.std.proofs.Math.Nat.{mul-mod_left}
 use Rattle.std.proofs.lemmas.List.Concat.{flat_map-append}
 use Rattle.std.proofs.lemmas.List.Elements.{filter-append, filter_more}
+use Rattle.std.proofs.lemmas.List.Folds.{list_any_more}
 use Rattle.sb_model.specs.Prefixes.{concatenation}
 use Rattle.update_messages.specs.declared.sets.Additions.{Additions}
 use Rattle.update_messages.specs.Answer.{has_size, addition_set}
@@ -113,3 +117,27 @@ whole_pieces size members low =
             → length (concatenation (cond b (m ∷ filter (has_size size) ms) (filter (has_size size) ms))) ≡ length (cond b (m ∷ filter (has_size size) ms) (filter (has_size size) ms)) * size
         go true is more = omega (arith, length-append m (concatenation (filter (has_size size) ms)), eqb-true (length m) size is, more)
         go false is more = more
+
+-- ---- which sizes occur, in a walk through the members
+
+pub none_set : (n size : ℕ) → get_or (replicate n false) size false ≡ false
+none_set zero size = refl
+none_set (suc n) zero = refl
+none_set (suc n) (suc size) = none_set n size
+
+-- the size of one member more is set
+pub sizes_more : (sizes : List Bool) (members : List (List ℕ)) (i : ℕ) (member : List ℕ) → i < length members → member ≡ get_or members i member
+    → length member < length sizes → ((size : ℕ) → size < 33 → get_or sizes size false ≡ list_any (has_size size) (take i members))
+    → (size : ℕ) → size < 33 → get_or (set sizes (length member) true) size false ≡ list_any (has_size size) (take (i + 1) members)
+sizes_more sizes members i member below is within before size small =
+    go (length member == size) refl
+    ∙ sym (list_any_more (has_size size) members i member below ∙ ap (λ (m : List ℕ). list_any (has_size size) (take i members) || has_size size m) (sym is))
+  where
+    go : (t : Bool) → (length member == size) ≡ t → get_or (set sizes (length member) true) size false ≡ (list_any (has_size size) (take i members) || (length member == size))
+    go true same =
+        get_or-set_at sizes (length member) size true false (sym (eqb-true (length member) size same)) within
+        ∙ sym (ap (λ (t : Bool). list_any (has_size size) (take i members) || t) same ∙ or-true (list_any (has_size size) (take i members)))
+    go false other =
+        get_or-set_other sizes (length member) size true false (λ e. false≢true (sym other ∙ ap (λ (n : ℕ). length member == n) e ∙ (Decides-eqb (length member) (length member)).1 refl))
+        ∙ before size small
+        ∙ sym (ap (λ (t : Bool). list_any (has_size size) (take i members) || t) other ∙ or-false (list_any (has_size size) (take i members)))

@@ -1,13 +1,11 @@
 -- How a walk counts: for each full hash the prefix that is published of it, and for each prefix the full hashes that have it.
 use Rattle.std.specs.Prelude.{◌≡◌, ℕ, zero, suc, ◌+◌, Bool, false, List, [], ◌∷◌, length, filter, Option, Some, None, if◌then◌else◌}
-use Rattle.std.specs.BTreeMap.{is_at}
 use Rattle.std.specs.List.{AllByRecursion}
 use Rattle.std.specs.Map.{lookup}
 use Rattle.std.specs.Str.{bytes_eq}
 use Rattle.sb_model.specs.declared.history.Added.{Added}
 use Rattle.sb_model.specs.Difference.{has_member}
 use Rattle.sb_model.specs.History.{prefix_of}
-use Rattle.sb_model.specs.Prefixes.{bytes_cmp}
 use Rattle.delta_server.specs.Walk.{published}
 use Rattle.delta_server.specs.declared.holders.Holders.{Holders}
 use Rattle.delta_server.specs.declared.hashes.Hashes.{Hashes}
@@ -15,11 +13,11 @@ use Rattle.delta_server.specs.declared.hashes.Hashes.{Hashes}
 -- ---- maps whose keys are strings of bytes
 
 abbrev pub found_in : {X : Type 0} → List (List ℕ × X) → List ℕ → Option X
-found_in entries key = lookup (is_at (bytes_cmp key)) entries
+found_in entries key = lookup (bytes_eq key) entries
 
 -- what a map becomes where the value of a key is put or taken out
 abbrev pub Puts : {X : Type 0} → List (List ℕ × X) → List (List ℕ × X) → List ℕ → Option X → Type 0
-Puts before after key value = (other : List ℕ) → found_in after other ≡ (if is_at (bytes_cmp key) other then value else found_in before other)
+Puts before after key value = (other : List ℕ) → found_in after other ≡ (if bytes_eq key other then value else found_in before other)
 
 -- ---- the full hashes that have a prefix
 

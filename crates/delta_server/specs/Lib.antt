@@ -1,5 +1,6 @@
 pub mod Answering
 pub mod Counts
+pub mod Finding
 pub mod Served
 pub mod Tokens
 pub mod Updates

@@ -43,8 +43,8 @@ impl From<OutOfMemory> for ServeFault {
     }
 }
 
-// Whether a history declares a list.
-fn is_declared(history: &History, list: ListName) -> bool
+/// Whether a history declares a list.
+pub(crate) fn is_declared(history: &History, list: ListName) -> bool
     ensures { result ≡ declares history.now.versions list }
 {
     history.newest(list).is_some()

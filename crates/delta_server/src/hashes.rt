@@ -1,17 +1,18 @@
-ghost use Rattle.std.specs.Prelude.{◌≡◌, ℕ, ◌+◌, ◌<◌, ◌^◌, List, [], ◌∷◌, ◌++◌, length, None, OnOk};
+ghost use Rattle.std.specs.Prelude.{◌≡◌, ◌<◌, ◌^◌, List, [], length, IfOk, OnOk};
 ghost use Rattle.sb_model.specs.declared.history.Added.{Added as Entry};
-ghost use Rattle.sb_model.specs.History.{prefix_of, without_hash};
+ghost use Rattle.sb_model.specs.History.{prefix_of, without_hash, with_added};
 ghost use Rattle.delta_server.specs.Counts.{prefix_at, Knows};
 
 use hash_prefixes::Prefix;
 use sb_model::OutOfMemory;
 use std::alloc::Global;
-use std::collections::BTreeMap;
+use std::collections::HashMap;
 
-/// The full hashes of a version, each with the prefix that is published of it.
+/// The full hashes of a version, each with the prefix that is published of it. They are digests, so
+/// that a fixed seed spreads them well enough.
 #[derive(Drop)]
 pub(crate) struct Hashes {
-    pub(crate) prefixes: BTreeMap<[u8; 32], Prefix>,
+    pub(crate) prefixes: HashMap<[u8; 32], Prefix>,
 }
 
 impl Hashes {
@@ -19,7 +20,7 @@ impl Hashes {
         ensures { Knows result [] }
     {
         Hashes {
-            prefixes: BTreeMap::new(alloc),
+            prefixes: HashMap::new(alloc),
         }
     }
 
@@ -32,14 +33,20 @@ impl Hashes {
         self.prefixes.remove(hash)
     }
 
-    // Puts a full hash in, which was not there.
-    pub(crate) fn put(&mut self, hash: [u8; 32], prefix: Prefix) -> Result<(), OutOfMemory>
+    // Puts a full hash in, in place of the size that it had, and gives its prefix where it was there.
+    pub(crate) fn put(
+        &mut self,
+        hash: [u8; 32],
+        prefix: Prefix,
+    ) -> Result<Option<Prefix>, OutOfMemory>
+        ensures prefix { IfOk result (λ gone. (entries : List Entry) → Knows self.old entries
+            → gone ≡ prefix_at hash entries) }
         ensures knows { OnOk result ((entries : List Entry) (added : Entry) → added.hash ≡ hash → prefix_of added ≡ prefix
-            → prefix_at hash entries ≡ None → Knows self.old entries → Knows self.new (entries ++ added ∷ [])) }
+            → Knows self.old entries → Knows self.new (with_added entries added)) }
         ensures few { OnOk result ((entries : List Entry) → Knows self.new entries → length entries < 2 ^ 63) }
     {
-        self.prefixes.insert(hash, prefix)?;
+        let gone = self.prefixes.insert(hash, prefix)?;
         let _ = self.prefixes.len();
-        Ok(())
+        Ok(gone)
     }
 }

@@ -1,51 +1,53 @@
-ghost use Rattle.std.specs.Prelude.{◌≡◌, ℕ, ◌+◌, ◌<◌, ◌^◌, List, [], length, Some, None, is_some, IfOk, OnOk, if◌then◌else◌};
+ghost use Rattle.std.specs.Prelude.{◌≡◌, ℕ, ◌+◌, ◌-◌, ◌<◌, ◌^◌, min, List, [], length, Some, is_some, IfOk, OnOk, if◌then◌else◌};
 ghost use Rattle.std.specs.Option.{unwrap_or};
 ghost use Rattle.sb_model.specs.declared.history.Added.{Added as Entry};
 ghost use Rattle.sb_model.specs.Difference.{difference_count};
-ghost use Rattle.delta_server.specs.Counts.{found_in, Puts, Gains, Counts};
+ghost use Rattle.sb_model.specs.History.{without_hash};
+ghost use Rattle.delta_server.specs.Counts.{found_in, Puts, counted, Gains, Counts, AreApart, prefix_at};
 ghost use Rattle.delta_server.specs.Walk.{published};
 
 use hash_prefixes::Prefix;
 use prefix_set::{PrefixSet, sets_go_by_members};
 use sb_model::OutOfMemory;
 use std::alloc::Global;
-use std::collections::BTreeMap;
+use std::collections::HashMap;
 
-// The count of a prefix.
-fn count_of(counts: &BTreeMap<Prefix, u64>, prefix: &Prefix) -> u64
-    ensures { result ≡ unwrap_or (found_in counts.now.entries prefix.now) 0 }
-{
-    counts.get(prefix).copied().unwrap_or(0)
-}
+/// How many full hashes have each prefix. These are bytes of digests, so that a fixed seed spreads
+/// them well enough.
+pub(crate) type HolderCounts = HashMap<Prefix, u64>;
 
-// Puts the count of a prefix.
-fn put_count(
-    counts: &mut BTreeMap<Prefix, u64>,
-    prefix: Prefix,
-    count: u64,
-) -> Result<(), OutOfMemory>
-    ensures puts { OnOk result (Puts counts.old.entries counts.new.entries prefix (Some count)) }
+// Counts one more, and gives the count before.
+fn raise(counts: &mut HolderCounts, prefix: Prefix) -> Result<u64, OutOfMemory>
+    ensures before { IfOk result (λ count. count ≡ unwrap_or (found_in counts.old.entries prefix) 0) }
+    ensures puts { IfOk result (λ count. Puts counts.old.entries counts.new.entries prefix (Some (min (count + 1) (2 ^ 64 - 1)))) }
     ensures len { OnOk result (length counts.new.entries
         ≡ length counts.old.entries + (if is_some (found_in counts.old.entries prefix) then 0 else 1)) }
 {
-    counts.insert(prefix, count)?;
-    Ok(())
+    let count = counts.entry(prefix)?.or_insert(0);
+    let before = *count;
+    *count = before.saturating_add(1);
+    Ok(before)
 }
 
-// Takes the count of a prefix out.
-fn drop_count(counts: &mut BTreeMap<Prefix, u64>, prefix: &Prefix)
-    ensures puts { Puts counts.old.entries counts.new.entries prefix.now None }
-    ensures len { length counts.new.entries + (if is_some (found_in counts.old.entries prefix.now) then 1 else 0)
-        ≡ length counts.old.entries }
+// Counts one less, and gives the count that is left.
+fn lower(counts: &mut HolderCounts, prefix: Prefix) -> Result<u64, OutOfMemory>
+    ensures left { IfOk result (λ left. left ≡ unwrap_or (found_in counts.old.entries prefix) 0 - 1) }
+    ensures puts { IfOk result (λ left. Puts counts.old.entries counts.new.entries prefix (counted left)) }
+    ensures len { IfOk result (λ left. length counts.new.entries + (if is_some (found_in counts.old.entries prefix) then 1 else 0)
+        ≡ length counts.old.entries + (if is_some (counted left) then 1 else 0)) }
 {
-    let _ = counts.remove(prefix);
+    let left = counts.remove(&prefix).unwrap_or(0).saturating_sub(1);
+    if left > 0 {
+        counts.insert(prefix, left)?;
+    }
+    Ok(left)
 }
 
 /// How many full hashes of a version have each prefix, beside a set that a client holds.
 #[derive(Drop)]
 pub(crate) struct Holders<'a> {
     pub(crate) held: &'a PrefixSet,
-    pub(crate) counts: BTreeMap<Prefix, u64>,
+    pub(crate) counts: HolderCounts,
     // how many prefixes the held set has too
     pub(crate) shared: u64,
 }
@@ -57,7 +59,7 @@ impl<'a> Holders<'a> {
     {
         Holders {
             held,
-            counts: BTreeMap::new(alloc),
+            counts: HashMap::new(alloc),
             shared: 0,
         }
     }
@@ -70,30 +72,36 @@ impl<'a> Holders<'a> {
     {
         sets_go_by_members();
         let _ = self.held.len();
-        let count = count_of(&self.counts, &prefix);
-        put_count(&mut self.counts, prefix, count.saturating_add(1))?;
-        if count == 0 && self.held.contains(&prefix) {
+        let before = raise(&mut self.counts, prefix)?;
+        if before == 0 && self.held.contains(&prefix) {
             self.shared = self.shared.saturating_add(1);
         }
         Ok(())
     }
 
     // One full hash less has the prefix.
-    pub(crate) fn leave(&mut self, prefix: Prefix) -> Result<(), OutOfMemory>
+    fn leave(&mut self, prefix: Prefix) -> Result<(), OutOfMemory>
         ensures ok { OnOk result ((fewer more : List Entry) → Gains fewer more prefix
             → Counts self.old more → Counts self.new fewer) }
         ensures held { self.new.held.now ≡ self.old.held.now }
     {
         sets_go_by_members();
         let _ = self.held.len();
-        let count = count_of(&self.counts, &prefix);
-        if count > 1 {
-            put_count(&mut self.counts, prefix, count - 1)?;
-            return Ok(());
-        }
-        drop_count(&mut self.counts, &prefix);
-        if self.held.contains(&prefix) {
+        let left = lower(&mut self.counts, prefix)?;
+        if left == 0 && self.held.contains(&prefix) {
             self.shared = self.shared.saturating_sub(1);
+        }
+        Ok(())
+    }
+
+    // A full hash went, where it had a prefix.
+    pub(crate) fn leave_if(&mut self, gone: Option<Prefix>) -> Result<(), OutOfMemory>
+        ensures ok { OnOk result ((entries : List Entry) (hash : List ℕ) → AreApart entries → gone ≡ prefix_at hash entries
+            → Counts self.old entries → Counts self.new (without_hash entries hash)) }
+        ensures held { self.new.held.now ≡ self.old.held.now }
+    {
+        if let Some(prefix) = gone {
+            self.leave(prefix)?;
         }
         Ok(())
     }

@@ -1,12 +1,14 @@
 //! What a list server answers: the state tokens of its versions, the version that a client is
-//! brought to, the update that leads there, and the answer to a fetch request.
+//! brought to, the update that leads there, and the answers to a fetch request and to a find request.
 //!
-//! `specs/Tokens.antt` has the naming of versions, `Updates` an update between two sets, and
-//! `Answering` which request is refused. The answer to a whole request is defined in
-//! `update_messages`, for any naming.
+//! `specs/Tokens.antt` has the naming of versions, `Updates` an update between two sets,
+//! `Answering` which fetch request is refused, and `Finding` parts of the answer to a find request.
+//! The answer to a whole fetch request is defined in `update_messages`, for any naming, and that to
+//! a find request in `hash_messages`.
 #![tactic(auto)]
 
 pub use answering::{ServeFault, Settings, answer_fetch};
+pub use finding::answer_find;
 pub use laws::tokens_name_versions;
 pub use sets::{addition_sets, removal_sets};
 pub use tokens::{held_version, read_state, state_token};
@@ -14,10 +16,12 @@ pub use updates::{Sent, full_update, partial_update, unchanged_update};
 pub use walk::{changes_taken, target_of};
 
 mod answering;
+mod finding;
 mod hashes;
 mod holders;
 mod items;
 mod laws;
+mod names;
 mod numbers;
 mod served;
 mod sets;

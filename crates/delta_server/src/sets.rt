@@ -1,4 +1,4 @@
-ghost use Rattle.std.specs.Prelude.{◌≡◌, ℕ, ◌<◌, ◌≤◌, [], ◌∷◌, length, filter, IfOk, IsTrue, All};
+ghost use Rattle.std.specs.Prelude.{◌≡◌, ℕ, ◌<◌, ◌≤◌, [], ◌∷◌, false, length, filter, slice_index_or, IfOk, IsTrue, All};
 ghost use Rattle.std.specs.List.{list_any};
 ghost use Rattle.std.specs.List.Sorted.{IsStrictlyIncreasing};
 ghost use Rattle.sb_model.specs.Prefixes.{concatenation};
@@ -14,11 +14,16 @@ use sb_model::{Bytes, OutOfMemory, Row};
 use std::alloc::Global;
 use update_messages::{Additions, Removals};
 
-// Whether some member has this many bytes.
-fn has_member_of(members: &[Prefix], size: u8) -> bool
-    ensures { result ≡ list_any (has_size size) members.now }
+// For each size up to 32 whether some member has so many bytes.
+fn sizes_in(members: &[Prefix]) -> [bool; 33]
+    ensures occurs { (size : ℕ) → size < 33 → slice_index_or result size false ≡ list_any (has_size size) members.now }
+    ensures length { length result ≡ 33 }
 {
-    members.iter().any(|member| member.size() == size)
+    let mut sizes = [false; 33];
+    for member in members {
+        sizes[member.size() as usize] = true;
+    }
+    sizes
 }
 
 // The members of one size, one after the other.
@@ -67,9 +72,10 @@ pub fn addition_sets(
     ensures sets { IfOk result (λ sets. sets ≡ addition_sets rice members.now) }
     ensures keep { IfOk result (All IsAddition) }
 {
+    let sizes = sizes_in(members);
     let mut sets = Row::new(alloc);
     for size in 4..33 {
-        if has_member_of(members, size) {
+        if sizes[size as usize] {
             sets.push(addition_set(alloc, members, size, rice)?)?;
         }
     }

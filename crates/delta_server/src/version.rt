@@ -52,10 +52,8 @@ impl<'a> Version<'a> {
             → Stands self.new (without_hash entries hash.now)) }
         ensures held { self.new.holders.held.now ≡ self.old.holders.held.now }
     {
-        let Some(prefix) = self.hashes.take(hash) else {
-            return Ok(());
-        };
-        self.holders.leave(prefix)?;
+        let gone = self.hashes.take(hash);
+        self.holders.leave_if(gone)?;
         Ok(())
     }
 
@@ -66,10 +64,10 @@ impl<'a> Version<'a> {
             → Stands self.new (with_added entries added.now)) }
         ensures held { self.new.holders.held.now ≡ self.old.holders.held.now }
     {
-        self.remove(&added.hash)?;
         let hash = FullHash { bytes: added.hash };
         let prefix = hash.prefix(added.size);
-        self.hashes.put(added.hash, prefix)?;
+        let gone = self.hashes.put(added.hash, prefix)?;
+        self.holders.leave_if(gone)?;
         self.holders.enter(prefix)?;
         Ok(())
     }

@@ -26,14 +26,15 @@ change MALWARE/ANY_PLATFORM/URL 1 0
 +6161616162626262000000000000000000000000000000000000000000000000
 ";
 
-const SETTINGS: Settings = Settings {
+/// What the server says of times.
+pub const SETTINGS: Settings = Settings {
     wait: 1_800,
     cache: 300,
     negative: 300,
 };
 
-// Text whose quotes are written as apostrophes.
-fn append_quoted(bytes: &mut Bytes, text: &str) -> Result<(), OutOfMemory> {
+/// Appends text whose quotes are written as apostrophes.
+pub fn append_quoted(bytes: &mut Bytes, text: &str) -> Result<(), OutOfMemory> {
     for byte in text.as_bytes() {
         bytes.push(if *byte == b'\'' { b'"' } else { *byte })?;
     }

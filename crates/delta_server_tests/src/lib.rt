@@ -4,6 +4,8 @@
 #[cfg(test)]
 mod fetches;
 #[cfg(test)]
+mod finds;
+#[cfg(test)]
 mod journals;
 #[cfg(test)]
 mod sets;

@@ -1,10 +1,14 @@
 use Rattle.std.proofs.Common.{◌≤◌, ℕ, List, [], take, length, ap, sym, subst, ◌∙◌, refl}
 use Rattle.std.specs.Prelude.{IfSome}
 use Rattle.std.proofs.lemmas.List.{take_rest}
+use Rattle.std.proofs.lemmas.List.Elements.{All-take}
 use Rattle.sb_model.specs.declared.history.Change.{Change}
-use Rattle.delta_server.specs.Walk.{held_set}
+use Rattle.delta_server.specs.Walk.{HasSizes, held_set}
 use Rattle.delta_server.proofs.TargetFacts.{target_is, front_passed, walk_is}
 use Rattle.delta_server.proofs.walk.target_of.Goals as goal
+
+pub pass_each-requires : goal.pass_each-requires
+pass_each-requires c = All-take HasSizes c.unwrap_or-first.result c.args.changes.now c.requires.added
 
 pub returns : goal.returns
 returns c = λ history same.
