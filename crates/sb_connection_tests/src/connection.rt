@@ -133,11 +133,23 @@ fn a_list_is_answered_with_its_prefixes(rt: HostRuntime) {
 }
 
 #[test]
+fn full_hashes_are_answered(rt: HostRuntime) {
+    is_answered(
+        &rt,
+        rt.alloc(),
+        &HALF_AN_HOUR,
+        b"POST /v4/fullHashes:find?key=a HTTP/1.1\r\nContent-Length: 160\r\n\r\n{\"threatInfo\":{\"threatTypes\":[\"MALWARE\"],\"platformTypes\":[\"ANY_PLATFORM\"],\"threatEntryTypes\":[\"URL\"],\"threatEntries\":[{\"hash\":\"MTIzNA==\"},{\"hash\":\"NTY3OA==\"}]}}",
+        Status::Success,
+        b"HTTP/1.1 200 OK\r\nContent-Type: application/json\r\nContent-Length: 241\r\nContent-Digest: sha-256=:OIYHsYWNH+5o6h87DJgIlLRJI8SFTuOKf7xhnAu3JOo=:\r\nConnection: close\r\n\r\n{\"matches\":[{\"cacheDuration\":\"300s\",\"platformType\":\"ANY_PLATFORM\",\"threat\":{\"hash\":\"MTIzNAAAAAAAAAAAAAAAAAAAAAAAAAAAAAAAAAAAAAA=\"},\"threatEntryType\":\"URL\",\"threatType\":\"MALWARE\"}],\"minimumWaitDuration\":\"1800s\",\"negativeCacheDuration\":\"300s\"}",
+    );
+}
+
+#[test]
 fn other_paths_are_not_found(rt: HostRuntime) {
     for request in [
         b"POST /x HTTP/1.1\r\nContent-Length: 0\r\n\r\n" as &[u8],
-        b"GET /v4/fullHashes:find HTTP/1.1\r\n\r\n",
-        b"POST /v4/fullHashes:find?key=a HTTP/1.1\r\nContent-Length: 2\r\n\r\n{}",
+        b"GET /v4/fullHashes HTTP/1.1\r\n\r\n",
+        b"POST /v4/fullHashes:find/?key=a HTTP/1.1\r\nContent-Length: 2\r\n\r\n{}",
         b"POST /x?/v4/threatListUpdates:fetch HTTP/1.1\r\nContent-Length: 2\r\n\r\n{}",
         b"POST /v4/threatListUpdates:fetch/ HTTP/1.1\r\nContent-Length: 2\r\n\r\n{}",
         b"POST /v4/threatListUpdates?:fetch HTTP/1.1\r\nContent-Length: 2\r\n\r\n{}",
@@ -159,6 +171,7 @@ fn another_method_is_told_the_right_one(rt: HostRuntime) {
         b"GET /v4/threatListUpdates:fetch HTTP/1.1\r\n\r\n" as &[u8],
         b"GET /v4/threatListUpdates:fetch?key=a HTTP/1.1\r\nContent-Length: 2\r\n\r\n{}",
         b"post /v4/threatListUpdates:fetch HTTP/1.1\r\nContent-Length: 2\r\n\r\n{}",
+        b"GET /v4/fullHashes:find HTTP/1.1\r\n\r\n",
     ] {
         is_answered(
             &rt,
@@ -173,26 +186,36 @@ fn another_method_is_told_the_right_one(rt: HostRuntime) {
 
 #[test]
 fn a_body_needs_a_length(rt: HostRuntime) {
-    is_answered(
-        &rt,
-        rt.alloc(),
-        &NO_WAIT,
-        b"POST /v4/threatListUpdates:fetch HTTP/1.1\r\n\r\n{}",
-        Status::LengthRequired,
-        b"HTTP/1.1 411 Length Required\r\nContent-Type: application/json\r\nContent-Length: 0\r\nContent-Digest: sha-256=:47DEQpj8HBSa+/TImW+5JCeuQeRkm5NMpJWZG3hSuFU=:\r\nConnection: close\r\n\r\n",
-    );
+    for request in [
+        b"POST /v4/threatListUpdates:fetch HTTP/1.1\r\n\r\n{}" as &[u8],
+        b"POST /v4/fullHashes:find HTTP/1.1\r\n\r\n{}",
+    ] {
+        is_answered(
+            &rt,
+            rt.alloc(),
+            &NO_WAIT,
+            request,
+            Status::LengthRequired,
+            b"HTTP/1.1 411 Length Required\r\nContent-Type: application/json\r\nContent-Length: 0\r\nContent-Digest: sha-256=:47DEQpj8HBSa+/TImW+5JCeuQeRkm5NMpJWZG3hSuFU=:\r\nConnection: close\r\n\r\n",
+        );
+    }
 }
 
 #[test]
 fn a_body_has_a_limit(rt: HostRuntime) {
-    is_answered(
-        &rt,
-        rt.alloc(),
-        &NO_WAIT,
-        b"POST /v4/threatListUpdates:fetch HTTP/1.1\r\nContent-Length: 1048577\r\n\r\n{}",
-        Status::ContentTooLarge,
-        b"HTTP/1.1 413 Content Too Large\r\nContent-Type: application/json\r\nContent-Length: 0\r\nContent-Digest: sha-256=:47DEQpj8HBSa+/TImW+5JCeuQeRkm5NMpJWZG3hSuFU=:\r\nConnection: close\r\n\r\n",
-    );
+    for request in [
+        b"POST /v4/threatListUpdates:fetch HTTP/1.1\r\nContent-Length: 1048577\r\n\r\n{}" as &[u8],
+        b"POST /v4/fullHashes:find HTTP/1.1\r\nContent-Length: 1048577\r\n\r\n{}",
+    ] {
+        is_answered(
+            &rt,
+            rt.alloc(),
+            &NO_WAIT,
+            request,
+            Status::ContentTooLarge,
+            b"HTTP/1.1 413 Content Too Large\r\nContent-Type: application/json\r\nContent-Length: 0\r\nContent-Digest: sha-256=:47DEQpj8HBSa+/TImW+5JCeuQeRkm5NMpJWZG3hSuFU=:\r\nConnection: close\r\n\r\n",
+        );
+    }
 }
 
 /// The beginning of a head, of more than 16,384 bytes.
@@ -228,6 +251,8 @@ fn bad_requests_are_told(rt: HostRuntime) {
         b"POST /v4/threatListUpdates:fetch HTTP/1.1\r\nContent-Length: x\r\n\r\n{}",
         b"POST /v4/threatListUpdates:fetch HTTP/1.1\r\nContent-Length: 3\r\n\r\n{}",
         b"POST /v4/threatListUpdates:fetch HTTP/1.1\r\nContent-Length: 1\r\n\r\n[",
+        b"POST /v4/fullHashes:find HTTP/1.1\r\nContent-Length: 1\r\n\r\n[",
+        b"POST /v4/fullHashes:find HTTP/1.1\r\nContent-Length: 2\r\n\r\n{}",
         b"POST /v4/threatListUpdates:fetch HTTP/1.1\r\nContent-Length: 2\r\n\r\n[]",
         b"POST /v4/threatListUpdates:fetch HTTP/1.1\r\nContent-Length: 96\r\n\r\n{\"listUpdateRequests\":[{\"threatType\":\"MALWARE\",\"platformType\":\"LINUX\",\"threatEntryType\":\"URL\"}]}",
     ] {

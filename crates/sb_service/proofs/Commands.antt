@@ -1,9 +1,10 @@
 -- What a command line says.
-use Rattle.std.proofs.Common.{◌≡◌, Bool, true, false, List, [], ◌∷◌, refl, sym, ap, ◌∙◌, subst, Option, Some, None, codes}
-use Rattle.std.specs.Prelude.{option_map, option_and_then, ◌&&◌, if◌then◌else◌}
+use Rattle.std.proofs.Common.{◌≡◌, Bool, true, false, List, [], ◌∷◌, refl, sym, ◌∙◌, subst, Option, Some, None, codes}
+use Rattle.std.specs.Prelude.{option_and_then, ◌&&◌, if◌then◌else◌}
 use Rattle.std.specs.Str.{bytes_eq}
 use Rattle.std.proofs.lemmas.Slice.Eq.{bytes_eq-Decides}
 use Rattle.sb_words.specs.CommandLine.{Text, Given, CommandShape, given_of}
+use Rattle.sb_outside.specs.declared.links.Kind.{Kind}
 use Rattle.delta_server.specs.declared.answering.Settings.{Settings}
 use Rattle.sb_service.specs.declared.command.Command.{Command}
 use Rattle.sb_service.specs.declared.command.Command.TheVariants.{Answer, Serve}
@@ -45,31 +46,28 @@ no_serve : (words : List Text) (answer : AnswerWords) (found : Option ServeWords
 no_serve words answer None e h = refl
 no_serve words answer (Some line) e h = absurd (both_not words answer line e h)
 
-some_answer : (answer : Option AnswerWords) (settings : Settings) → option_map (λ (a : AnswerWords). a.settings) answer ≡ Some settings → (some : AnswerWords) × (answer ≡ Some some)
-some_answer None settings is = absurd (cc)
-some_answer (Some answer) settings is = (answer, refl)
-
 -- words of `answer` are none of `serve`
-pub asks_answer : (words : List Text) (settings : Settings) → option_map (λ (a : AnswerWords). a.settings) (answer_of words) ≡ Some settings → AsksAnswer words settings
-asks_answer words settings is =
-    let some = some_answer (answer_of words) settings is in
-    record { answer = is; serve = no_serve words some.0 (serve_of words) some.1 refl }
+pub asks_answer : (words : List Text) (line : AnswerWords) → answer_of words ≡ Some line → AsksAnswer words line.kind line.settings
+asks_answer words line is = record { line = line; answer = is; asked = refl; times = refl; serve = no_serve words line (serve_of words) is refl }
 
 -- ---- the command
 
 -- a command is some command
 pub is_some_command : (words : List Text) (command : Command) → IsCommandOf words (Some command) → IsNoCommand words → ⊥
-is_some_command words (Answer settings) asks none = let e : option_map (λ (answer : AnswerWords). answer.settings) (answer_of words) ≡ None = ap (option_map (λ (answer : AnswerWords). answer.settings)) none.answer in absurd (let h = asks.answer in cc)
+is_some_command words (Answer sort settings) asks none = absurd (let h = asks.answer in let k = none.answer in cc)
 is_some_command words (Serve settings connections) asks none = absurd (let h = asks.serve in let k = none.serve in cc)
 
-by_answer : (words : List Text) (command : Command) (answer : AnswerWords) → IsCommandOf words (Some command) → answer_of words ≡ Some answer → command ≡ Answer answer.settings
-by_answer words (Answer settings) answer asks e =
-    let said : Some answer.settings ≡ Some settings = ap (option_map (λ (a : AnswerWords). a.settings)) (sym e) ∙ asks.answer in
+by_answer : (words : List Text) (command : Command) (line : AnswerWords) → IsCommandOf words (Some command) → answer_of words ≡ Some line → command ≡ Answer line.kind line.settings
+by_answer words (Answer sort settings) line asks e =
+    let same : Some asks.line ≡ Some line = sym asks.answer ∙ e in
+    let is : asks.line ≡ line = cc in
+    let asked = asks.asked in
+    let times = asks.times in
     cc
-by_answer words (Serve settings connections) answer asks e = absurd (let h = asks.answer in cc)
+by_answer words (Serve settings connections) line asks e = absurd (let h = asks.answer in cc)
 
 by_serve : (words : List Text) (command : Command) (line : ServeWords) → IsCommandOf words (Some command) → serve_of words ≡ Some line → command ≡ Serve line.settings line.connections
-by_serve words (Answer settings) line asks e = absurd (let h = asks.serve in cc)
+by_serve words (Answer sort settings) line asks e = absurd (let h = asks.serve in cc)
 by_serve words (Serve settings connections) line asks e =
     let same : Some asks.line ≡ Some line = sym asks.serve ∙ e in
     let is : asks.line ≡ line = cc in
@@ -78,18 +76,18 @@ by_serve words (Serve settings connections) line asks e =
     cc
 
 pub is_answer : (words : List Text) (found : Option Command) (command : Command) (answer : AnswerWords) → IsCommandOf words found → found ≡ Some command → answer_of words ≡ Some answer
-    → command ≡ Answer answer.settings
+    → command ≡ Answer answer.kind answer.settings
 is_answer words found command answer asks is e = by_answer words command answer (subst (IsCommandOf words) is asks) e
 
 pub is_serve : (words : List Text) (found : Option Command) (command : Command) (line : ServeWords) → IsCommandOf words found → found ≡ Some command → serve_of words ≡ Some line
     → command ≡ Serve line.settings line.connections
 is_serve words found command line asks is e = by_serve words command line (subst (IsCommandOf words) is asks) e
 
-by_no_serve : (words : List Text) (command : Command) → IsCommandOf words (Some command) → serve_of words ≡ None → (settings : Settings) × (command ≡ Answer settings)
-by_no_serve words (Answer settings) asks none = (settings, refl)
+by_no_serve : (words : List Text) (command : Command) → IsCommandOf words (Some command) → serve_of words ≡ None → (sort : Kind) × (settings : Settings) × (command ≡ Answer sort settings)
+by_no_serve words (Answer sort settings) asks none = (sort, settings, refl)
 by_no_serve words (Serve settings connections) asks none = absurd (let h = asks.serve in cc)
 
 -- a command that is not `serve`
 pub is_other : (words : List Text) (found : Option Command) (command : Command) → IsCommandOf words found → found ≡ Some command → serve_of words ≡ None
-    → (settings : Settings) × (command ≡ Answer settings)
+    → (sort : Kind) × (settings : Settings) × (command ≡ Answer sort settings)
 is_other words found command asks is none = by_no_serve words command (subst (IsCommandOf words) is asks) none

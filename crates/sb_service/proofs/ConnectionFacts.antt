@@ -20,7 +20,13 @@ use Rattle.sb_json.specs.declared.faults.MessageFault.TheVariants.{OutOfMemory a
 use Rattle.delta_server.specs.Answering.{serve_fault}
 use Rattle.update_messages.specs.Messages.{Request}
 use Rattle.update_messages.specs.Reading.{ReadsRequest as ReadsMessage, IsTextOf}
-use Rattle.sb_service.specs.Connection.{IsForUpdates, IsPost, AsksFor, answer_text, refusal_status, IsResponseTo, IsResponseAfter, IsAnswerTo, HasWritten, Serves, HasGoodRequest, AnswersAtMost}
+use Rattle.hash_messages.specs.Messages.{AskedHashes}
+use Rattle.hash_messages.specs.Reading.{ReadsFindRequest}
+use Rattle.http_edge.specs.Exchanges.{path_of}
+use Rattle.sb_outside.specs.declared.links.Kind.{Kind}
+use Rattle.sb_outside.specs.declared.links.Kind.TheVariants.{Update, Find}
+use Rattle.delta_server.specs.declared.answering.Settings.{Settings}
+use Rattle.sb_service.specs.Connection.{IsFor, IsPost, IsAnswerText, updates_text, matches_text, refusal_status, IsResponseTo, IsResponseAfter, IsAnswerTo, HasWritten, Serves, HasGoodRequest, AnswersAtMost}
 use Rattle.sb_service.specs.ConnectionLaws.{IsAnsweredAsRead}
 use Rattle.sb_service.specs.ConnectionSteps.{IsResponseToMessage, IsBareRefusal, IsStopAfter, IsSent}
 use Rattle.sb_model.specs.declared.memory.OutOfMemory.{OutOfMemory}
@@ -30,26 +36,28 @@ use Rattle.sb_service.specs.declared.connection.ConnectionEnd.TheVariants as end
 
 -- ---- a response on its way
 
-pub written_of_sent : (history : History) (wait : ℕ) (bytes : List ℕ) (ended : Bool) (status : Status) (body : List ℕ) (how : ConnectionEnd) (before after : Option (List ℕ))
-    → IsAnswerTo history wait bytes ended status body → IsSent status body how before after → HasWritten history wait bytes ended how before after
-written_of_sent history wait bytes ended status body (end.Answered told) before after answer sent = record {
+pub written_of_sent : (history : History) (times : Settings) (bytes : List ℕ) (ended : Bool) (status : Status) (body : List ℕ) (how : ConnectionEnd) (before after : Option (List ℕ))
+    → IsAnswerTo history times bytes ended status body → IsSent status body how before after → HasWritten history times bytes ended how before after
+written_of_sent history times bytes ended status body (end.Answered told) before after answer sent = record {
   body = body;
-  answer = subst (λ s. IsAnswerTo history wait bytes ended s body) (sym sent.0) answer;
+  answer = subst (λ s. IsAnswerTo history times bytes ended s body) (sym sent.0) answer;
   written = subst (λ s. after ≡ appended before (response_text s Post body)) (sym sent.0) sent.1;
 }
-written_of_sent history wait bytes ended status body end.WriteFault before after answer sent = record {
+written_of_sent history times bytes ended status body end.WriteFault before after answer sent = record {
   status = status;
   body = body;
   answer = answer;
   written = sent;
 }
-written_of_sent history wait bytes ended status body end.ReadFault before after answer sent = absurd sent
-written_of_sent history wait bytes ended status body end.OutOfMemory before after answer sent = sent
+written_of_sent history times bytes ended status body end.ReadFault before after answer sent = absurd sent
+written_of_sent history times bytes ended status body end.OutOfMemory before after answer sent = sent
 
 -- ---- one message
 
-abbrev pub OneReading : Type 0
-OneReading = (value : Data) (a b : Request) → ReadsMessage value a → ReadsMessage value b → a ≡ b
+-- a value reads as one message of each kind
+pub record ReadsOneWay : Type 0 where
+  pub updates : (value : Data) (a b : Request) → ReadsMessage value a → ReadsMessage value b → a ≡ b
+  pub hashes : (value : Data) (a b : AskedHashes) → ReadsFindRequest value a → ReadsFindRequest value b → a ≡ b
 
 -- ---- bytes that are the front of a whole request
 
@@ -168,178 +176,219 @@ same_request bytes whole ended received request first second front =
 
 -- ---- it has one answer
 
-one_message : OneReading → (text : List ℕ) (a b : Request) → IsTextOf ReadsMessage text a → IsTextOf ReadsMessage text b → a ≡ b
-one_message one text a b (v, says, reads) (w, tells, reads') =
-    let same : v ≡ w = cc in
-    one w a b (subst (λ x. ReadsMessage x a) same reads) reads'
+other_path : path_of Update ≡ path_of Find → ⊥
+other_path same = let e : 27 ≡ 19 = ap length same in omega (arith, e)
 
-one_answer : OneReading → (history : History) (wait : ℕ) (request : HttpRequest) (status : Status) (body : List ℕ) (message : Request)
-    → IsResponseTo history wait request status body → IsForUpdates request → IsPost request → AsksFor history request.body message
-    → (status ≡ Success) × (body ≡ answer_text history wait message)
-one_answer one history wait request Success body message (updates, post, told, asked, is) for_updates posted asks =
-    (refl, is ∙ ap (answer_text history wait) (one_message one request.body told message asked.reads asks.reads))
-one_answer one history wait request BadRequest body message is for_updates posted asks = absurd (is.2 message asks)
-one_answer one history wait request NotFound body message is for_updates posted asks = absurd (is.0 for_updates)
-one_answer one history wait request MethodNotAllowed body message is for_updates posted asks = absurd (is.1 posted)
-one_answer one history wait request LengthRequired body message is for_updates posted asks = absurd is
-one_answer one history wait request ContentTooLarge body message is for_updates posted asks = absurd is
-one_answer one history wait request FieldsTooLarge body message is for_updates posted asks = absurd is
-one_answer one history wait request BadGateway body message is for_updates posted asks = absurd is
-one_answer one history wait request ServiceUnavailable body message is for_updates posted asks = absurd is
+one_kind : (request : HttpRequest) (a b : Kind) → IsFor a request → IsFor b request → a ≡ b
+one_kind request Update Update p q = refl
+one_kind request Update Find p q = absurd (other_path (sym p ∙ q))
+one_kind request Find Update p q = absurd (other_path (sym q ∙ p))
+one_kind request Find Find p q = refl
+
+pub one_message : {M : Type 0} (Reads : Data → M → Type 0) → ((value : Data) (a b : M) → Reads value a → Reads value b → a ≡ b)
+    → (text : List ℕ) (a b : M) → IsTextOf Reads text a → IsTextOf Reads text b → a ≡ b
+one_message Reads one text a b (v, says, reads) (w, tells, reads') =
+    let same : v ≡ w = cc in
+    one w a b (subst (λ x. Reads x a) same reads) reads'
+
+one_text : ReadsOneWay → (history : History) (times : Settings) (sort : Kind) (body a b : List ℕ) → IsAnswerText history times sort body a → IsAnswerText history times sort body b → a ≡ b
+one_text one history times Update body a b (m, asks, is) (n, asks', is') =
+    is ∙ ap (updates_text history times) (one_message ReadsMessage one.updates body m n asks.reads asks'.reads) ∙ sym is'
+one_text one history times Find body a b (m, reads, is) (n, reads', is') =
+    is ∙ ap (matches_text history times) (one_message ReadsFindRequest one.hashes body m n reads reads') ∙ sym is'
+
+-- an answer to the body of a request is one of its own sort
+of_kind : (history : History) (times : Settings) (request : HttpRequest) (a b : Kind) (text : List ℕ) → IsFor a request → IsFor b request
+    → IsAnswerText history times a request.body text → IsAnswerText history times b request.body text
+of_kind history times request a b text p q answer = subst (λ k. IsAnswerText history times k request.body text) (one_kind request a b p q) answer
+
+one_answer : ReadsOneWay → (history : History) (times : Settings) (request : HttpRequest) (status : Status) (body text : List ℕ) (sort : Kind)
+    → IsResponseTo history times request status body → IsFor sort request → IsPost request → IsAnswerText history times sort request.body text
+    → (status ≡ Success) × (body ≡ text)
+one_answer one history times request Success body text sort (other, own, post, answer) path posted asks =
+    (refl, one_text one history times sort request.body body text (of_kind history times request other sort body own path answer) asks)
+one_answer one history times request BadRequest body text sort (other, own, post, none, bare) path posted asks =
+    absurd (none text (of_kind history times request sort other text path own asks))
+one_answer one history times request NotFound body text sort is path posted asks = absurd (is.0 sort path)
+one_answer one history times request MethodNotAllowed body text sort (other, own, not, bare) path posted asks = absurd (not posted)
+one_answer one history times request LengthRequired body text sort is path posted asks = absurd is
+one_answer one history times request ContentTooLarge body text sort is path posted asks = absurd is
+one_answer one history times request FieldsTooLarge body text sort is path posted asks = absurd is
+one_answer one history times request BadGateway body text sort is path posted asks = absurd is
+one_answer one history times request ServiceUnavailable body text sort is path posted asks = absurd is
 
 -- each of the four answers is the only one where it is right
-bad_alone : (history : History) (wait : ℕ) (request : HttpRequest) (status : Status) (body : List ℕ)
-    → IsForUpdates request → IsPost request → ((message : Request) → ¬ AsksFor history request.body message)
-    → IsResponseTo history wait request status body → (BadRequest ≡ status) × ([] ≡ body)
-bad_alone history wait request Success body updates post none is = absurd (none is.2 is.3)
-bad_alone history wait request BadRequest body updates post none is = (refl, sym is.3)
-bad_alone history wait request NotFound body updates post none is = absurd (is.0 updates)
-bad_alone history wait request MethodNotAllowed body updates post none is = absurd (is.1 post)
-bad_alone history wait request LengthRequired body updates post none is = absurd is
-bad_alone history wait request ContentTooLarge body updates post none is = absurd is
-bad_alone history wait request FieldsTooLarge body updates post none is = absurd is
-bad_alone history wait request BadGateway body updates post none is = absurd is
-bad_alone history wait request ServiceUnavailable body updates post none is = absurd is
+bad_alone : (history : History) (times : Settings) (request : HttpRequest) (status : Status) (body : List ℕ) (sort : Kind)
+    → IsFor sort request → IsPost request → ((text : List ℕ) → ¬ IsAnswerText history times sort request.body text)
+    → IsResponseTo history times request status body → (BadRequest ≡ status) × ([] ≡ body)
+bad_alone history times request Success body sort path post none (other, own, posted, answer) = absurd (none body (of_kind history times request other sort body own path answer))
+bad_alone history times request BadRequest body sort path post none is = (refl, sym is.4)
+bad_alone history times request NotFound body sort path post none is = absurd (is.0 sort path)
+bad_alone history times request MethodNotAllowed body sort path post none is = absurd (is.2 post)
+bad_alone history times request LengthRequired body sort path post none is = absurd is
+bad_alone history times request ContentTooLarge body sort path post none is = absurd is
+bad_alone history times request FieldsTooLarge body sort path post none is = absurd is
+bad_alone history times request BadGateway body sort path post none is = absurd is
+bad_alone history times request ServiceUnavailable body sort path post none is = absurd is
 
-method_alone : (history : History) (wait : ℕ) (request : HttpRequest) (status : Status) (body : List ℕ)
-    → IsForUpdates request → (¬ IsPost request)
-    → IsResponseTo history wait request status body → (MethodNotAllowed ≡ status) × ([] ≡ body)
-method_alone history wait request Success body updates other is = absurd (other is.1)
-method_alone history wait request BadRequest body updates other is = absurd (other is.1)
-method_alone history wait request NotFound body updates other is = absurd (is.0 updates)
-method_alone history wait request MethodNotAllowed body updates other is = (refl, sym is.2)
-method_alone history wait request LengthRequired body updates other is = absurd is
-method_alone history wait request ContentTooLarge body updates other is = absurd is
-method_alone history wait request FieldsTooLarge body updates other is = absurd is
-method_alone history wait request BadGateway body updates other is = absurd is
-method_alone history wait request ServiceUnavailable body updates other is = absurd is
+method_alone : (history : History) (times : Settings) (request : HttpRequest) (status : Status) (body : List ℕ) (sort : Kind)
+    → IsFor sort request → (¬ IsPost request)
+    → IsResponseTo history times request status body → (MethodNotAllowed ≡ status) × ([] ≡ body)
+method_alone history times request Success body sort path other is = absurd (other is.2)
+method_alone history times request BadRequest body sort path other is = absurd (other is.2)
+method_alone history times request NotFound body sort path other is = absurd (is.0 sort path)
+method_alone history times request MethodNotAllowed body sort path other is = (refl, sym is.3)
+method_alone history times request LengthRequired body sort path other is = absurd is
+method_alone history times request ContentTooLarge body sort path other is = absurd is
+method_alone history times request FieldsTooLarge body sort path other is = absurd is
+method_alone history times request BadGateway body sort path other is = absurd is
+method_alone history times request ServiceUnavailable body sort path other is = absurd is
 
-path_alone : (history : History) (wait : ℕ) (request : HttpRequest) (status : Status) (body : List ℕ)
-    → (¬ IsForUpdates request)
-    → IsResponseTo history wait request status body → (NotFound ≡ status) × ([] ≡ body)
-path_alone history wait request Success body other is = absurd (other is.0)
-path_alone history wait request BadRequest body other is = absurd (other is.0)
-path_alone history wait request NotFound body other is = (refl, sym is.1)
-path_alone history wait request MethodNotAllowed body other is = absurd (other is.0)
-path_alone history wait request LengthRequired body other is = absurd is
-path_alone history wait request ContentTooLarge body other is = absurd is
-path_alone history wait request FieldsTooLarge body other is = absurd is
-path_alone history wait request BadGateway body other is = absurd is
-path_alone history wait request ServiceUnavailable body other is = absurd is
+path_alone : (history : History) (times : Settings) (request : HttpRequest) (status : Status) (body : List ℕ)
+    → ((sort : Kind) → ¬ IsFor sort request)
+    → IsResponseTo history times request status body → (NotFound ≡ status) × ([] ≡ body)
+path_alone history times request Success body other is = absurd (other is.0 is.1)
+path_alone history times request BadRequest body other is = absurd (other is.0 is.1)
+path_alone history times request NotFound body other is = (refl, sym is.1)
+path_alone history times request MethodNotAllowed body other is = absurd (other is.0 is.1)
+path_alone history times request LengthRequired body other is = absurd is
+path_alone history times request ContentTooLarge body other is = absurd is
+path_alone history times request FieldsTooLarge body other is = absurd is
+path_alone history times request BadGateway body other is = absurd is
+path_alone history times request ServiceUnavailable body other is = absurd is
 
-pub one_response : OneReading → (history : History) (wait : ℕ) (request : HttpRequest) (first second : Status) (a b : List ℕ)
-    → IsResponseTo history wait request first a → IsResponseTo history wait request second b → (first ≡ second) × (a ≡ b)
-one_response one history wait request Success second a b is other =
-    let right = one_answer one history wait request second b is.2 other is.0 is.1 is.3 in
-    (sym right.0, is.4 ∙ sym right.1)
-one_response one history wait request BadRequest second a b is other =
-    let right = bad_alone history wait request second b is.0 is.1 is.2 other in
-    (right.0, is.3 ∙ right.1)
-one_response one history wait request NotFound second a b is other =
-    let right = path_alone history wait request second b is.0 other in
+pub one_response : ReadsOneWay → (history : History) (times : Settings) (request : HttpRequest) (first second : Status) (a b : List ℕ)
+    → IsResponseTo history times request first a → IsResponseTo history times request second b → (first ≡ second) × (a ≡ b)
+one_response one history times request Success second a b (sort, path, post, answer) other =
+    let right = one_answer one history times request second b a sort other path post answer in
+    (sym right.0, sym right.1)
+one_response one history times request BadRequest second a b (sort, path, post, none, bare) other =
+    let right = bad_alone history times request second b sort path post none other in
+    (right.0, bare ∙ right.1)
+one_response one history times request NotFound second a b is other =
+    let right = path_alone history times request second b is.0 other in
     (right.0, is.1 ∙ right.1)
-one_response one history wait request MethodNotAllowed second a b is other =
-    let right = method_alone history wait request second b is.0 is.1 other in
-    (right.0, is.2 ∙ right.1)
-one_response one history wait request LengthRequired second a b is other = absurd is
-one_response one history wait request ContentTooLarge second a b is other = absurd is
-one_response one history wait request FieldsTooLarge second a b is other = absurd is
-one_response one history wait request BadGateway second a b is other = absurd is
-one_response one history wait request ServiceUnavailable second a b is other = absurd is
+one_response one history times request MethodNotAllowed second a b (sort, path, not, bare) other =
+    let right = method_alone history times request second b sort path not other in
+    (right.0, bare ∙ right.1)
+one_response one history times request LengthRequired second a b is other = absurd is
+one_response one history times request ContentTooLarge second a b is other = absurd is
+one_response one history times request FieldsTooLarge second a b is other = absurd is
+one_response one history times request BadGateway second a b is other = absurd is
+one_response one history times request ServiceUnavailable second a b is other = absurd is
 
 -- the first bytes of a whole request, or more, are answered as the request is
-response_after : (history : History) (wait : ℕ) (bytes whole : List ℕ) (ended : Bool) (outcome : Result HttpRequest RequestFault) (status : Status) (body : List ℕ) (request : HttpRequest)
-    → ReadsAs whole request → IsFrontOf bytes whole ended → RequestOutcome bytes ended outcome → IsResponseAfter history wait outcome status body
-    → IsResponseTo history wait request status body
-response_after history wait bytes whole ended (Ok received) status body request reads front read response =
-    subst (λ r. IsResponseTo history wait r status body) (same_request bytes whole ended received request read reads front) response
-response_after history wait bytes whole ended (Err refusal) status body request reads front read response =
+response_after : (history : History) (times : Settings) (bytes whole : List ℕ) (ended : Bool) (outcome : Result HttpRequest RequestFault) (status : Status) (body : List ℕ) (request : HttpRequest)
+    → ReadsAs whole request → IsFrontOf bytes whole ended → RequestOutcome bytes ended outcome → IsResponseAfter history times outcome status body
+    → IsResponseTo history times request status body
+response_after history times bytes whole ended (Ok received) status body request reads front read response =
+    subst (λ r. IsResponseTo history times r status body) (same_request bytes whole ended received request read reads front) response
+response_after history times bytes whole ended (Err refusal) status body request reads front read response =
     absurd (no_status bytes whole ended request refusal status reads front read response.0)
 
-pub response_of_whole : (history : History) (wait : ℕ) (bytes : List ℕ) (request : HttpRequest) → IsAnsweredAsRead history wait bytes request
-response_of_whole history wait bytes request reads ended status body answer =
-    response_after history wait bytes bytes ended answer.outcome status body request reads
+pub response_of_whole : (history : History) (times : Settings) (bytes : List ℕ) (request : HttpRequest) → IsAnsweredAsRead history times bytes request
+response_of_whole history times bytes request reads ended status body answer =
+    response_after history times bytes bytes ended answer.outcome status body request reads
     (record { lost = []; parts = append-nil bytes; all = λ _. refl }) answer.read answer.response
 
-at_most : OneReading → (history : History) (wait : ℕ) (bytes whole : List ℕ) (ended : Bool) (how : ConnectionEnd) (before after : Option (List ℕ)) (message : Request)
-    → HasGoodRequest history whole message → IsFrontOf bytes whole ended → HasWritten history wait bytes ended how before after
-    → AnswersAtMost history wait message how before after
-at_most one history wait bytes whole ended (end.Answered status) before after message good front is =
-    let response = response_after history wait bytes whole ended is.answer.outcome status is.body good.request good.reads front is.answer.read is.answer.response in
-    let right = one_answer one history wait good.request status is.body message response good.updates good.post good.asks in
+at_most : ReadsOneWay → (history : History) (times : Settings) (bytes whole : List ℕ) (ended : Bool) (how : ConnectionEnd) (before after : Option (List ℕ)) (text : List ℕ)
+    → HasGoodRequest history times whole text → IsFrontOf bytes whole ended → HasWritten history times bytes ended how before after
+    → AnswersAtMost text how before after
+at_most one history times bytes whole ended (end.Answered status) before after text good front is =
+    let response = response_after history times bytes whole ended is.answer.outcome status is.body good.request good.reads front is.answer.read is.answer.response in
+    let right = one_answer one history times good.request status is.body text good.kind response good.path good.post good.answer in
     (right.0, is.written ∙ ap (λ s. appended before (response_text s Post is.body)) right.0 ∙ ap (λ b. appended before (response_text Success Post b)) right.1)
-at_most one history wait bytes whole ended end.WriteFault before after message good front is = tt
-at_most one history wait bytes whole ended end.ReadFault before after message good front is = tt
-at_most one history wait bytes whole ended end.OutOfMemory before after message good front is = tt
+at_most one history times bytes whole ended end.WriteFault before after text good front is = tt
+at_most one history times bytes whole ended end.ReadFault before after text good front is = tt
+at_most one history times bytes whole ended end.OutOfMemory before after text good front is = tt
 
-pub complete_of : OneReading → (history : History) (wait : ℕ) (how : ConnectionEnd) (left later : Option (List (List ℕ))) (before after : Option (List ℕ))
-    → Serves history wait how left later before after
-    → IfSome left (λ pieces. (message : Request) → HasGoodRequest history (next_piece pieces) message → AnswersAtMost history wait message how before after)
-complete_of one history wait how None later before after serves = tt
-complete_of one history wait how (Some pieces) later before after serves = λ message good.
-    at_most one history wait serves.bytes (next_piece pieces) serves.ended how before after message good (front_of_gives serves.bytes serves.ended pieces later serves.gives) serves.written
+pub complete_of : ReadsOneWay → (history : History) (times : Settings) (how : ConnectionEnd) (left later : Option (List (List ℕ))) (before after : Option (List ℕ))
+    → Serves history times how left later before after
+    → IfSome left (λ pieces. (text : List ℕ) → HasGoodRequest history times (next_piece pieces) text → AnswersAtMost text how before after)
+complete_of one history times how None later before after serves = tt
+complete_of one history times how (Some pieces) later before after serves = λ text good.
+    at_most one history times serves.bytes (next_piece pieces) serves.ended how before after text good (front_of_gives serves.bytes serves.ended pieces later serves.gives) serves.written
 
 -- ---- the steps of a connection
 
-pub served : (history : History) (wait : ℕ) (received : Result HttpRequest RequestFault) (status : Status) (body : List ℕ) (how : ConnectionEnd)
+pub served : (history : History) (times : Settings) (received : Result HttpRequest RequestFault) (status : Status) (body : List ℕ) (how : ConnectionEnd)
     → (left later last : Option (List (List ℕ))) (before between after : Option (List ℕ))
     → (bytes : List ℕ) × (ended : Bool) × Gives bytes ended left later × RequestOutcome bytes ended received
-    → last ≡ later → between ≡ before → IsResponseAfter history wait received status body → IsSent status body how between after
-    → Serves history wait how left last before after
-served history wait received status body how left later last before between after (bytes, ended, gives, read) same-left same-contents response sent = record {
+    → last ≡ later → between ≡ before → IsResponseAfter history times received status body → IsSent status body how between after
+    → Serves history times how left last before after
+served history times received status body how left later last before between after (bytes, ended, gives, read) same-left same-contents response sent = record {
   bytes = bytes;
   ended = ended;
   gives = subst (Gives bytes ended left) (sym same-left) gives;
-  written = written_of_sent history wait bytes ended status body how before after
+  written = written_of_sent history times bytes ended status body how before after
       (record { outcome = received; read = read; response = response })
       (subst (λ held. IsSent status body how held after) same-contents sent);
 }
 
-pub stopped : (history : History) (wait : ℕ) (received : Result HttpRequest RequestFault) (how : ConnectionEnd)
+pub stopped : (history : History) (times : Settings) (received : Result HttpRequest RequestFault) (how : ConnectionEnd)
     → (left later : Option (List (List ℕ))) (before after : Option (List ℕ))
     → (bytes : List ℕ) × (ended : Bool) × Gives bytes ended left later × RequestOutcome bytes ended received
-    → after ≡ before → IsStopAfter received how → Serves history wait how left later before after
-stopped history wait received (end.Answered status) left later before after given same stop = absurd stop
-stopped history wait received end.WriteFault left later before after given same stop = absurd stop
-stopped history wait received end.ReadFault left later before after given same stop =
+    → after ≡ before → IsStopAfter received how → Serves history times how left later before after
+stopped history times received (end.Answered status) left later before after given same stop = absurd stop
+stopped history times received end.WriteFault left later before after given same stop = absurd stop
+stopped history times received end.ReadFault left later before after given same stop =
     record { bytes = given.0; ended = given.1; gives = given.2; written = same }
-stopped history wait received end.OutOfMemory left later before after given same stop =
+stopped history times received end.OutOfMemory left later before after given same stop =
     record { bytes = given.0; ended = given.1; gives = given.2; written = same }
 
-response_of_message : (history : History) (wait : ℕ) (request : HttpRequest) (message : Request) (status : Status) (body : List ℕ)
-    → IsForUpdates request → IsPost request → IsTextOf ReadsMessage request.body message
+response_of_message : (history : History) (times : Settings) (request : HttpRequest) (message : Request) (status : Status) (body : List ℕ)
+    → IsFor Update request → IsPost request → IsTextOf ReadsMessage request.body message
     → ((other : Request) → IsTextOf ReadsMessage request.body other → message ≡ other)
-    → IsResponseToMessage history wait message status body → IsResponseTo history wait request status body
-response_of_message history wait request message Success body updates post reads only is =
-    (updates, post, message, record { reads = reads; declared = is.0 }, is.1)
-response_of_message history wait request message BadRequest body updates post reads only is =
-    (updates, post, λ other asks. is.0 (subst (λ m. serve_fault history m ≡ None) (sym (only other asks.reads)) asks.declared), is.1)
-response_of_message history wait request message NotFound body updates post reads only is = absurd is
-response_of_message history wait request message MethodNotAllowed body updates post reads only is = absurd is
-response_of_message history wait request message LengthRequired body updates post reads only is = absurd is
-response_of_message history wait request message ContentTooLarge body updates post reads only is = absurd is
-response_of_message history wait request message FieldsTooLarge body updates post reads only is = absurd is
-response_of_message history wait request message BadGateway body updates post reads only is = absurd is
-response_of_message history wait request message ServiceUnavailable body updates post reads only is = absurd is
+    → IsResponseToMessage history times message status body → IsResponseTo history times request status body
+response_of_message history times request message Success body updates post reads only is =
+    (Update, updates, post, (message, record { reads = reads; declared = is.0 }, is.1))
+response_of_message history times request message BadRequest body updates post reads only is =
+    (Update, updates, post, λ text asks. is.0 (subst (λ m. serve_fault history m ≡ None) (sym (only asks.0 asks.1.reads)) asks.1.declared), is.1)
+response_of_message history times request message NotFound body updates post reads only is = absurd is
+response_of_message history times request message MethodNotAllowed body updates post reads only is = absurd is
+response_of_message history times request message LengthRequired body updates post reads only is = absurd is
+response_of_message history times request message ContentTooLarge body updates post reads only is = absurd is
+response_of_message history times request message FieldsTooLarge body updates post reads only is = absurd is
+response_of_message history times request message BadGateway body updates post reads only is = absurd is
+response_of_message history times request message ServiceUnavailable body updates post reads only is = absurd is
 
-pub body_answered : (history : History) (wait : ℕ) (request : HttpRequest) (text : List ℕ) (message : Request) (result : Result Response OutOfMemory)
-    → text ≡ request.body → IsForUpdates request → IsPost request → IsTextOf ReadsMessage text message
+pub body_answered : (history : History) (times : Settings) (request : HttpRequest) (text : List ℕ) (message : Request) (result : Result Response OutOfMemory)
+    → text ≡ request.body → IsFor Update request → IsPost request → IsTextOf ReadsMessage text message
     → ((other : Request) → IsTextOf ReadsMessage text other → message ≡ other)
-    → IfOk result (λ r. IsResponseToMessage history wait message r.status r.body)
-    → IfOk result (λ r. IsResponseTo history wait request r.status r.body)
-body_answered history wait request text message (Ok r) same updates post reads only is =
-    response_of_message history wait request message r.status r.body updates post
+    → IfOk result (λ r. IsResponseToMessage history times message r.status r.body)
+    → IfOk result (λ r. IsResponseTo history times request r.status r.body)
+body_answered history times request text message (Ok r) same updates post reads only is =
+    response_of_message history times request message r.status r.body updates post
     (subst (λ t. IsTextOf ReadsMessage t message) same reads)
     (λ other tells. only other (subst (λ t. IsTextOf ReadsMessage t other) (sym same) tells)) is
-body_answered history wait request text message (Err refused) same updates post reads only is = tt
+body_answered history times request text message (Err refused) same updates post reads only is = tt
 
 -- a body that was refused reads as no message, unless memory was refused
-pub body_refused : (history : History) (wait : ℕ) (request : HttpRequest) (text : List ℕ) (refusal : MessageFault) (result : Result Response OutOfMemory)
-    → text ≡ request.body → IsForUpdates request → IsPost request
+pub body_refused : (history : History) (times : Settings) (request : HttpRequest) (text : List ℕ) (refusal : MessageFault) (result : Result Response OutOfMemory)
+    → text ≡ request.body → IsFor Update request → IsPost request
     → ((message : Request) → IsTextOf ReadsMessage text message → refusal ≡ no_memory)
     → IfOk result (λ r. IsBareRefusal refusal r.status r.body)
-    → IfOk result (λ r. IsResponseTo history wait request r.status r.body)
-body_refused history wait request text refusal (Ok r) same updates post only is =
-    subst (λ s. IsResponseTo history wait request s r.body) (sym is.bad)
-    (updates, post, λ message asks. is.some (only message (subst (λ t. IsTextOf ReadsMessage t message) (sym same) asks.reads)), is.bare)
-body_refused history wait request text refusal (Err refused) same updates post only is = tt
+    → IfOk result (λ r. IsResponseTo history times request r.status r.body)
+body_refused history times request text refusal (Ok r) same updates post only is =
+    subst (λ s. IsResponseTo history times request s r.body) (sym is.bad)
+    (Update, updates, post, λ other asks. is.some (only asks.0 (subst (λ t. IsTextOf ReadsMessage t asks.0) (sym same) asks.1.reads)), is.bare)
+body_refused history times request text refusal (Err refused) same updates post only is = tt
+
+pub hashes_answered : (history : History) (times : Settings) (request : HttpRequest) (text : List ℕ) (message : AskedHashes) (result : Result Response OutOfMemory)
+    → text ≡ request.body → IsFor Find request → IsPost request → IsTextOf ReadsFindRequest text message
+    → IfOk result (λ r. r.status ≡ Success) → IfOk result (λ r. r.body ≡ matches_text history times message)
+    → IfOk result (λ r. IsResponseTo history times request r.status r.body)
+hashes_answered history times request text message (Ok r) same path post reads success is =
+    subst (λ s. IsResponseTo history times request s r.body) (sym success)
+    (Find, path, post, (message, subst (λ t. IsTextOf ReadsFindRequest t message) same reads, is))
+hashes_answered history times request text message (Err refused) same path post reads success is = tt
+
+pub hashes_refused : (history : History) (times : Settings) (request : HttpRequest) (text : List ℕ) (refusal : MessageFault) (result : Result Response OutOfMemory)
+    → text ≡ request.body → IsFor Find request → IsPost request
+    → ((message : AskedHashes) → IsTextOf ReadsFindRequest text message → refusal ≡ no_memory)
+    → IfOk result (λ r. IsBareRefusal refusal r.status r.body)
+    → IfOk result (λ r. IsResponseTo history times request r.status r.body)
+hashes_refused history times request text refusal (Ok r) same path post only is =
+    subst (λ s. IsResponseTo history times request s r.body) (sym is.bad)
+    (Find, path, post, λ other asks. is.some (only asks.0 (subst (λ t. IsTextOf ReadsFindRequest t asks.0) (sym same) asks.1)), is.bare)
+hashes_refused history times request text refusal (Err refused) same path post only is = tt

@@ -9,6 +9,7 @@ use Rattle.sb_outside.specs.Connections.{HasEnded, IsEntryOf, open_connection, R
 use Rattle.sb_outside.specs.declared.doors.Connection.{Connection}
 use Rattle.sb_model.specs.History.{History}
 use Rattle.list_versions.specs.Loaded.{Gives}
+use Rattle.delta_server.specs.declared.answering.Settings.{Settings}
 use Rattle.sb_service.specs.Connection.{HasWritten, Serves}
 use Rattle.sb_service.specs.Serving.{IsServed, IsUntouched, IsLogged, IsFresh}
 use Rattle.sb_service.specs.declared.connection.ConnectionEnd.{ConnectionEnd}
@@ -63,12 +64,12 @@ has_ended bytes false pieces rest gives is = absurd (cc)
 
 -- ---- what was written
 
-before_told : (versions : History) (wait : ℕ) (bytes : List ℕ) (ended : Bool) (how : ConnectionEnd) (before : Option (List ℕ)) (text : List ℕ)
-    → HasWritten versions wait bytes ended how before (Some text) → before ≢ None
-before_told versions wait bytes ended (end.Answered status) before text written none = let e = written.written in absurd (cc)
-before_told versions wait bytes ended end.WriteFault before text written none = let e = written.written.has in absurd (cc)
-before_told versions wait bytes ended end.ReadFault before text written none = absurd (cc)
-before_told versions wait bytes ended end.OutOfMemory before text written none = absurd (cc)
+before_told : (versions : History) (times : Settings) (bytes : List ℕ) (ended : Bool) (how : ConnectionEnd) (before : Option (List ℕ)) (text : List ℕ)
+    → HasWritten versions times bytes ended how before (Some text) → before ≢ None
+before_told versions times bytes ended (end.Answered status) before text written none = let e = written.written in absurd (cc)
+before_told versions times bytes ended end.WriteFault before text written none = let e = written.written.has in absurd (cc)
+before_told versions times bytes ended end.ReadFault before text written none = absurd (cc)
+before_told versions times bytes ended end.OutOfMemory before text written none = absurd (cc)
 
 told_contents : (before : Option (List ℕ)) (text : List ℕ) → before ≢ None → IfTold before (Some text) → before ≡ Some text
 told_contents None text some told = absurd (some refl)
@@ -90,28 +91,28 @@ counted_write end.OutOfMemory faults faults' none rose kept = (λ some. absurd (
 
 -- ---- an entry
 
-pub entry_served : (versions : History) (wait : ℕ) (how : ConnectionEnd) (entry : Connection) (log opened : Option (List Connection)) (number : ℕ)
+pub entry_served : (versions : History) (times : Settings) (how : ConnectionEnd) (entry : Connection) (log opened : Option (List Connection)) (number : ℕ)
     (start start' left left' : Option (List (List ℕ))) (contents contents' : Option (List ℕ)) (reads reads' writes writes' : ℕ)
-    → IsFresh log opened number start left contents reads writes → Serves versions wait how left left' contents contents' → start' ≡ start
+    → IsFresh log opened number start left contents reads writes → Serves versions times how left left' contents contents' → start' ≡ start
     → (how ≡ end.ReadFault → Rose reads reads') → (how ≢ end.ReadFault → reads' ≡ reads)
     → (how ≡ end.WriteFault → Rose writes writes') → (how ≢ end.WriteFault → writes' ≡ writes)
-    → IsEntryOf entry start' left' contents' reads' writes' → IsServed versions wait how entry
-entry_served versions wait how entry log opened number start start' left left' contents contents' reads reads' writes writes' fresh serves same read_failed read_kept write_failed write_kept is =
+    → IsEntryOf entry start' left' contents' reads' writes' → IsServed versions times how entry
+entry_served versions times how entry log opened number start start' left left' contents contents' reads reads' writes writes' fresh serves same read_failed read_kept write_failed write_kept is =
     let pieces_are : is.pieces ≡ fresh.pieces = told_is start _ _ (sym same ∙ is.started) fresh.started in
     let was_left : left ≡ Some fresh.pieces = told_left left _ (left_before _ _ _ _ _ serves.gives is.remains) fresh.remains in
     let gives : Gives serves.bytes serves.ended (Some fresh.pieces) (Some is.rest) =
     subst (λ (l : Option (List (List ℕ))). Gives serves.bytes serves.ended (Some fresh.pieces) l) is.remains
     (subst (λ (l : Option (List (List ℕ))). Gives serves.bytes serves.ended l left') was_left serves.gives) in
     let given : serves.bytes ≡ entry.given = same_given _ _ _ _ _ gives (ap concat (sym pieces_are) ∙ is.given) in
-    let wrote : HasWritten versions wait serves.bytes serves.ended how contents (Some entry.written) =
-    subst (λ (l : Option (List ℕ)). HasWritten versions wait serves.bytes serves.ended how contents l) is.written serves.written in
+    let wrote : HasWritten versions times serves.bytes serves.ended how contents (Some entry.written) =
+    subst (λ (l : Option (List ℕ)). HasWritten versions times serves.bytes serves.ended how contents l) is.written serves.written in
     let held : contents ≡ Some [] = told_contents contents _ (before_told _ _ _ _ _ _ _ wrote) fresh.nothing in
     let reads_are = counted_read how reads reads' fresh.no_reads read_failed read_kept in
     let writes_are = counted_write how writes writes' fresh.no_writes write_failed write_kept in
     record {
       ended = serves.ended;
-      written = subst (λ (l : List ℕ). HasWritten versions wait l serves.ended how (Some []) (Some entry.written)) given
-          (subst (λ (l : Option (List ℕ)). HasWritten versions wait serves.bytes serves.ended how l (Some entry.written)) held wrote);
+      written = subst (λ (l : List ℕ). HasWritten versions times l serves.ended how (Some []) (Some entry.written)) given
+          (subst (λ (l : Option (List ℕ)). HasWritten versions times serves.bytes serves.ended how l (Some entry.written)) held wrote);
       over = λ over. elim (has_ended _ _ _ _ gives over) [
         | inl ended ↦ inl (is.ended.1 (subst (λ (p : List (List ℕ)). HasEnded p is.rest) (sym pieces_are) ended))
         | inr none ↦ inr (sym given ∙ none)

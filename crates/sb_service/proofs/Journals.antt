@@ -8,6 +8,7 @@ use Rattle.list_versions.specs.Journal.{Kept, kept_of, read_on}
 use Rattle.list_versions.specs.Loaded.{Gives, IsBadRest, FurtherFault, JournalOutcome}
 use Rattle.list_versions.specs.declared.fault.JournalFault.{JournalFault}
 use Rattle.list_versions.specs.declared.fault.JournalFault.TheVariants as journal
+use Rattle.delta_server.specs.declared.answering.Settings.{Settings}
 use Rattle.sb_service.specs.Answer.{AfterFault, IsSilent}
 use Rattle.sb_service.specs.Serving.{Turn, Gains, Grows, gained_in, AreOfJournal, HasNoBadLine, HasNotGrown, HasRun, IsLined, IsRefusal, IsServeRun, IsTurn, Seen, Stops, HasBegun, AfterLoad}
 use Rattle.sb_service.specs.declared.connection.ConnectionEnd.{ConnectionEnd}
@@ -140,52 +141,52 @@ not_lined number how status held held' other some (inl line) = some line.0
 not_lined number how status held held' other some (inr (inl cut)) = other.no_write cut.0
 not_lined number how status held held' other some (inr (inr silent)) = other.no_memory silent.ends
 
-no_last_turn : CutsLaw → (pieces : List (List ℕ)) (n wait number status : ℕ) (before after : Seen) → HasNoBadLine pieces → IsAfter pieces n before.left before.kept → IsOther status → status ≢ 0
-    → IsTurn wait number status before after → ⊥
-no_last_turn law pieces n wait number status before after none at other some (inl grown) =
+no_last_turn : CutsLaw → (pieces : List (List ℕ)) (n : ℕ) (times : Settings) (number status : ℕ) (before after : Seen) → HasNoBadLine pieces → IsAfter pieces n before.left before.kept → IsOther status → status ≢ 0
+    → IsTurn times number status before after → ⊥
+no_last_turn law pieces n times number status before after none at other some (inl grown) =
     not_lined number grown.told.how status before.held after.held other some grown.told.lined
-no_last_turn law pieces n wait number status before after none at other some (inr stop) = not_refused law pieces n status before after none at other stop
+no_last_turn law pieces n times number status before after none at other some (inr stop) = not_refused law pieces n status before after none at other stop
 
-ends_with_0 : CutsLaw → (pieces : List (List ℕ)) (n wait connections status : ℕ) (before after : Seen) (coming : Option (List (List (List ℕ)))) → HasNoBadLine pieces → IsAfter pieces n before.left before.kept
-    → IsOther status → Stops wait connections n status before after coming → status ≡ 0
-ends_with_0 law pieces n wait connections status before after coming none at other (inl done) = done.1.ends
-ends_with_0 law pieces n wait connections status before after coming none at other (inr (inl no_more)) = no_more.0.ends
-ends_with_0 law pieces n wait connections status before after coming none at other (inr (inr (inl failed))) = absurd (other.no_door failed.ends)
-ends_with_0 law pieces n wait connections status before after coming none at other (inr (inr (inr turn))) =
-    absurd (no_last_turn law pieces n wait (n + 1) status before after none at other turn.0 turn.1)
+ends_with_0 : CutsLaw → (pieces : List (List ℕ)) (n : ℕ) (times : Settings) (connections status : ℕ) (before after : Seen) (coming : Option (List (List (List ℕ)))) → HasNoBadLine pieces → IsAfter pieces n before.left before.kept
+    → IsOther status → Stops times connections n status before after coming → status ≡ 0
+ends_with_0 law pieces n times connections status before after coming none at other (inl done) = done.1.ends
+ends_with_0 law pieces n times connections status before after coming none at other (inr (inl no_more)) = no_more.0.ends
+ends_with_0 law pieces n times connections status before after coming none at other (inr (inr (inl failed))) = absurd (other.no_door failed.ends)
+ends_with_0 law pieces n times connections status before after coming none at other (inr (inr (inr turn))) =
+    absurd (no_last_turn law pieces n times (n + 1) status before after none at other turn.0 turn.1)
 
-run_ends : CutsLaw → (pieces : List (List ℕ)) (wait connections status : ℕ) (first after : Seen) (coming : Option (List (List (List ℕ)))) → HasNoBadLine pieces → IsAfter pieces 0 first.left first.kept
-    → IsOther status → HasRun wait connections status first after coming → status ≡ 0
-run_ends law pieces wait connections status first after coming none at other run =
-    ends_with_0 law pieces (length run.turns) wait connections status run.last after coming none
+run_ends : CutsLaw → (pieces : List (List ℕ)) (times : Settings) (connections status : ℕ) (first after : Seen) (coming : Option (List (List (List ℕ)))) → HasNoBadLine pieces → IsAfter pieces 0 first.left first.kept
+    → IsOther status → HasRun times connections status first after coming → status ≡ 0
+run_ends law pieces times connections status first after coming none at other run =
+    ends_with_0 law pieces (length run.turns) times connections status run.last after coming none
     (after_turns law pieces run.turns first.left run.last.left first.kept run.last.kept at run.turned.gains run.turned.grows) other run.stops
 
-begun_ends : CutsLaw → (pieces : List (List ℕ)) (wait connections status : ℕ) (bytes : List ℕ) (kept : Kept) (read left' : Option (List (List ℕ))) (held held' : Option (List ℕ)) (log log' : Option (List Connection))
-    (coming : Option (List (List (List ℕ)))) → HasNoBadLine pieces → IsAfter pieces 0 read kept → IsOther status → HasBegun wait connections status bytes kept read left' held held' log log' coming → status ≡ 0
-begun_ends law pieces wait connections status bytes kept read left' held held' log log' coming none at other begun =
-    run_ends law pieces wait connections status (record { left = read; kept = kept; held = held; log = log }) (record { left = left'; kept = begun.last; held = held'; log = log' }) coming none at other begun.run
+begun_ends : CutsLaw → (pieces : List (List ℕ)) (times : Settings) (connections status : ℕ) (bytes : List ℕ) (kept : Kept) (read left' : Option (List (List ℕ))) (held held' : Option (List ℕ)) (log log' : Option (List Connection))
+    (coming : Option (List (List (List ℕ)))) → HasNoBadLine pieces → IsAfter pieces 0 read kept → IsOther status → HasBegun times connections status bytes kept read left' held held' log log' coming → status ≡ 0
+begun_ends law pieces times connections status bytes kept read left' held held' log log' coming none at other begun =
+    run_ends law pieces times connections status (record { left = read; kept = kept; held = held; log = log }) (record { left = left'; kept = begun.last; held = held'; log = log' }) coming none at other begun.run
 
-load_ends : CutsLaw → (pieces : List (List ℕ)) (wait connections status : ℕ) (bytes : List ℕ) (ended : Bool) (read left' : Option (List (List ℕ))) (held held' : Option (List ℕ)) (log log' : Option (List Connection))
+load_ends : CutsLaw → (pieces : List (List ℕ)) (times : Settings) (connections status : ℕ) (bytes : List ℕ) (ended : Bool) (read left' : Option (List (List ℕ))) (held held' : Option (List ℕ)) (log log' : Option (List Connection))
     (coming : Option (List (List (List ℕ)))) (kept : Kept) → HasNoBadLine pieces → kept_of (next_piece pieces) ≡ Ok kept → IsOther status → Gives bytes ended (Some pieces) read
-    → (loaded : Result Kept JournalFault) → JournalOutcome bytes ended loaded → IsLoadedAs kept loaded → AfterLoad wait connections bytes loaded status read left' held held' log log' coming → status ≡ 0
-load_ends law pieces wait connections status bytes ended read left' held held' log log' coming kept none told other gives (Ok found) outcome (inl is) begun =
+    → (loaded : Result Kept JournalFault) → JournalOutcome bytes ended loaded → IsLoadedAs kept loaded → AfterLoad times connections bytes loaded status read left' held held' log log' coming → status ≡ 0
+load_ends law pieces times connections status bytes ended read left' held held' log log' coming kept none told other gives (Ok found) outcome (inl is) begun =
     let whole : Gives bytes true (Some pieces) read = subst (λ (e : Bool). Gives bytes e (Some pieces) read) outcome.0 gives in
     let rest = some_left (Some pieces) pieces bytes read refl whole in
     let first : kept_of (next_piece pieces) ≡ Ok found = told ∙ sym is in
-    begun_ends law pieces wait connections status bytes found read left' held held' log log' coming none (begins pieces read found rest.1 first) other begun
-load_ends law pieces wait connections status bytes ended read left' held held' log log' coming kept none told other gives (Ok found) outcome (inr (inl is)) begun = absurd (cc)
-load_ends law pieces wait connections status bytes ended read left' held held' log log' coming kept none told other gives (Ok found) outcome (inr (inr is)) begun = absurd (cc)
-load_ends law pieces wait connections status bytes ended read left' held held' log log' coming kept none told other gives (Err fault) outcome (inl is) not = absurd (cc)
-load_ends law pieces wait connections status bytes ended read left' held held' log log' coming kept none told other gives (Err fault) outcome (inr (inl is)) not =
+    begun_ends law pieces times connections status bytes found read left' held held' log log' coming none (begins pieces read found rest.1 first) other begun
+load_ends law pieces times connections status bytes ended read left' held held' log log' coming kept none told other gives (Ok found) outcome (inr (inl is)) begun = absurd (cc)
+load_ends law pieces times connections status bytes ended read left' held held' log log' coming kept none told other gives (Ok found) outcome (inr (inr is)) begun = absurd (cc)
+load_ends law pieces times connections status bytes ended read left' held held' log log' coming kept none told other gives (Err fault) outcome (inl is) not = absurd (cc)
+load_ends law pieces times connections status bytes ended read left' held held' log log' coming kept none told other gives (Err fault) outcome (inr (inl is)) not =
     absurd (faultless fault status held held' other (inl (cc)) not.refusal)
-load_ends law pieces wait connections status bytes ended read left' held held' log log' coming kept none told other gives (Err fault) outcome (inr (inr is)) not =
+load_ends law pieces times connections status bytes ended read left' held held' log log' coming kept none told other gives (Err fault) outcome (inr (inr is)) not =
     absurd (faultless fault status held held' other (inr (cc)) not.refusal)
 
-pub served_to_the_end : CutsLaw → (wait connections status : ℕ) (pieces : List (List ℕ)) (left left' : Option (List (List ℕ))) (held held' : Option (List ℕ)) (log log' : Option (List Connection))
-    (coming : Option (List (List (List ℕ)))) → left ≡ Some pieces → HasNoBadLine pieces → IsServeRun wait connections status left left' held held' log log' coming → IsOther status → status ≡ 0
-served_to_the_end law wait connections status pieces left left' held held' log log' coming told none run other =
+pub served_to_the_end : CutsLaw → (times : Settings) (connections status : ℕ) (pieces : List (List ℕ)) (left left' : Option (List (List ℕ))) (held held' : Option (List ℕ)) (log log' : Option (List Connection))
+    (coming : Option (List (List (List ℕ)))) → left ≡ Some pieces → HasNoBadLine pieces → IsServeRun times connections status left left' held held' log log' coming → IsOther status → status ≡ 0
+served_to_the_end law times connections status pieces left left' held held' log log' coming told none run other =
     let first = none 0 in
     let begins : kept_of (next_piece pieces) ≡ Ok first.0 = ap kept_of (sym (one_further 0 pieces)) ∙ first.1 in
     let gives : Gives run.bytes run.ended (Some pieces) run.read = subst (λ (l : Option (List (List ℕ))). Gives run.bytes run.ended l run.read) told run.gives in
-    load_ends law pieces wait connections status run.bytes run.ended run.read left' held held' log log' coming first.0 none begins other gives run.loaded run.outcome
+    load_ends law pieces times connections status run.bytes run.ended run.read left' held held' log log' coming first.0 none begins other gives run.loaded run.outcome
     (loaded_as run.bytes run.ended pieces run.read first.0 run.loaded gives begins run.outcome) run.after

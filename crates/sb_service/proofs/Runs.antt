@@ -14,102 +14,99 @@ use Rattle.list_versions.specs.declared.fault.JournalFault.{JournalFault}
 use Rattle.update_messages.specs.Messages.{Request}
 use Rattle.update_messages.specs.Reading.{ReadsRequest, IsTextOf}
 use Rattle.update_messages.specs.Faults.{fault_of_request, fault_of_text}
-use Rattle.delta_server.specs.Answering.{serve_fault}
-use Rattle.delta_server.specs.declared.answering.ServeFault.{ServeFault}
-use Rattle.sb_service.specs.Printed.{Reading, reply_to, reply_unless, answer_line}
-use Rattle.sb_service.specs.Answer.{AfterInput, AfterJournal, InputOutcome, IsAnswerRun, IsInputRun, IsReadingOf, IsWritten, HasNoFault, IsStatus, most_body}
+use Rattle.hash_messages.specs.Faults.{fault_of_find_request}
+use Rattle.hash_messages.specs.Messages.{AskedHashes}
+use Rattle.hash_messages.specs.Reading.{ReadsFindRequest}
+use Rattle.sb_outside.specs.declared.links.Kind.{Kind}
+use Rattle.sb_outside.specs.declared.links.Kind.TheVariants.{Update, Find}
+use Rattle.delta_server.specs.declared.answering.Settings.{Settings}
+use Rattle.sb_service.specs.Connection.{IsAnswerText}
+use Rattle.sb_service.specs.Printed.{Reply, answer_line, reply_to_fetch, reply_to_find, reply_unless, reply_with}
+use Rattle.sb_service.specs.Answer.{AfterInput, AfterJournal, InputOutcome, IsAnswerRun, IsFetchOf, IsFindOf, IsInputRun, IsReplied, IsReplyTo, IsWritten, HasNoFault, IsStatus, most_body}
+use Rattle.sb_service.proofs.ConnectionFacts.{ReadsOneWay, one_message}
 use Rattle.sb_service.proofs.Loads.{IsLoadedAs, loaded_as}
 
--- a value reads as one request
-abbrev pub ReadsOneWay : Type 0
-ReadsOneWay = (value : Data) (a b : Request) → ReadsRequest value a → ReadsRequest value b → a ≡ b
-
--- a value reads as some request exactly where it has no first fault
-abbrev pub ReadsOrFails : Type 0
-ReadsOrFails = (value : Data) → ((message : Request) × ReadsRequest value message) ↔ (fault_of_request value ≡ None)
+-- a value reads as one message of each kind, and exactly where it has no first fault
+pub record ReadsOrFails : Type 0 where
+  pub once : ReadsOneWay
+  pub fetch : (value : Data) → ((message : Request) × ReadsRequest value message) ↔ (fault_of_request value ≡ None)
+  pub find : (value : Data) → ((message : AskedHashes) × ReadsFindRequest value message) ↔ (fault_of_find_request value ≡ None)
 
 -- ---- the reading of a body
 
-one_value : (body : List ℕ) (v w : Data) → value_of body ≡ Some v → value_of body ≡ Some w → v ≡ w
-one_value body v w e h = cc
-
-one_request : ReadsOneWay → (body : List ℕ) (a b : Request) → IsTextOf ReadsRequest body a → IsTextOf ReadsRequest body b → a ≡ b
-one_request once body a b h k = once h.0 a b h.2 (subst (λ (value : Data). ReadsRequest value b) (one_value body k.0 h.0 k.1 h.1) k.2)
-
-no_fault : ReadsOrFails → (body : List ℕ) (request : Request) (fault : MessageFault) → IsTextOf ReadsRequest body request → fault_of_text fault_of_request (value_of body) ≡ Some fault → ⊥
-no_fault law body request fault reads h =
-    let none : fault_of_request reads.0 ≡ None = (law reads.0).0 (request, reads.2) in
-    let some : fault_of_request reads.0 ≡ Some fault = sym (ap (fault_of_text fault_of_request) reads.1) ∙ h in
+no_fault : {M : Type 0} (Reads : Data → M → Type 0) (fault_of : Data → Option MessageFault) → ((value : Data) → ((message : M) × Reads value message) ↔ (fault_of value ≡ None))
+    → (body : List ℕ) (message : M) (fault : MessageFault) → IsTextOf Reads body message → fault_of_text fault_of (value_of body) ≡ Some fault → ⊥
+no_fault Reads fault_of law body message fault reads h =
+    let none : fault_of reads.0 ≡ None = (law reads.0).0 (message, reads.2) in
+    let some : fault_of reads.0 ≡ Some fault = sym (ap (fault_of_text fault_of) reads.1) ∙ h in
     cc
 
--- the reading of a body that reads as a request
-pub one_reading : ReadsOneWay → ReadsOrFails → (body : List ℕ) (request : Request) (reading : Reading) → IsTextOf ReadsRequest body request → IsReadingOf body reading → reading ≡ Ok request
-one_reading once law body request (Ok other) reads h = ap Ok (one_request once body other request h reads)
-one_reading once law body request (Err fault) reads h = absurd (no_fault law body request fault reads h)
+one_fetch : ReadsOrFails → (body : List ℕ) (request : Request) (reading : Result Request MessageFault) → IsTextOf ReadsRequest body request → IsFetchOf body reading → reading ≡ Ok request
+one_fetch law body request (Ok other) reads h = ap Ok (one_message ReadsRequest law.once.updates body other request h reads)
+one_fetch law body request (Err fault) reads h = absurd (no_fault ReadsRequest fault_of_request law.fetch body request fault reads h)
+
+one_find : ReadsOrFails → (body : List ℕ) (request : AskedHashes) (reading : Result AskedHashes MessageFault) → IsTextOf ReadsFindRequest body request → IsFindOf body reading → reading ≡ Ok request
+one_find law body request (Ok other) reads h = ap Ok (one_message ReadsFindRequest law.once.hashes body other request h reads)
+one_find law body request (Err fault) reads h = absurd (no_fault ReadsFindRequest fault_of_find_request law.find body request fault reads h)
+
+-- the reply to a body that has an answer
+reply_is : ReadsOrFails → (versions : History) (times : Settings) (asked : Kind) (body text : List ℕ) (reply : Reply) → IsAnswerText versions times asked body text → IsReplyTo versions times asked body reply
+    → reply ≡ reply_with text
+reply_is law versions times Update body text reply (message, asks, is) (reading, read, same) =
+    same ∙ ap (reply_to_fetch versions times) (one_fetch law body message reading asks.reads read) ∙ ap (reply_unless versions times message) asks.declared ∙ ap reply_with (sym is)
+reply_is law versions times Find body text reply (message, reads, is) (reading, read, same) =
+    same ∙ ap (reply_to_find versions times) (one_find law body message reading reads read) ∙ ap reply_with (sym is)
 
 -- ---- what is written with status 0
 
-unless_served : (versions : History) (wait : ℕ) (request : Request) (fault : Option ServeFault) (status : ℕ) (held held' : Option (List ℕ))
-    → IsWritten (reply_unless versions wait request fault) status held held' → status ≡ 0 → held' ≡ appended held (answer_line versions wait request)
-unless_served versions wait request None status held held' (inl whole) e = whole.whole
-unless_served versions wait request (Some fault) status held held' (inl whole) e = absurd (omega (arith, whole.ends, e))
-unless_served versions wait request None status held held' (inr cut) e = absurd (omega (arith, cut.ends, e))
-unless_served versions wait request (Some fault) status held held' (inr cut) e = absurd (omega (arith, cut.ends, e))
+text_served : (text : List ℕ) (status : ℕ) (held held' : Option (List ℕ)) → IsWritten (reply_with text) status held held' → status ≡ 0 → held' ≡ appended held (answer_line text)
+text_served text status held held' (inl whole) e = whole.whole
+text_served text status held held' (inr cut) e = absurd (omega (arith, cut.ends, e))
 
-reading_served : (versions : History) (wait : ℕ) (request : Request) (reading : Reading) (status : ℕ) (held held' : Option (List ℕ))
-    → reading ≡ Ok request → IsWritten (reply_to versions wait reading) status held held' → status ≡ 0 → held' ≡ appended held (answer_line versions wait request)
-reading_served versions wait request reading status held held' is written e =
-    unless_served versions wait request (serve_fault versions request) status held held'
-    (subst (λ (r : Reading). IsWritten (reply_to versions wait r) status held held') is written) e
+replied : ReadsOrFails → (versions : History) (times : Settings) (asked : Kind) (status : ℕ) (body text : List ℕ) (held held' : Option (List ℕ)) → IsAnswerText versions times asked body text
+    → IsReplied versions times asked body status held held' → IsWritten (reply_with text) status held held'
+replied law versions times asked status body text held held' answer after =
+    subst (λ (reply : Reply). IsWritten reply status held held') (reply_is law versions times asked body text after.reply answer after.right) after.written
 
 -- a body that the input tells
-told_body : ReadsOneWay → ReadsOrFails → (versions : History) (wait status : ℕ) (bodies : List (List ℕ)) (left' : Option (List (List ℕ))) (held held' : Option (List ℕ)) (request : Request)
-    → IsTextOf ReadsRequest (next_piece bodies) request → (given : Result (List ℕ) InputFault) → InputOutcome given (Some bodies) left'
-    → AfterInput versions wait given status held held' → status ≡ 0 → held' ≡ appended held (answer_line versions wait request)
-told_body once law versions wait status bodies left' held held' request reads (Ok body) outcome after e =
+told_body : ReadsOrFails → (versions : History) (times : Settings) (asked : Kind) (status : ℕ) (bodies : List (List ℕ)) (left' : Option (List (List ℕ))) (held held' : Option (List ℕ)) (text : List ℕ)
+    → IsAnswerText versions times asked (next_piece bodies) text → (given : Result (List ℕ) InputFault) → InputOutcome given (Some bodies) left'
+    → AfterInput versions times asked given status held held' → status ≡ 0 → held' ≡ appended held (answer_line text)
+told_body law versions times asked status bodies left' held held' text answer (Ok body) outcome after e =
     let whole : next_piece bodies ≡ body = outcome.0.whole in
-    let is = one_reading once law body request after.reading (subst (λ (text : List ℕ). IsTextOf ReadsRequest text request) whole reads) after.read in
-    reading_served versions wait request after.reading status held held' is after.written e
-told_body once law versions wait status bodies left' held held' request reads (Err input.Failed) outcome after e = absurd (omega (arith, after.ends, e))
-told_body once law versions wait status bodies left' held held' request reads (Err input.PastLimit) outcome after e = absurd (omega (arith, after.ends, e))
-told_body once law versions wait status bodies left' held held' request reads (Err input.OutOfMemory) outcome after e = absurd after
+    text_served text status held held' (replied law versions times asked status body text held held' (subst (λ (b : List ℕ). IsAnswerText versions times asked b text) whole answer) after) e
+told_body law versions times asked status bodies left' held held' text answer (Err input.Failed) outcome after e = absurd (omega (arith, after.ends, e))
+told_body law versions times asked status bodies left' held held' text answer (Err input.PastLimit) outcome after e = absurd (omega (arith, after.ends, e))
+told_body law versions times asked status bodies left' held held' text answer (Err input.OutOfMemory) outcome after e = absurd after
 
-by_loaded : ReadsOneWay → ReadsOrFails → (wait status : ℕ) (bodies : List (List ℕ)) (left' : Option (List (List ℕ))) (held held' : Option (List ℕ)) (kept : Kept) (request : Request)
-    → IsTextOf ReadsRequest (next_piece bodies) request → (loaded : Result Kept JournalFault) → IsLoadedAs kept loaded
-    → AfterJournal wait loaded status (Some bodies) left' held held' → status ≡ 0 → held' ≡ appended held (answer_line kept.versions wait request)
-by_loaded once law wait status bodies left' held held' kept request reads loaded (inl is) after e =
-    let run : IsInputRun kept.versions wait status (Some bodies) left' held held' = subst (λ (l : Result Kept JournalFault). AfterJournal wait l status (Some bodies) left' held held') is after in
-    told_body once law kept.versions wait status bodies left' held held' request reads run.given run.outcome run.after e
-by_loaded once law wait status bodies left' held held' kept request reads loaded (inr (inl is)) after e =
-    let run = subst (λ (l : Result Kept JournalFault). AfterJournal wait l status (Some bodies) left' held held') is after in
+by_loaded : ReadsOrFails → (times : Settings) (asked : Kind) (status : ℕ) (bodies : List (List ℕ)) (left' : Option (List (List ℕ))) (held held' : Option (List ℕ)) (kept : Kept) (text : List ℕ)
+    → IsAnswerText kept.versions times asked (next_piece bodies) text → (loaded : Result Kept JournalFault) → IsLoadedAs kept loaded
+    → AfterJournal times asked loaded status (Some bodies) left' held held' → status ≡ 0 → held' ≡ appended held (answer_line text)
+by_loaded law times asked status bodies left' held held' kept text answer loaded (inl is) after e =
+    let run : IsInputRun kept.versions times asked status (Some bodies) left' held held' = subst (λ (l : Result Kept JournalFault). AfterJournal times asked l status (Some bodies) left' held held') is after in
+    told_body law kept.versions times asked status bodies left' held held' text answer run.given run.outcome run.after e
+by_loaded law times asked status bodies left' held held' kept text answer loaded (inr (inl is)) after e =
+    let run = subst (λ (l : Result Kept JournalFault). AfterJournal times asked l status (Some bodies) left' held held') is after in
     absurd (omega (arith, run.after.ends, e))
-by_loaded once law wait status bodies left' held held' kept request reads loaded (inr (inr is)) after e =
-    let run = subst (λ (l : Result Kept JournalFault). AfterJournal wait l status (Some bodies) left' held held') is after in
+by_loaded law times asked status bodies left' held held' kept text answer loaded (inr (inr is)) after e =
+    let run = subst (λ (l : Result Kept JournalFault). AfterJournal times asked l status (Some bodies) left' held held') is after in
     absurd run.after
 
-pub served : ReadsOneWay → ReadsOrFails → (wait status : ℕ) (pieces bodies : List (List ℕ)) (journal journal' left left' : Option (List (List ℕ))) (held held' : Option (List ℕ)) (kept : Kept) (request : Request)
-    → journal ≡ Some pieces → kept_of (next_piece pieces) ≡ Ok kept → left ≡ Some bodies → IsTextOf ReadsRequest (next_piece bodies) request
-    → IsAnswerRun wait status journal journal' left left' held held' → status ≡ 0 → held' ≡ appended held (answer_line kept.versions wait request)
-served once law wait status pieces bodies journal journal' left left' held held' kept request told is given reads run e =
-    let run : IsAnswerRun wait status (Some pieces) journal' (Some bodies) left' held held' =
-    subst (λ (l : Option (List (List ℕ))). IsAnswerRun wait status (Some pieces) journal' l left' held held') given
-    (subst (λ (j : Option (List (List ℕ))). IsAnswerRun wait status j journal' left left' held held') told run) in
-    by_loaded once law wait status bodies left' held held' kept request reads run.loaded
+pub served : ReadsOrFails → (times : Settings) (asked : Kind) (status : ℕ) (pieces bodies : List (List ℕ)) (journal journal' left left' : Option (List (List ℕ))) (held held' : Option (List ℕ)) (kept : Kept) (text : List ℕ)
+    → journal ≡ Some pieces → kept_of (next_piece pieces) ≡ Ok kept → left ≡ Some bodies → IsAnswerText kept.versions times asked (next_piece bodies) text
+    → IsAnswerRun times asked status journal journal' left left' held held' → status ≡ 0 → held' ≡ appended held (answer_line text)
+served law times asked status pieces bodies journal journal' left left' held held' kept text told is given answer run e =
+    let run : IsAnswerRun times asked status (Some pieces) journal' (Some bodies) left' held held' =
+    subst (λ (l : Option (List (List ℕ))). IsAnswerRun times asked status (Some pieces) journal' l left' held held') given
+    (subst (λ (j : Option (List (List ℕ))). IsAnswerRun times asked status j journal' left left' held held') told run) in
+    by_loaded law times asked status bodies left' held held' kept text answer run.loaded
     (loaded_as run.bytes run.ended pieces journal' kept run.loaded run.gives is run.outcome) run.after e
 
 -- ---- a run that nothing hindered
 
-unless_whole : (versions : History) (wait : ℕ) (request : Request) (fault : Option ServeFault) (status : ℕ) (held held' : Option (List ℕ))
-    → fault ≡ None → IsWritten (reply_unless versions wait request fault) status held held' → status ≢ 3 → status ≡ 0
-unless_whole versions wait request None status held held' e (inl whole) other = whole.ends
-unless_whole versions wait request None status held held' e (inr cut) other = absurd (other cut.ends)
-unless_whole versions wait request (Some fault) status held held' e written other = absurd (cc)
-
-reading_whole : (versions : History) (wait : ℕ) (request : Request) (reading : Reading) (status : ℕ) (held held' : Option (List ℕ))
-    → reading ≡ Ok request → serve_fault versions request ≡ None → IsWritten (reply_to versions wait reading) status held held' → status ≢ 3 → status ≡ 0
-reading_whole versions wait request reading status held held' is none written other =
-    unless_whole versions wait request (serve_fault versions request) status held held' none
-    (subst (λ (r : Reading). IsWritten (reply_to versions wait r) status held held') is written) other
+text_whole : (text : List ℕ) (status : ℕ) (held held' : Option (List ℕ)) → IsWritten (reply_with text) status held held' → status ≢ 3 → status ≡ 0
+text_whole text status held held' (inl whole) other = whole.ends
+text_whole text status held held' (inr cut) other = absurd (other cut.ends)
 
 -- an input that is short enough is not too long
 by_left : (given piece : List ℕ) (after : Option (List (List ℕ))) → Some piece ≡ prepended given (bytes_left after) → length piece ≤ most_body → most_body < length given → ⊥
@@ -121,41 +118,40 @@ by_left given piece (Some left) e short long =
 short_input : (bodies : List (List ℕ)) (after : Option (List (List ℕ))) → length (next_piece bodies) ≤ most_body → GivesMoreThan most_body (Some bodies) after → ⊥
 short_input bodies after short more = by_left more.given (next_piece bodies) after more.gives.front short more.past
 
-whole_body : ReadsOneWay → ReadsOrFails → (versions : History) (wait status : ℕ) (bodies : List (List ℕ)) (left' : Option (List (List ℕ))) (held held' : Option (List ℕ)) (request : Request)
-    → IsTextOf ReadsRequest (next_piece bodies) request → length (next_piece bodies) ≤ most_body → serve_fault versions request ≡ None
-    → (given : Result (List ℕ) InputFault) → InputOutcome given (Some bodies) left' → AfterInput versions wait given status held held'
+whole_body : ReadsOrFails → (versions : History) (times : Settings) (asked : Kind) (status : ℕ) (bodies : List (List ℕ)) (left' : Option (List (List ℕ))) (held held' : Option (List ℕ)) (text : List ℕ)
+    → IsAnswerText versions times asked (next_piece bodies) text → length (next_piece bodies) ≤ most_body
+    → (given : Result (List ℕ) InputFault) → InputOutcome given (Some bodies) left' → AfterInput versions times asked given status held held'
     → status ≢ 2 → status ≢ 3 → status ≡ 0
-whole_body once law versions wait status bodies left' held held' request reads short none (Ok body) outcome after two three =
+whole_body law versions times asked status bodies left' held held' text answer short (Ok body) outcome after two three =
     let whole : next_piece bodies ≡ body = outcome.0.whole in
-    let is = one_reading once law body request after.reading (subst (λ (text : List ℕ). IsTextOf ReadsRequest text request) whole reads) after.read in
-    reading_whole versions wait request after.reading status held held' is none after.written three
-whole_body once law versions wait status bodies left' held held' request reads short none (Err input.Failed) outcome after two three = absurd (two after.ends)
-whole_body once law versions wait status bodies left' held held' request reads short none (Err input.PastLimit) outcome after two three = absurd (short_input bodies left' short outcome)
-whole_body once law versions wait status bodies left' held held' request reads short none (Err input.OutOfMemory) outcome after two three = absurd after
+    text_whole text status held held' (replied law versions times asked status body text held held' (subst (λ (b : List ℕ). IsAnswerText versions times asked b text) whole answer) after) three
+whole_body law versions times asked status bodies left' held held' text answer short (Err input.Failed) outcome after two three = absurd (two after.ends)
+whole_body law versions times asked status bodies left' held held' text answer short (Err input.PastLimit) outcome after two three = absurd (short_input bodies left' short outcome)
+whole_body law versions times asked status bodies left' held held' text answer short (Err input.OutOfMemory) outcome after two three = absurd after
 
-whole_loaded : ReadsOneWay → ReadsOrFails → (wait status : ℕ) (bodies : List (List ℕ)) (left' : Option (List (List ℕ))) (held held' : Option (List ℕ)) (kept : Kept) (request : Request)
-    → IsTextOf ReadsRequest (next_piece bodies) request → length (next_piece bodies) ≤ most_body → serve_fault kept.versions request ≡ None
-    → (loaded : Result Kept JournalFault) → IsLoadedAs kept loaded → AfterJournal wait loaded status (Some bodies) left' held held'
+whole_loaded : ReadsOrFails → (times : Settings) (asked : Kind) (status : ℕ) (bodies : List (List ℕ)) (left' : Option (List (List ℕ))) (held held' : Option (List ℕ)) (kept : Kept) (text : List ℕ)
+    → IsAnswerText kept.versions times asked (next_piece bodies) text → length (next_piece bodies) ≤ most_body
+    → (loaded : Result Kept JournalFault) → IsLoadedAs kept loaded → AfterJournal times asked loaded status (Some bodies) left' held held'
     → status ≢ 2 → status ≢ 3 → status ≡ 0
-whole_loaded once law wait status bodies left' held held' kept request reads short none loaded (inl is) after two three =
-    let run : IsInputRun kept.versions wait status (Some bodies) left' held held' = subst (λ (l : Result Kept JournalFault). AfterJournal wait l status (Some bodies) left' held held') is after in
-    whole_body once law kept.versions wait status bodies left' held held' request reads short none run.given run.outcome run.after two three
-whole_loaded once law wait status bodies left' held held' kept request reads short none loaded (inr (inl is)) after two three =
-    let run = subst (λ (l : Result Kept JournalFault). AfterJournal wait l status (Some bodies) left' held held') is after in
+whole_loaded law times asked status bodies left' held held' kept text answer short loaded (inl is) after two three =
+    let run : IsInputRun kept.versions times asked status (Some bodies) left' held held' = subst (λ (l : Result Kept JournalFault). AfterJournal times asked l status (Some bodies) left' held held') is after in
+    whole_body law kept.versions times asked status bodies left' held held' text answer short run.given run.outcome run.after two three
+whole_loaded law times asked status bodies left' held held' kept text answer short loaded (inr (inl is)) after two three =
+    let run = subst (λ (l : Result Kept JournalFault). AfterJournal times asked l status (Some bodies) left' held held') is after in
     absurd (two run.after.ends)
-whole_loaded once law wait status bodies left' held held' kept request reads short none loaded (inr (inr is)) after two three =
-    let run = subst (λ (l : Result Kept JournalFault). AfterJournal wait l status (Some bodies) left' held held') is after in
+whole_loaded law times asked status bodies left' held held' kept text answer short loaded (inr (inr is)) after two three =
+    let run = subst (λ (l : Result Kept JournalFault). AfterJournal times asked l status (Some bodies) left' held held') is after in
     absurd run.after
 
-pub answered : ReadsOneWay → ReadsOrFails → (wait status : ℕ) (pieces bodies : List (List ℕ)) (journal journal' left left' : Option (List (List ℕ))) (held held' : Option (List ℕ)) (kept : Kept) (request : Request)
+pub answered : ReadsOrFails → (times : Settings) (asked : Kind) (status : ℕ) (pieces bodies : List (List ℕ)) (journal journal' left left' : Option (List (List ℕ))) (held held' : Option (List ℕ)) (kept : Kept) (text : List ℕ)
     → journal ≡ Some pieces → kept_of (next_piece pieces) ≡ Ok kept → left ≡ Some bodies → length (next_piece bodies) ≤ most_body
-    → IsTextOf ReadsRequest (next_piece bodies) request → serve_fault kept.versions request ≡ None
-    → IsAnswerRun wait status journal journal' left left' held held' → status ≢ 2 → status ≢ 3 → status ≡ 0
-answered once law wait status pieces bodies journal journal' left left' held held' kept request told is given short reads none run two three =
-    let run : IsAnswerRun wait status (Some pieces) journal' (Some bodies) left' held held' =
-    subst (λ (l : Option (List (List ℕ))). IsAnswerRun wait status (Some pieces) journal' l left' held held') given
-    (subst (λ (j : Option (List (List ℕ))). IsAnswerRun wait status j journal' left left' held held') told run) in
-    whole_loaded once law wait status bodies left' held held' kept request reads short none run.loaded
+    → IsAnswerText kept.versions times asked (next_piece bodies) text
+    → IsAnswerRun times asked status journal journal' left left' held held' → status ≢ 2 → status ≢ 3 → status ≡ 0
+answered law times asked status pieces bodies journal journal' left left' held held' kept text told is given short answer run two three =
+    let run : IsAnswerRun times asked status (Some pieces) journal' (Some bodies) left' held held' =
+    subst (λ (l : Option (List (List ℕ))). IsAnswerRun times asked status (Some pieces) journal' l left' held held') given
+    (subst (λ (j : Option (List (List ℕ))). IsAnswerRun times asked status j journal' left left' held held') told run) in
+    whole_loaded law times asked status bodies left' held held' kept text answer short run.loaded
     (loaded_as run.bytes run.ended pieces journal' kept run.loaded run.gives is run.outcome) run.after two three
 
 -- ---- all in all

@@ -4,6 +4,7 @@ use Rattle.std.specs.Prelude.{IfSome, Err}
 use Rattle.std.proofs.lemmas.List.{append-nil}
 use Rattle.sb_outside.specs.Outside.{GivesFront, IfTold, appended, with_entry}
 use Rattle.sb_outside.specs.declared.doors.Connection.{Connection}
+use Rattle.delta_server.specs.declared.answering.Settings.{Settings}
 use Rattle.sb_service.specs.Printed.{connection_line}
 use Rattle.sb_service.specs.Serving.{IsServed, AreServed, Turn, Seen, HasTurns, HasGrown, IsTurn, IsLined, IsRefusal, lines_of, with_entries, HasRun, IsServeRun, StopsAt}
 use Rattle.sb_service.specs.declared.connection.ConnectionEnd.{ConnectionEnd}
@@ -21,18 +22,18 @@ told_itself : (log : Option (List Connection)) → IfTold log log
 told_itself None = tt
 told_itself (Some log) = refl
 
-served_none : (wait : ℕ) (log : Option (List Connection)) → IfSome log (λ _. AreServed wait [])
-served_none wait None = tt
-served_none wait (Some log) = tt
+served_none : (times : Settings) (log : Option (List Connection)) → IfSome log (λ _. AreServed times [])
+served_none times None = tt
+served_none times (Some log) = tt
 
-pub no_turn : (wait : ℕ) (at : Seen) → HasTurns wait [] at at
-no_turn wait at = record {
+pub no_turn : (times : Settings) (at : Seen) → HasTurns times [] at at
+no_turn times at = record {
   gains = refl;
   grows = refl;
   told = tt;
   printed = held_nothing at.held;
   logged = told_itself at.log;
-  served = served_none wait at.log;
+  served = served_none times at.log;
 }
 
 -- ---- a turn that did not end the run
@@ -76,13 +77,13 @@ goes_on (journal.TooLarge n) held held' (inr (inr is)) = omega (arith, is.ends)
 goes_on journal.OutOfMemory held held' (inr is) = is
 
 -- the turn that grew
-abbrev pub turn_of : (wait number status : ℕ) (before after : Seen) → HasGrown wait number status before after → Turn
-turn_of wait number status before after grown =
+abbrev pub turn_of : (times : Settings) (number status : ℕ) (before after : Seen) → HasGrown times number status before after → Turn
+turn_of times number status before after grown =
     record { gained = grown.gained; kept = after.kept; how = grown.told.how; entry = grown.told.logged.entry }
 
-grown_more : (wait number : ℕ) (turns : List Turn) (first before after : Seen) → length turns + 1 ≡ number → HasTurns wait turns first before → (grown : HasGrown wait number 0 before after)
-    → HasTurns wait (turn_of wait number 0 before after grown ∷ turns) first after
-grown_more wait number turns first before after count so_far grown =
+grown_more : (times : Settings) (number : ℕ) (turns : List Turn) (first before after : Seen) → length turns + 1 ≡ number → HasTurns times turns first before → (grown : HasGrown times number 0 before after)
+    → HasTurns times (turn_of times number 0 before after grown ∷ turns) first after
+grown_more times number turns first before after count so_far grown =
     let line = not_ended number grown.told.how before.held after.held grown.told.lined in record {
       gains = (before.left, so_far.gains, grown.gives);
       grows = (before.kept, so_far.grows, grown.grows, refl);
@@ -90,21 +91,21 @@ grown_more wait number turns first before after count so_far grown =
       printed = held_twice first.held before.held after.held (lines_of turns) (connection_line (length turns + 1) grown.told.how) so_far.printed
           (subst (λ (n : ℕ). after.held ≡ appended before.held (connection_line n grown.told.how)) (sym count) line.1);
       logged = told_twice (with_entries first.log turns) before.log after.log grown.told.logged.entry so_far.logged grown.told.logged.logged;
-      served = between_told before.log after.log grown.told.logged.entry (AreServed wait turns) (IsServed after.kept.versions wait grown.told.how grown.told.logged.entry)
+      served = between_told before.log after.log grown.told.logged.entry (AreServed times turns) (IsServed after.kept.versions times grown.told.how grown.told.logged.entry)
           grown.told.logged.logged so_far.served grown.told.logged.says;
     }
 
-pub one_more : (wait number : ℕ) (turns : List Turn) (first before after : Seen) → length turns + 1 ≡ number → HasTurns wait turns first before → IsTurn wait number 0 before after
-    → (more : List Turn) × (length more ≡ number) × HasTurns wait more first after
-one_more wait number turns first before after count so_far (inl grown) =
-    (turn_of wait number 0 before after grown ∷ turns, omega (arith, count), grown_more wait number turns first before after count so_far grown)
-one_more wait number turns first before after count so_far (inr not) = absurd (goes_on not.fault before.held after.held not.refusal)
+pub one_more : (times : Settings) (number : ℕ) (turns : List Turn) (first before after : Seen) → length turns + 1 ≡ number → HasTurns times turns first before → IsTurn times number 0 before after
+    → (more : List Turn) × (length more ≡ number) × HasTurns times more first after
+one_more times number turns first before after count so_far (inl grown) =
+    (turn_of times number 0 before after grown ∷ turns, omega (arith, count), grown_more times number turns first before after count so_far grown)
+one_more times number turns first before after count so_far (inr not) = absurd (goes_on not.fault before.held after.held not.refusal)
 
 -- ---- the end of a run
 
-pub all_done : (wait connections : ℕ) (turns : List Turn) (first last : Seen) (coming : Option (List (List (List ℕ)))) → length turns ≡ connections → HasTurns wait turns first last
-    → HasRun wait connections 0 first last coming
-all_done wait connections turns first last coming count so_far = record {
+pub all_done : (times : Settings) (connections : ℕ) (turns : List Turn) (first last : Seen) (coming : Option (List (List (List ℕ)))) → length turns ≡ connections → HasTurns times turns first last
+    → HasRun times connections 0 first last coming
+all_done times connections turns first last coming count so_far = record {
   turns = turns;
   last = last;
   few = omega (arith, count);
@@ -112,14 +113,14 @@ all_done wait connections turns first last coming count so_far = record {
   stops = inl (count, record { ends = refl; left = refl; held = refl; log = refl });
 }
 
-pub stopped : (wait connections number status : ℕ) (turns : List Turn) (first before after : Seen) (coming : Option (List (List (List ℕ)))) → length turns + 1 ≡ number → number ≤ connections
-    → HasTurns wait turns first before → StopsAt wait number status before after coming → HasRun wait connections status first after coming
-stopped wait connections number status turns first before after coming count few so_far stops = record {
+pub stopped : (times : Settings) (connections number status : ℕ) (turns : List Turn) (first before after : Seen) (coming : Option (List (List (List ℕ)))) → length turns + 1 ≡ number → number ≤ connections
+    → HasTurns times turns first before → StopsAt times number status before after coming → HasRun times connections status first after coming
+stopped times connections number status turns first before after coming count few so_far stops = record {
   turns = turns;
   last = before;
   few = omega (arith, count, few);
   turned = so_far;
-  stops = inr (subst (λ (n : ℕ). StopsAt wait n status before after coming) (sym count) stops);
+  stops = inr (subst (λ (n : ℕ). StopsAt times n status before after coming) (sym count) stops);
 }
 
 -- ---- a run that was refused memory before it read anything
@@ -128,8 +129,8 @@ gives_nothing : (left : Option (List (List ℕ))) → GivesFront [] left left
 gives_nothing None = record { front = refl; later = refl }
 gives_nothing (Some left) = record { front = refl; later = refl }
 
-pub nothing_done : (wait connections : ℕ) (left : Option (List (List ℕ))) (held : Option (List ℕ)) (log : Option (List Connection)) (coming : Option (List (List (List ℕ)))) → IsServeRun wait connections 8 left left held held log log coming
-nothing_done wait connections left held log coming = record {
+pub nothing_done : (times : Settings) (connections : ℕ) (left : Option (List (List ℕ))) (held : Option (List ℕ)) (log : Option (List Connection)) (coming : Option (List (List (List ℕ)))) → IsServeRun times connections 8 left left held held log log coming
+nothing_done times connections left held log coming = record {
   bytes = [];
   ended = false;
   read = left;

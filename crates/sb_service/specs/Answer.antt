@@ -14,7 +14,15 @@ use Rattle.list_versions.specs.declared.fault.JournalFault.{JournalFault}
 use Rattle.list_versions.specs.declared.fault.JournalFault.TheVariants as journal
 use Rattle.update_messages.specs.Reading.{ReadsRequest, IsTextOf}
 use Rattle.update_messages.specs.Faults.{fault_of_request, fault_of_text}
-use Rattle.sb_service.specs.Printed.{Reading, Reply, refusal_of, reply_to}
+use Rattle.update_messages.specs.Messages.{Request}
+use Rattle.hash_messages.specs.Faults.{fault_of_find_request}
+use Rattle.hash_messages.specs.Messages.{AskedHashes}
+use Rattle.hash_messages.specs.Reading.{ReadsFindRequest}
+use Rattle.sb_json.specs.declared.faults.MessageFault.{MessageFault}
+use Rattle.sb_outside.specs.declared.links.Kind.{Kind}
+use Rattle.sb_outside.specs.declared.links.Kind.TheVariants.{Update, Find}
+use Rattle.delta_server.specs.declared.answering.Settings.{Settings}
+use Rattle.sb_service.specs.Printed.{Reply, refusal_of, reply_to_fetch, reply_to_find}
 
 -- each exit status that a run of the server can have
 abbrev pub IsStatus : ℕ → Type 0
@@ -61,32 +69,44 @@ InputOutcome (Err input.Failed) left left' = GivesAtMost most_body left left'
 InputOutcome (Err input.PastLimit) left left' = GivesMoreThan most_body left left'
 InputOutcome (Err input.OutOfMemory) left left' = ⊥
 
--- A body is read as a request, or has a first fault.
-abbrev pub IsReadingOf : List ℕ → Reading → Type 0
-IsReadingOf body (Ok request) = IsTextOf ReadsRequest body request
-IsReadingOf body (Err fault) = fault_of_text fault_of_request (value_of body) ≡ Some fault
+-- A body is read as a request for updates, or has a first fault.
+abbrev pub IsFetchOf : List ℕ → Result Request MessageFault → Type 0
+IsFetchOf body (Ok request) = IsTextOf ReadsRequest body request
+IsFetchOf body (Err fault) = fault_of_text fault_of_request (value_of body) ≡ Some fault
 
--- A body was replied to by a server that has this history and says to wait so many seconds.
-pub record IsReplied (versions : History) (wait : ℕ) (body : List ℕ) (status : ℕ)
+-- A body is read as a request for full hashes, or has a first fault.
+abbrev pub IsFindOf : List ℕ → Result AskedHashes MessageFault → Type 0
+IsFindOf body (Ok request) = IsTextOf ReadsFindRequest body request
+IsFindOf body (Err fault) = fault_of_text fault_of_find_request (value_of body) ≡ Some fault
+
+-- the reply to a body that asks for this, by a server that has this history and these times
+abbrev pub IsReplyTo : History → Settings → Kind → List ℕ → Reply → Type 0
+IsReplyTo versions times Update body reply =
+    (reading : Result Request MessageFault) × IsFetchOf body reading × (reply ≡ reply_to_fetch versions times reading)
+IsReplyTo versions times Find body reply =
+    (reading : Result AskedHashes MessageFault) × IsFindOf body reading × (reply ≡ reply_to_find versions times reading)
+
+-- A body was replied to.
+pub record IsReplied (versions : History) (times : Settings) (asked : Kind) (body : List ℕ) (status : ℕ)
     (held held' : Option (List ℕ)) : Type 0 where
-  pub reading : Reading
-  pub read : IsReadingOf body reading
-  pub written : IsWritten (reply_to versions wait reading) status held held'
+  pub reply : Reply
+  pub right : IsReplyTo versions times asked body reply
+  pub written : IsWritten reply status held held'
 
 -- what the input led to: a reply, 2 where it failed, 6 where it is too long
-abbrev pub AfterInput : History → ℕ → Result (List ℕ) InputFault → ℕ
+abbrev pub AfterInput : History → Settings → Kind → Result (List ℕ) InputFault → ℕ
     → (held held' : Option (List ℕ)) → Type 0
-AfterInput versions wait (Ok body) status held held' = IsReplied versions wait body status held held'
-AfterInput versions wait (Err input.Failed) status held held' = IsSilent 2 status held held'
-AfterInput versions wait (Err input.PastLimit) status held held' = IsSilent 6 status held held'
-AfterInput versions wait (Err input.OutOfMemory) status held held' = ⊥
+AfterInput versions times asked (Ok body) status held held' = IsReplied versions times asked body status held held'
+AfterInput versions times asked (Err input.Failed) status held held' = IsSilent 2 status held held'
+AfterInput versions times asked (Err input.PastLimit) status held held' = IsSilent 6 status held held'
+AfterInput versions times asked (Err input.OutOfMemory) status held held' = ⊥
 
 -- The input was read, and decided.
-pub record IsInputRun (versions : History) (wait status : ℕ) (left left' : Option (List (List ℕ)))
+pub record IsInputRun (versions : History) (times : Settings) (asked : Kind) (status : ℕ) (left left' : Option (List (List ℕ)))
     (held held' : Option (List ℕ)) : Type 0 where
   pub given : Result (List ℕ) InputFault
   pub outcome : InputOutcome given left left'
-  pub after : AfterInput versions wait given status held held'
+  pub after : AfterInput versions times asked given status held held'
 
 -- ---- the journal
 
@@ -103,21 +123,21 @@ pub record IsFaultRun (fault : JournalFault) (status : ℕ) (left left' : Option
   pub after : AfterFault fault status held held'
 
 -- what the journal led to
-abbrev pub AfterJournal : ℕ → Result Kept JournalFault → ℕ → (left left' : Option (List (List ℕ)))
+abbrev pub AfterJournal : Settings → Kind → Result Kept JournalFault → ℕ → (left left' : Option (List (List ℕ)))
     → (held held' : Option (List ℕ)) → Type 0
-AfterJournal wait (Ok kept) status left left' held held' = IsInputRun kept.versions wait status left left' held held'
-AfterJournal wait (Err fault) status left left' held held' = IsFaultRun fault status left left' held held'
+AfterJournal times asked (Ok kept) status left left' held held' = IsInputRun kept.versions times asked status left left' held held'
+AfterJournal times asked (Err fault) status left left' held held' = IsFaultRun fault status left left' held held'
 
--- A run of `answer`, of a server that says to wait so many seconds: the journal gave these bytes, with its end or without,
+-- A run of `answer`, for a body that asks for this, of a server with these times: the journal gave these bytes, with its end or without,
 -- and what they come to decided what became of the input and of the output.
-pub record IsAnswerRun (wait status : ℕ) (journal journal' left left' : Option (List (List ℕ)))
+pub record IsAnswerRun (times : Settings) (asked : Kind) (status : ℕ) (journal journal' left left' : Option (List (List ℕ)))
     (held held' : Option (List ℕ)) : Type 0 where
   pub bytes : List ℕ
   pub ended : Bool
   pub gives : Gives bytes ended journal journal'
   pub loaded : Result Kept JournalFault
   pub outcome : JournalOutcome bytes ended loaded
-  pub after : AfterJournal wait loaded status left left' held held'
+  pub after : AfterJournal times asked loaded status left left' held held'
 
 -- ---- the counts of faults
 

@@ -1,10 +1,11 @@
 -- The command lines that the server takes.
-use Rattle.std.specs.Prelude.{◌≡◌, ℕ, Bool, false, ◌&&◌, if◌then◌else◌, List, [], ◌∷◌, Option, Some, None, option_map, option_and_then, codes}
-use Rattle.std.specs.Option.{option_map_or}
+use Rattle.std.specs.Prelude.{◌≡◌, ℕ, false, ◌&&◌, if◌then◌else◌, List, [], ◌∷◌, Option, Some, None, option_map, option_and_then, codes}
 use Rattle.std.specs.Str.{bytes_eq}
 use Rattle.sb_words.specs.declared.shape.OptionKind.TheVariants.{Needed, Optional}
 use Rattle.sb_words.specs.CommandLine.{Text, CommandOption, CommandShape, Given, given_of, value_among}
 use Rattle.sb_words.specs.Values.{number_of, host_port_of}
+use Rattle.sb_outside.specs.declared.links.Kind.{Kind}
+use Rattle.sb_outside.specs.declared.links.Kind.TheVariants.{Update, Find}
 use Rattle.delta_server.specs.declared.answering.Settings.{Settings}
 use Rattle.sb_service.specs.declared.command.Command.{Command}
 use Rattle.sb_service.specs.declared.command.Command.TheVariants.{Answer, Serve}
@@ -56,24 +57,28 @@ settings_given named =
     (seconds_given (codes "cache") 300 named))
     (seconds_given (codes "wait") 1800 named)
 
--- The kind of the message is `fetch`.
-abbrev pub is_fetch : List (Text × Text) → Bool
-is_fetch named = option_map_or (λ kind. bytes_eq kind (codes "fetch")) (value_among (codes "kind") named) false
+-- the kind of the request: `fetch` for updates, or `find` for full hashes
+abbrev pub kind_of : Text → Option Kind
+kind_of text = if bytes_eq text (codes "fetch") then Some Update else if bytes_eq text (codes "find") then Some Find else None
 
--- What a command line of `answer` says: the path of the journal, and times.
+abbrev pub kind_given : List (Text × Text) → Option Kind
+kind_given named = option_and_then kind_of (value_among (codes "kind") named)
+
+-- What a command line of `answer` says: the path of the journal, the kind of the request, and times.
 pub record AnswerWords : Type 0 where
   pub journal : Text
+  pub kind : Kind
   pub settings : Settings
 
-abbrev pub answer_with : Option Text → Option Settings → Option AnswerWords
-answer_with journal settings =
-    option_and_then (λ path. option_map (λ times. record { journal = path; settings = times }) settings) journal
+abbrev pub answer_with : Option Text → Option Kind → Option Settings → Option AnswerWords
+answer_with journal kind settings =
+    option_and_then (λ path. option_and_then (λ asked. option_map
+    (λ times. record { journal = path; kind = asked; settings = times })
+    settings) kind) journal
 
 abbrev pub answer_given : Given → Option AnswerWords
 answer_given given =
-    if is_fetch given.named
-    then answer_with (value_among (codes "journal") given.named) (settings_given given.named)
-    else None
+    answer_with (value_among (codes "journal") given.named) (kind_given given.named) (settings_given given.named)
 
 -- what the words of `sblistd answer --journal PATH --kind fetch ..` say, where they are such words
 abbrev pub answer_of : List Text → Option AnswerWords
@@ -127,9 +132,12 @@ pub record IsNoCommand (words : List Text) : Type 0 where
   pub answer : answer_of words ≡ None
   pub serve : serve_of words ≡ None
 
--- The words are those of `answer`, with these settings.
-pub record AsksAnswer (words : List Text) (settings : Settings) : Type 0 where
-  pub answer : option_map (λ (answer : AnswerWords). answer.settings) (answer_of words) ≡ Some settings
+-- The words are those of `answer`, for a request of this kind, with these settings.
+pub record AsksAnswer (words : List Text) (kind : Kind) (settings : Settings) : Type 0 where
+  pub line : AnswerWords
+  pub answer : answer_of words ≡ Some line
+  pub asked : line.kind ≡ kind
+  pub times : line.settings ≡ settings
   pub serve : serve_of words ≡ None
 
 -- The words are those of `serve`, with these settings and so many connections.
@@ -143,5 +151,5 @@ pub record AsksServe (words : List Text) (settings : Settings) (connections : �
 -- What the code makes of the words: the command that they are.
 abbrev pub IsCommandOf : List Text → Option Command → Type 0
 IsCommandOf words None = IsNoCommand words
-IsCommandOf words (Some (Answer settings)) = AsksAnswer words settings
+IsCommandOf words (Some (Answer kind settings)) = AsksAnswer words kind settings
 IsCommandOf words (Some (Serve settings connections)) = AsksServe words settings connections

@@ -14,15 +14,16 @@ use Rattle.http_edge.specs.declared.messages.Status.{Status}
 use Rattle.http_edge.specs.declared.messages.Status.TheVariants.{Success, BadRequest}
 use Rattle.update_messages.specs.Messages.{Request}
 use Rattle.delta_server.specs.Answering.{serve_fault}
-use Rattle.sb_service.specs.Connection.{answer_text}
+use Rattle.delta_server.specs.declared.answering.Settings.{Settings}
+use Rattle.sb_service.specs.Connection.{updates_text}
 use Rattle.sb_service.specs.declared.connection.ConnectionEnd.{ConnectionEnd}
 use Rattle.sb_service.specs.declared.connection.ConnectionEnd.TheVariants as end
 
--- When a response to a message has a status, and with which body.
-abbrev pub IsResponseToMessage : History → ℕ → Request → Status → List ℕ → Type 0
-IsResponseToMessage history wait message Success body = (serve_fault history message ≡ None) × (body ≡ answer_text history wait message)
-IsResponseToMessage history wait message BadRequest body = (serve_fault history message ≢ None) × (body ≡ [])
-IsResponseToMessage history wait message status body = ⊥
+-- When a response to a message that asks for updates has a status, and with which body.
+abbrev pub IsResponseToMessage : History → Settings → Request → Status → List ℕ → Type 0
+IsResponseToMessage history times message Success body = (serve_fault history message ≡ None) × (body ≡ updates_text history times message)
+IsResponseToMessage history times message BadRequest body = (serve_fault history message ≢ None) × (body ≡ [])
+IsResponseToMessage history times message status body = ⊥
 
 -- A response to a body that is no message. Want of memory is no such fault.
 pub record IsBareRefusal (refusal : MessageFault) (status : Status) (body : List ℕ) : Type 0 where

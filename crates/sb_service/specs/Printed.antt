@@ -8,12 +8,12 @@ use Rattle.list_versions.specs.Lines.{newline}
 use Rattle.list_versions.specs.declared.fault.JournalFault.{JournalFault}
 use Rattle.list_versions.specs.Printed.{cause_text as journal_cause}
 use Rattle.update_messages.specs.Messages.{Request}
-use Rattle.update_messages.specs.Answer.{fetch_answer}
-use Rattle.update_messages.specs.Writing.{spelling_of_response}
-use Rattle.delta_server.specs.Tokens.{server_naming}
+use Rattle.hash_messages.specs.Messages.{AskedHashes}
 use Rattle.delta_server.specs.Answering.{serve_fault}
 use Rattle.delta_server.specs.declared.answering.ServeFault.{ServeFault}
+use Rattle.delta_server.specs.declared.answering.Settings.{Settings}
 use Rattle.delta_server.specs.declared.answering.ServeFault.TheVariants.{UnknownList, OutOfMemory}
+use Rattle.sb_service.specs.Connection.{updates_text, matches_text}
 use Rattle.sb_service.specs.declared.connection.ConnectionEnd.{ConnectionEnd}
 use Rattle.sb_service.specs.declared.connection.ConnectionEnd.TheVariants as end
 
@@ -30,10 +30,9 @@ abbrev pub serve_cause : ServeFault → List ℕ
 serve_cause (UnknownList place) = codes "unknown-list " ++ decimal place
 serve_cause OutOfMemory = []
 
--- the answer of a server that says to wait so many seconds, and a newline
-abbrev pub answer_line : History → ℕ → Request → List ℕ
-answer_line versions wait request =
-    spelling_of_response (fetch_answer versions (server_naming versions) wait request) ++ newline ∷ []
+-- an answer, and a newline
+abbrev pub answer_line : List ℕ → List ℕ
+answer_line text = text ++ newline ∷ []
 
 -- What is printed, and the status of the run where it was written whole.
 pub record Reply : Type 0 where
@@ -44,18 +43,26 @@ pub record Reply : Type 0 where
 abbrev pub refusal_of : JournalFault → Reply
 refusal_of fault = record { text = journal_line fault; status = 7 }
 
--- A body is read as a request, or has a first fault.
-abbrev pub Reading : Type 0
-Reading = Result Request MessageFault
+-- the reply to one whose request is answered, and to one whose request is refused
+abbrev pub reply_with : List ℕ → Reply
+reply_with text = record { text = answer_line text; status = 0 }
 
--- the reply to a request, by the first of its lists that is not declared
-abbrev pub reply_unless : History → ℕ → Request → Option ServeFault → Reply
-reply_unless versions wait request None = record { text = answer_line versions wait request; status = 0 }
-reply_unless versions wait request (Some fault) = record { text = request_line (serve_cause fault); status = 5 }
+abbrev pub reply_because : List ℕ → Reply
+reply_because cause = record { text = request_line cause; status = 5 }
 
-abbrev pub reply_to : History → ℕ → Reading → Reply
-reply_to versions wait (Ok request) = reply_unless versions wait request (serve_fault versions request)
-reply_to versions wait (Err fault) = record { text = request_line (message_cause fault); status = 5 }
+-- the reply to a request for updates, by the first of its lists that is not declared
+abbrev pub reply_unless : History → Settings → Request → Option ServeFault → Reply
+reply_unless versions times request None = reply_with (updates_text versions times request)
+reply_unless versions times request (Some fault) = reply_because (serve_cause fault)
+
+-- A body is read as a request for updates or for full hashes, or has a first fault.
+abbrev pub reply_to_fetch : History → Settings → Result Request MessageFault → Reply
+reply_to_fetch versions times (Ok request) = reply_unless versions times request (serve_fault versions request)
+reply_to_fetch versions times (Err fault) = reply_because (message_cause fault)
+
+abbrev pub reply_to_find : History → Settings → Result AskedHashes MessageFault → Reply
+reply_to_find versions times (Ok request) = reply_with (matches_text versions times request)
+reply_to_find versions times (Err fault) = reply_because (message_cause fault)
 
 -- how a connection ended; want of memory is never told
 abbrev pub end_text : ConnectionEnd → List ℕ

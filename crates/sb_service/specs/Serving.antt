@@ -10,6 +10,7 @@ use Rattle.sb_model.specs.History.{History}
 use Rattle.list_versions.specs.Journal.{Kept, kept_of, read_on}
 use Rattle.list_versions.specs.Loaded.{Gives, JournalOutcome, FurtherFault}
 use Rattle.list_versions.specs.declared.fault.JournalFault.{JournalFault}
+use Rattle.delta_server.specs.declared.answering.Settings.{Settings}
 use Rattle.sb_service.specs.Answer.{AfterFault, IsSilent}
 use Rattle.sb_service.specs.Connection.{HasWritten}
 use Rattle.sb_service.specs.Printed.{connection_line}
@@ -20,9 +21,9 @@ use Rattle.sb_service.specs.declared.connection.ConnectionEnd.TheVariants as end
 
 -- What a connection was answered, by its entry in the door's log: what was written to it is right for the bytes that it
 -- gave, over the history that was lent. The end of input came where the entry says so, or where nothing was given.
-pub record IsServed (versions : History) (wait : ℕ) (how : ConnectionEnd) (entry : Connection) : Type 0 where
+pub record IsServed (versions : History) (times : Settings) (how : ConnectionEnd) (entry : Connection) : Type 0 where
   pub ended : Bool
-  pub written : HasWritten versions wait entry.given ended how (Some []) (Some entry.written)
+  pub written : HasWritten versions times entry.given ended how (Some []) (Some entry.written)
   pub over : IsTrue ended → IsTrue entry.ended ⊎ (entry.given ≡ [])
   pub read_fault : IsTrue entry.read_fault ↔ (how ≡ end.ReadFault)
   pub write_fault : IsTrue entry.write_fault ↔ (how ≡ end.WriteFault)
@@ -89,9 +90,9 @@ AreTold [] = ⊤
 AreTold (turn ∷ before) = (turn.how ≢ end.OutOfMemory) × AreTold before
 
 -- Each was served over the history that it was lent.
-abbrev pub AreServed : ℕ → List Turn → Type 0
-AreServed wait [] = ⊤
-AreServed wait (turn ∷ before) = IsServed turn.kept.versions wait turn.how turn.entry × AreServed wait before
+abbrev pub AreServed : Settings → List Turn → Type 0
+AreServed times [] = ⊤
+AreServed times (turn ∷ before) = IsServed turn.kept.versions times turn.how turn.entry × AreServed times before
 
 -- What a run is seen by at one moment: what the journal has left, what it tells, what the output holds, and the log.
 pub record Seen : Type 0 where
@@ -101,13 +102,13 @@ pub record Seen : Type 0 where
   pub log : Option (List Connection)
 
 -- From one moment to another there were these turns.
-pub record HasTurns (wait : ℕ) (turns : List Turn) (before after : Seen) : Type 0 where
+pub record HasTurns (times : Settings) (turns : List Turn) (before after : Seen) : Type 0 where
   pub gains : Gains turns before.left after.left
   pub grows : Grows before.kept turns after.kept
   pub told : AreTold turns
   pub printed : after.held ≡ appended before.held (lines_of turns)
   pub logged : IfTold after.log (with_entries before.log turns)
-  pub served : IfSome after.log (λ _. AreServed wait turns)
+  pub served : IfSome after.log (λ _. AreServed times turns)
 
 -- ---- a turn that ended the run, or did not
 
@@ -120,18 +121,18 @@ IsLined number how status held held' =
     ⊎ IsSilent 8 status held held'
 
 -- A connection was served, and its line printed.
-pub record IsTold (versions : History) (wait number status : ℕ) (log log' : Option (List Connection))
+pub record IsTold (versions : History) (times : Settings) (number status : ℕ) (log log' : Option (List Connection))
     (held held' : Option (List ℕ)) : Type 0 where
   pub how : ConnectionEnd
-  pub logged : IsLogged (IsServed versions wait how) log log'
+  pub logged : IsLogged (IsServed versions times how) log log'
   pub lined : IsLined number how status held held'
 
 -- The history grew, and the connection was served over it.
-pub record HasGrown (wait number status : ℕ) (before after : Seen) : Type 0 where
+pub record HasGrown (times : Settings) (number status : ℕ) (before after : Seen) : Type 0 where
   pub gained : List ℕ
   pub gives : Gives gained true before.left after.left
   pub grows : read_on before.kept gained ≡ Ok after.kept
-  pub told : IsTold after.kept.versions wait number status before.log after.log before.held after.held
+  pub told : IsTold after.kept.versions times number status before.log after.log before.held after.held
 
 -- what a journal that is refused led to: 8 for want of memory, 2 where it failed, and else its cause was told
 abbrev pub IsRefusal : JournalFault → ℕ → (held held' : Option (List ℕ)) → Type 0
@@ -148,8 +149,8 @@ pub record HasNotGrown (status : ℕ) (before after : Seen) : Type 0 where
   pub logged : IsLogged IsUntouched before.log after.log
 
 -- a turn with a connection that the door gave
-abbrev pub IsTurn : ℕ → ℕ → ℕ → Seen → Seen → Type 0
-IsTurn wait number status before after = HasGrown wait number status before after ⊎ HasNotGrown status before after
+abbrev pub IsTurn : Settings → ℕ → ℕ → Seen → Seen → Type 0
+IsTurn times number status before after = HasGrown times number status before after ⊎ HasNotGrown status before after
 
 -- ---- a run
 
@@ -161,24 +162,24 @@ pub record EndsWith (wanted status : ℕ) (before after : Seen) : Type 0 where
   pub log : after.log ≡ before.log
 
 -- How a run ended in place of a further turn: no connection was to come, the door failed, or the turn ended it.
-abbrev pub StopsAt : ℕ → ℕ → ℕ → Seen → Seen → Option (List (List (List ℕ))) → Type 0
-StopsAt wait number status before after coming =
+abbrev pub StopsAt : Settings → ℕ → ℕ → Seen → Seen → Option (List (List (List ℕ))) → Type 0
+StopsAt times number status before after coming =
     (EndsWith 0 status before after × IfTold coming (Some []))
     ⊎ EndsWith 9 status before after
-    ⊎ ((status ≢ 0) × IsTurn wait number status before after)
+    ⊎ ((status ≢ 0) × IsTurn times number status before after)
 
 -- The same after so many turns, or these were all.
-abbrev pub Stops : ℕ → ℕ → ℕ → ℕ → Seen → Seen → Option (List (List (List ℕ))) → Type 0
-Stops wait connections turns status before after coming =
-    ((turns ≡ connections) × EndsWith 0 status before after) ⊎ StopsAt wait (turns + 1) status before after coming
+abbrev pub Stops : Settings → ℕ → ℕ → ℕ → Seen → Seen → Option (List (List (List ℕ))) → Type 0
+Stops times connections turns status before after coming =
+    ((turns ≡ connections) × EndsWith 0 status before after) ⊎ StopsAt times (turns + 1) status before after coming
 
 -- The turns with a journal that was loaded, and the end.
-pub record HasRun (wait connections status : ℕ) (before after : Seen) (coming : Option (List (List (List ℕ)))) : Type 0 where
+pub record HasRun (times : Settings) (connections status : ℕ) (before after : Seen) (coming : Option (List (List (List ℕ)))) : Type 0 where
   pub turns : List Turn
   pub last : Seen
   pub few : length turns ≤ connections
-  pub turned : HasTurns wait turns before last
-  pub stops : Stops wait connections (length turns) status last after coming
+  pub turned : HasTurns times turns before last
+  pub stops : Stops times connections (length turns) status last after coming
 
 -- A journal that was not loaded ends the run before any connection.
 pub record HasNotBegun (fault : JournalFault) (status : ℕ) (left left' : Option (List (List ℕ)))
@@ -188,24 +189,24 @@ pub record HasNotBegun (fault : JournalFault) (status : ℕ) (left left' : Optio
   pub untouched : log' ≡ log
 
 -- One that was loaded grew from turn to turn, and each history that was lent is the one of its bytes so far.
-pub record HasBegun (wait connections status : ℕ) (bytes : List ℕ) (kept : Kept) (left left' : Option (List (List ℕ)))
+pub record HasBegun (times : Settings) (connections status : ℕ) (bytes : List ℕ) (kept : Kept) (left left' : Option (List (List ℕ)))
     (held held' : Option (List ℕ)) (log log' : Option (List Connection)) (coming : Option (List (List (List ℕ)))) : Type 0 where
   pub last : Kept
-  pub run : HasRun wait connections status (record { left = left; kept = kept; held = held; log = log })
+  pub run : HasRun times connections status (record { left = left; kept = kept; held = held; log = log })
       (record { left = left'; kept = last; held = held'; log = log' }) coming
   pub journal : AreOfJournal bytes run.turns
 
 -- what the journal led to
-abbrev pub AfterLoad : ℕ → ℕ → List ℕ → Result Kept JournalFault → ℕ → (left left' : Option (List (List ℕ)))
+abbrev pub AfterLoad : Settings → ℕ → List ℕ → Result Kept JournalFault → ℕ → (left left' : Option (List (List ℕ)))
     → (held held' : Option (List ℕ)) → (log log' : Option (List Connection)) → Option (List (List (List ℕ))) → Type 0
-AfterLoad wait connections bytes (Ok kept) status left left' held held' log log' coming =
-    HasBegun wait connections status bytes kept left left' held held' log log' coming
-AfterLoad wait connections bytes (Err fault) status left left' held held' log log' coming =
+AfterLoad times connections bytes (Ok kept) status left left' held held' log log' coming =
+    HasBegun times connections status bytes kept left left' held held' log log' coming
+AfterLoad times connections bytes (Err fault) status left left' held held' log log' coming =
     HasNotBegun fault status left left' held held' log log'
 
--- A run of `serve`, of a server that says to wait so many seconds, for so many connections: the journal gave these bytes,
+-- A run of `serve`, of a server with these times, for so many connections: the journal gave these bytes,
 -- with its end or without, and what they come to decided what became of the rest.
-pub record IsServeRun (wait connections status : ℕ) (left left' : Option (List (List ℕ)))
+pub record IsServeRun (times : Settings) (connections status : ℕ) (left left' : Option (List (List ℕ)))
     (held held' : Option (List ℕ)) (log log' : Option (List Connection)) (coming : Option (List (List (List ℕ)))) : Type 0 where
   pub bytes : List ℕ
   pub ended : Bool
@@ -213,7 +214,7 @@ pub record IsServeRun (wait connections status : ℕ) (left left' : Option (List
   pub gives : Gives bytes ended left read
   pub loaded : Result Kept JournalFault
   pub outcome : JournalOutcome bytes ended loaded
-  pub after : AfterLoad wait connections bytes loaded status read left' held held' log log' coming
+  pub after : AfterLoad times connections bytes loaded status read left' held held' log log' coming
 
 -- A journal that is told has no bad line up to any of its ends.
 abbrev pub HasNoBadLine : List (List ℕ) → Type 0

@@ -7,7 +7,7 @@ use crate::reply::{Reply, refuse_journal, reply_to_body};
 use delta_server::Settings;
 use list_versions::{History, JournalFault};
 use sb_model::OutOfMemory;
-use sb_outside::{Failed, InputFault, Sink, Source, read_to_end, write_all};
+use sb_outside::{Failed, InputFault, Kind, Sink, Source, read_to_end, write_all};
 use std::alloc::Global;
 
 /// The most bytes of the body of a request.
@@ -32,17 +32,18 @@ fn answer_body<O: Sink>(
     alloc: Global,
     history: &History,
     settings: &Settings,
+    kind: Kind,
     body: &[u8],
     out: &mut O,
 ) -> Result<u8, OutOfMemory>
-    ensures replied { IfOk result (λ status. IsReplied history.now.versions settings.now.wait body.now status
+    ensures replied { IfOk result (λ status. IsReplied history.now.versions settings.now kind body.now status
         (O.contents out.old) (O.contents out.new)) }
     ensures ends { IfOk result (λ status. (status ≡ 0) ⊎ (status ≡ 3) ⊎ (status ≡ 5)) }
     ensures failed { result ≡ Ok 3 → Rose (O.faults out.old) (O.faults out.new) }
     ensures kept { result ≢ Ok 3 → O.faults out.new ≡ O.faults out.old }
     ensures memory { OnErr result (out.new ≡ out.old) }
 {
-    let reply = reply_to_body(alloc, history, settings, body)?;
+    let reply = reply_to_body(alloc, history, settings, kind, body)?;
     Ok(print(out, &reply))
 }
 
@@ -51,10 +52,11 @@ fn answer_input<S: Source, O: Sink>(
     alloc: Global,
     history: &History,
     settings: &Settings,
+    kind: Kind,
     input: &mut S,
     out: &mut O,
 ) -> Result<u8, OutOfMemory>
-    ensures run { IfOk result (λ status. IsInputRun history.now.versions settings.now.wait status
+    ensures run { IfOk result (λ status. IsInputRun history.now.versions settings.now kind status
         (S.left input.old) (S.left input.new) (O.contents out.old) (O.contents out.new)) }
     ensures ends { IfOk result (λ status. (status ≡ 0) ⊎ (status ≡ 2) ⊎ (status ≡ 3) ⊎ (status ≡ 5) ⊎ (status ≡ 6)) }
     ensures input_failed { result ≡ Ok 2 → Rose (S.faults input.old) (S.faults input.new) }
@@ -64,7 +66,7 @@ fn answer_input<S: Source, O: Sink>(
     ensures memory { OnErr result (out.new ≡ out.old) }
 {
     match read_to_end(alloc, input, MOST_BODY) {
-        Ok(body) => answer_body(alloc, history, settings, body.as_slice(), out),
+        Ok(body) => answer_body(alloc, history, settings, kind, body.as_slice(), out),
         Err(InputFault::Failed) => Ok(2),
         Err(InputFault::PastLimit) => Ok(6),
         Err(InputFault::OutOfMemory) => Err(OutOfMemory),
@@ -100,11 +102,12 @@ pub(crate) fn answer_fault<O: Sink>(
 pub(crate) fn answer<J: Source, S: Source, O: Sink>(
     alloc: Global,
     settings: &Settings,
+    kind: Kind,
     journal: &mut J,
     input: &mut S,
     out: &mut O,
 ) -> Result<u8, OutOfMemory>
-    ensures run { IfOk result (λ status. IsAnswerRun settings.now.wait status (J.left journal.old) (J.left journal.new)
+    ensures run { IfOk result (λ status. IsAnswerRun settings.now kind status (J.left journal.old) (J.left journal.new)
         (S.left input.old) (S.left input.new) (O.contents out.old) (O.contents out.new)) }
     ensures ends { IfOk result (λ status.
         (status ≡ 0) ⊎ (status ≡ 2) ⊎ (status ≡ 3) ⊎ (status ≡ 5) ⊎ (status ≡ 6) ⊎ (status ≡ 7)) }
@@ -118,7 +121,7 @@ pub(crate) fn answer<J: Source, S: Source, O: Sink>(
     ensures memory { OnErr result (out.new ≡ out.old) }
 {
     match History::load(alloc, journal) {
-        Ok(history) => answer_input(alloc, &history, settings, input, out),
+        Ok(history) => answer_input(alloc, &history, settings, kind, input, out),
         Err(fault) => answer_fault(alloc, fault, out),
     }
 }

@@ -1,10 +1,11 @@
 ghost use Rattle.std.specs.Prelude.{◌≡◌, ◌≤◌, ◌&&◌, IfOk, IfSome, map, option_map, option_and_then, None, codes, string_bytes};
 ghost use Rattle.std.specs.Str.{bytes_eq};
 ghost use Rattle.sb_words.specs.CommandLine.{given_of};
-ghost use Rattle.sb_service.specs.Command.{answer_given, answer_of, answer_shape, connections_given, is_fetch, listen_given, seconds_given, serve_given, serve_of, serve_shape, settings_given, AnswerWords, IsCommandOf, ServeWords};
+ghost use Rattle.sb_service.specs.Command.{answer_given, answer_of, answer_shape, connections_given, kind_given, kind_of, listen_given, seconds_given, serve_given, serve_of, serve_shape, settings_given, AnswerWords, IsCommandOf, ServeWords};
 
 use delta_server::Settings;
 use sb_model::OutOfMemory;
+use sb_outside::Kind;
 use sb_words::{OptionKind, OptionShape, Shape, Words, host_port, number, read_words};
 use std::alloc::Global;
 
@@ -75,8 +76,11 @@ const MOST_SECONDS: u64 = 86_400;
 /// What the words ask for.
 #[derive(Clone, Copy, Debug)]
 pub(crate) enum Command {
-    /// An answer to one fetch request, by a server with these settings.
-    Answer(Settings),
+    /// An answer to one request of a kind, by a server with these settings.
+    Answer {
+        kind: Kind,
+        settings: Settings,
+    },
     /// Updates to so many connections, by a server with these settings.
     Serve {
         settings: Settings,
@@ -89,6 +93,8 @@ pub(crate) enum Command {
 pub(crate) struct AnswerLine<'a> {
     /// The path of the journal.
     pub journal: &'a str,
+    /// The kind of the request.
+    pub kind: Kind,
     pub settings: Settings,
 }
 
@@ -129,32 +135,43 @@ fn settings_in(given: &Words<'_>) -> Option<Settings>
     })
 }
 
-/// Whether the kind of the message is `fetch`.
-fn asks_fetch(given: &Words<'_>) -> bool
-    ensures { result ≡ is_fetch given.now.named }
+/// The kind of requests that a word names.
+fn kind_of(word: &str) -> Option<Kind>
+    ensures { result ≡ kind_of word.now }
 {
-    match given.value("kind") {
-        Some(kind) => kind == "fetch",
-        None => false,
+    match word {
+        "fetch" => Some(Kind::Update),
+        "find" => Some(Kind::Find),
+        _ => None,
     }
+}
+
+/// The kind of the request.
+fn kind_in(given: &Words<'_>) -> Option<Kind>
+    ensures { result ≡ kind_given given.now.named }
+{
+    let word = given.value("kind")?;
+    kind_of(word)
 }
 
 /// What the words after `answer` say, by what they give.
 fn line_in<'a>(given: &Words<'a>) -> Option<AnswerLine<'a>>
-    ensures { option_map (λ line. record { journal = line.journal.now; settings = line.settings }) result
+    ensures { option_map (λ line. record { journal = line.journal.now; kind = line.kind; settings = line.settings }) result
         ≡ answer_given given.now }
 {
-    if !asks_fetch(given) {
-        return None;
-    }
     let journal = given.value("journal")?;
+    let kind = kind_in(given)?;
     let settings = settings_in(given)?;
-    Some(AnswerLine { journal, settings })
+    Some(AnswerLine {
+        journal,
+        kind,
+        settings,
+    })
 }
 
 /// What the words after `answer` say.
 fn line_of<'a>(alloc: Global, words: &'a [String]) -> Result<Option<AnswerLine<'a>>, OutOfMemory>
-    ensures { IfOk result (λ line. option_map (λ line. record { journal = line.journal.now; settings = line.settings }) line
+    ensures { IfOk result (λ line. option_map (λ line. record { journal = line.journal.now; kind = line.kind; settings = line.settings }) line
         ≡ option_and_then answer_given (given_of answer_shape (map string_bytes words.entry.now))) }
 {
     match read_words(alloc, &ANSWER, words) {
@@ -177,7 +194,7 @@ pub(crate) fn answer_line<'a>(
     alloc: Global,
     words: &'a [String],
 ) -> Result<Option<AnswerLine<'a>>, OutOfMemory>
-    ensures { IfOk result (λ line. option_map (λ line. record { journal = line.journal.now; settings = line.settings }) line
+    ensures { IfOk result (λ line. option_map (λ line. record { journal = line.journal.now; kind = line.kind; settings = line.settings }) line
         ≡ answer_of (map string_bytes words.entry.now)) }
 {
     let [program, command, rest @ ..] = words else {
@@ -288,7 +305,10 @@ pub(crate) fn command_of(alloc: Global, words: &[String]) -> Result<Option<Comma
     ensures { IfOk result (λ command. IsCommandOf (map string_bytes words.now) command) }
 {
     match answer_line(alloc, words) {
-        Ok(Some(line)) => Ok(Some(Command::Answer(line.settings))),
+        Ok(Some(line)) => Ok(Some(Command::Answer {
+            kind: line.kind,
+            settings: line.settings,
+        })),
         Ok(None) => serve_command(alloc, words),
         Err(OutOfMemory) => Err(OutOfMemory),
     }

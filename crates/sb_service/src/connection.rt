@@ -1,21 +1,24 @@
-ghost use Rattle.std.specs.Prelude.{◌≡◌, ◌≢◌, ◌==◌, ◌≤◌, ℕ, List, [], position, IfOk, IfErr, IfSome};
+ghost use Rattle.std.specs.Prelude.{◌≡◌, ◌≢◌, ◌==◌, ◌≤◌, ℕ, List, [], position, IfOk, IfErr, IfSome, IfNone};
 ghost use Rattle.sb_outside.specs.Outside.{Rose, next_piece};
+ghost use Rattle.sb_outside.specs.declared.links.Kind.{Kind as Asked};
 ghost use Rattle.sb_model.specs.History.{History as Versions};
 ghost use Rattle.http_edge.specs.declared.messages.HttpRequest.{HttpRequest};
 ghost use Rattle.http_edge.specs.declared.messages.Status.{Status};
-ghost use Rattle.update_messages.specs.Messages.{Request};
-ghost use Rattle.sb_service.specs.Connection.{path_in, IsForUpdates, IsPost, IsResponseTo, refusal_status, IsResponseAfter, Serves, HasGoodRequest, AnswersAtMost};
+ghost use Rattle.http_edge.specs.Exchanges.{path_of};
+ghost use Rattle.delta_server.specs.declared.answering.Settings.{Settings as Times};
+ghost use Rattle.sb_service.specs.Connection.{path_in, IsFor, IsPost, IsResponseTo, matches_text, refusal_status, IsResponseAfter, Serves, HasGoodRequest, AnswersAtMost};
 ghost use Rattle.sb_service.specs.ConnectionLaws.{HasOneResponse, IsAnsweredAsRead};
 ghost use Rattle.sb_service.specs.ConnectionSteps.{IsResponseToMessage, IsBareRefusal, IsStopAfter, IsSent};
 
-use delta_server::{ServeFault, Settings, answer_fetch};
+use delta_server::{ServeFault, Settings, answer_fetch, answer_find};
+use hash_messages::{FindRequest, find_values_read_one_way, read_find, write_matches};
 use http_edge::{
     Allow, HttpRequest, RequestFault, ResponseFault, Status, read_request, write_response,
 };
 use list_versions::History;
 use sb_json::MessageFault;
 use sb_model::{Bytes, OutOfMemory};
-use sb_outside::{Sink, Wire};
+use sb_outside::{Kind, Sink, Wire};
 use std::alloc::Global;
 use update_messages::{
     FetchRequest, read_request as read_message, values_read_one_way, write_response as write_answer,
@@ -34,8 +37,10 @@ pub enum ConnectionEnd {
     OutOfMemory,
 }
 
-/// The path of requests for updates.
+/// The paths of requests, by their kind.
 const UPDATES: &[u8] = b"/v4/threatListUpdates:fetch";
+
+const HASHES: &[u8] = b"/v4/fullHashes:find";
 
 /// A status and the body that goes with it.
 #[derive(Debug, Drop)]
@@ -72,14 +77,28 @@ fn path_in(target: &[u8]) -> &[u8]
     }
 }
 
-/// The response to a message.
+/// The kind of requests with a path; `None` where there is no such kind.
+fn kind_of(path: &[u8]) -> Option<Kind>
+    ensures some { IfSome result (λ kind. path.now ≡ path_of kind) }
+    ensures none { IfNone result ((kind : Asked) → path.now ≢ path_of kind) }
+{
+    if path == UPDATES {
+        Some(Kind::Update)
+    } else if path == HASHES {
+        Some(Kind::Find)
+    } else {
+        None
+    }
+}
+
+/// The response to a message that asks for updates.
 fn answer_message(
     alloc: Global,
     history: &History,
     settings: &Settings,
     message: &FetchRequest,
 ) -> Result<Response, OutOfMemory>
-    ensures { IfOk result (λ response. IsResponseToMessage history.now.versions settings.now.wait message.now
+    ensures { IfOk result (λ response. IsResponseToMessage history.now.versions settings.now message.now
         response.status response.body) }
 {
     match answer_fetch(alloc, history, settings, message) {
@@ -102,20 +121,55 @@ fn refuse_body(alloc: Global, fault: MessageFault) -> Result<Response, OutOfMemo
     }
 }
 
+/// The response to a message that asks for full hashes.
+fn answer_hashes(
+    alloc: Global,
+    history: &History,
+    settings: &Settings,
+    message: &FindRequest,
+) -> Result<Response, OutOfMemory>
+    ensures status { IfOk result (λ response. response.status ≡ Status.Success) }
+    ensures body { IfOk result (λ response. response.body ≡ matches_text history.now.versions settings.now message.now) }
+{
+    let answer = answer_find(alloc, history, settings, message)?;
+    Ok(Response {
+        status: Status::Success,
+        body: write_matches(alloc, &answer)?,
+    })
+}
+
 /// The response to a POST request for updates.
-fn answer_body(
+fn answer_updates_body(
     alloc: Global,
     history: &History,
     settings: &Settings,
     request: &HttpRequest,
 ) -> Result<Response, OutOfMemory>
-    requires updates { IsForUpdates request.now }
+    requires path { IsFor Kind.Update request.now }
     requires post { IsPost request.now }
-    ensures { IfOk result (λ response. IsResponseTo history.now.versions settings.now.wait request.now
+    ensures { IfOk result (λ response. IsResponseTo history.now.versions settings.now request.now
         response.status response.body) }
 {
     match read_message(alloc, request.body.as_slice()) {
         Ok(message) => answer_message(alloc, history, settings, &message),
+        Err(fault) => refuse_body(alloc, fault),
+    }
+}
+
+/// The response to a POST request for full hashes.
+fn answer_hashes_body(
+    alloc: Global,
+    history: &History,
+    settings: &Settings,
+    request: &HttpRequest,
+) -> Result<Response, OutOfMemory>
+    requires path { IsFor Kind.Find request.now }
+    requires post { IsPost request.now }
+    ensures { IfOk result (λ response. IsResponseTo history.now.versions settings.now request.now
+        response.status response.body) }
+{
+    match read_find(alloc, request.body.as_slice()) {
+        Ok(message) => answer_hashes(alloc, history, settings, &message),
         Err(fault) => refuse_body(alloc, fault),
     }
 }
@@ -127,16 +181,19 @@ fn answer_request(
     settings: &Settings,
     request: &HttpRequest,
 ) -> Result<Response, OutOfMemory>
-    ensures { IfOk result (λ response. IsResponseTo history.now.versions settings.now.wait request.now
+    ensures { IfOk result (λ response. IsResponseTo history.now.versions settings.now request.now
         response.status response.body) }
 {
-    if path_in(request.target.as_slice()) != UPDATES {
+    let Some(kind) = kind_of(path_in(request.target.as_slice())) else {
         return Ok(bare(alloc, Status::NotFound));
-    }
+    };
     if request.method.as_slice() != b"POST".as_slice() {
         return Ok(bare(alloc, Status::MethodNotAllowed));
     }
-    answer_body(alloc, history, settings, request)
+    match kind {
+        Kind::Update => answer_updates_body(alloc, history, settings, request),
+        Kind::Find => answer_hashes_body(alloc, history, settings, request),
+    }
 }
 
 /// The status of a refused request. A fault of reading and want of memory have none.
@@ -159,7 +216,7 @@ fn respond(
     settings: &Settings,
     received: Result<HttpRequest, RequestFault>,
 ) -> Result<Response, ConnectionEnd>
-    ensures response { IfOk result (λ response. IsResponseAfter history.now.versions settings.now.wait received
+    ensures response { IfOk result (λ response. IsResponseAfter history.now.versions settings.now received
         response.status response.body) }
     ensures stop { IfErr result (λ end. IsStopAfter received end) }
 {
@@ -195,7 +252,7 @@ fn send<O: Sink>(alloc: Global, sink: &mut O, response: &Response) -> Connection
 /// Reads one request and writes one response (RFC 9112).
 ///
 /// A POST request to `/v4/threatListUpdates:fetch` is answered 200 with the updates that it asks
-/// for. Other responses have no body: 400 where the request is malformed or cut off, where its body
+/// for, and one to `/v4/fullHashes:find` with the full hashes that it asks for. Other responses have no body: 400 where the request is malformed or cut off, where its body
 /// is no message, and where it asks for a list that is not declared; 404 for another path; 405 for
 /// another method; 411 where the length of the body is not given; 413 where it is more than
 /// 1,048,576 bytes; 431 where the head is too long. What follows a `?` in the target is not looked
@@ -207,13 +264,13 @@ pub fn serve_connection<T: Wire>(
     wire: &mut T,
 ) -> ConnectionEnd
     // What the wire gave, and what was written of the answer.
-    ensures serves { Serves history.now.versions settings.now.wait result
+    ensures serves { Serves history.now.versions settings.now result
         (T.left wire.old) (T.left wire.new) (T.contents wire.old) (T.contents wire.new) }
 
-    // A whole request for updates of declared lists is answered with them, or not at all.
+    // A whole request whose body has an answer is answered with that, or not at all.
     ensures complete { IfSome (T.left wire.old) (λ pieces.
-        (message : Request) → HasGoodRequest history.now.versions (next_piece pieces) message
-        → AnswersAtMost history.now.versions settings.now.wait message result (T.contents wire.old) (T.contents wire.new)) }
+        (text : List ℕ) → HasGoodRequest history.now.versions settings.now (next_piece pieces) text
+        → AnswersAtMost text result (T.contents wire.old) (T.contents wire.new)) }
 
     // A fault is counted, and nothing else is.
     ensures read_failed { result ≡ ConnectionEnd.ReadFault → Rose (T.Source.faults wire.old) (T.Source.faults wire.new) }
@@ -228,6 +285,7 @@ pub fn serve_connection<T: Wire>(
     ensures start { T.start wire.new ≡ T.start wire.old }
 {
     values_read_one_way();
+    find_values_read_one_way();
     let received = read_request(alloc, wire);
     match respond(alloc, history, settings, received) {
         Ok(response) => send(alloc, wire, &response),
@@ -238,9 +296,10 @@ pub fn serve_connection<T: Wire>(
 /// A request has one response, and bytes that begin with a whole request are answered as that
 /// request is.
 pub fn requests_have_one_response()
-    ensures one { (history : Versions) (wait : ℕ) (request : HttpRequest) → HasOneResponse history wait request }
-    ensures whole { (history : Versions) (wait : ℕ) (bytes : List ℕ) (request : HttpRequest)
-        → IsAnsweredAsRead history wait bytes request }
+    ensures one { (history : Versions) (times : Times) (request : HttpRequest) → HasOneResponse history times request }
+    ensures whole { (history : Versions) (times : Times) (bytes : List ℕ) (request : HttpRequest)
+        → IsAnsweredAsRead history times bytes request }
 {
     values_read_one_way();
+    find_values_read_one_way();
 }

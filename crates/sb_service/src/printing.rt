@@ -2,10 +2,12 @@ ghost use Rattle.std.specs.Prelude.{◌≡◌, ◌≢◌, ◌++◌, ◌∷◌, [
 ghost use Rattle.sb_json.specs.Printed.{cause_text as message_cause};
 ghost use Rattle.list_versions.specs.Lines.{newline};
 ghost use Rattle.update_messages.specs.Writing.{spelling_of_response};
+ghost use Rattle.hash_messages.specs.Writing.{spelling_of_find_response};
 ghost use Rattle.delta_server.specs.declared.answering.ServeFault.{ServeFault};
-ghost use Rattle.sb_service.specs.Printed.{connection_line as line_of_connection, end_text, journal_line as line_of_journal, request_line, serve_cause};
+ghost use Rattle.sb_service.specs.Printed.{answer_line, connection_line as line_of_connection, end_text, journal_line as line_of_journal, request_line, serve_cause};
 
 use crate::connection::ConnectionEnd;
+use hash_messages::{FindResponse, write_matches};
 use itoa::Buffer;
 use list_versions::{JournalFault, push_journal_cause};
 use sb_json::{MessageFault, push_message_cause};
@@ -48,12 +50,21 @@ pub(crate) fn unknown_line(alloc: Global, place: u32) -> Result<Bytes, OutOfMemo
     Ok(line)
 }
 
-/// The line of an answer.
+/// The line of an answer to a fetch request.
 pub(crate) fn response_line(alloc: Global, response: &FetchResponse) -> Result<Bytes, OutOfMemory>
-    ensures { IfOk result (λ line. line ≡ spelling_of_response response.now ++ newline ∷ []) }
+    ensures { IfOk result (λ line. line ≡ answer_line (spelling_of_response response.now)) }
 {
     let mut line = write_response(alloc, response)?;
     line.append(b"\n")?;
+    Ok(line)
+}
+
+/// The line of an answer to a find request.
+pub(crate) fn matches_line(alloc: Global, response: &FindResponse) -> Result<Bytes, OutOfMemory>
+    ensures { IfOk result (λ line. line ≡ answer_line (spelling_of_find_response response.now)) }
+{
+    let mut line = write_matches(alloc, response)?;
+    line.push(b'\n')?;
     Ok(line)
 }
 

@@ -1,14 +1,17 @@
 ghost use Rattle.std.specs.Prelude.{◌≡◌, ◌≢◌, IfOk};
 ghost use Rattle.sb_json.specs.Printed.{cause_text as message_cause};
 ghost use Rattle.delta_server.specs.Answering.{serve_fault};
-ghost use Rattle.sb_service.specs.Printed.{Reading, refusal_of, reply_to, reply_unless, request_line};
-ghost use Rattle.sb_service.specs.Answer.{IsReadingOf};
+ghost use Rattle.sb_service.specs.Printed.{refusal_of, reply_because, reply_unless, reply_with};
+ghost use Rattle.sb_service.specs.Answer.{IsReplyTo};
+ghost use Rattle.sb_service.specs.Connection.{matches_text};
 
-use crate::printing::{journal_line, message_line, response_line, unknown_line};
-use delta_server::{ServeFault, Settings, answer_fetch};
+use crate::printing::{journal_line, matches_line, message_line, response_line, unknown_line};
+use delta_server::{ServeFault, Settings, answer_fetch, answer_find};
+use hash_messages::{FindRequest, read_find};
 use list_versions::{History, JournalFault};
 use sb_json::MessageFault;
 use sb_model::{Bytes, OutOfMemory};
+use sb_outside::Kind;
 use std::alloc::Global;
 use std::marker::Model;
 use update_messages::{FetchRequest, read_request};
@@ -38,7 +41,7 @@ pub(crate) fn refuse_journal(alloc: Global, fault: JournalFault) -> Result<Reply
 
 /// The reply to a body that has no reading. Want of memory is no cause that is told.
 fn refuse_body(alloc: Global, fault: &MessageFault) -> Result<Reply, OutOfMemory>
-    ensures told { IfOk result (λ reply. reply ≡ record { text = request_line (message_cause fault.now); status = 5 }) }
+    ensures told { IfOk result (λ reply. reply ≡ reply_because (message_cause fault.now)) }
     ensures some { IfOk result (λ _. fault.now ≢ MessageFault.OutOfMemory) }
 {
     if let MessageFault::OutOfMemory = fault {
@@ -55,7 +58,7 @@ fn reply_to_request(
     settings: &Settings,
     request: &FetchRequest,
 ) -> Result<Reply, OutOfMemory>
-    ensures { IfOk result (λ reply. reply ≡ reply_unless history.now.versions settings.now.wait request.now
+    ensures { IfOk result (λ reply. reply ≡ reply_unless history.now.versions settings.now request.now
         (serve_fault history.now.versions request.now)) }
 {
     match answer_fetch(alloc, history, settings, request) {
@@ -72,17 +75,61 @@ fn reply_to_request(
 }
 
 /// The reply to the body of a fetch request.
-pub(crate) fn reply_to_body(
+fn reply_to_fetch(
     alloc: Global,
     history: &History,
     settings: &Settings,
     body: &[u8],
 ) -> Result<Reply, OutOfMemory>
-    ensures { IfOk result (λ reply. (reading : Reading) × IsReadingOf body.now reading
-        × (reply ≡ reply_to history.now.versions settings.now.wait reading)) }
+    ensures { IfOk result (λ reply. IsReplyTo history.now.versions settings.now Kind.Update body.now reply) }
 {
     match read_request(alloc, body) {
         Ok(request) => reply_to_request(alloc, history, settings, &request),
         Err(fault) => refuse_body(alloc, &fault),
+    }
+}
+
+/// The reply to a request for full hashes.
+fn reply_with_matches(
+    alloc: Global,
+    history: &History,
+    settings: &Settings,
+    request: &FindRequest,
+) -> Result<Reply, OutOfMemory>
+    ensures { IfOk result (λ reply. reply ≡ reply_with (matches_text history.now.versions settings.now request.now)) }
+{
+    let response = answer_find(alloc, history, settings, request)?;
+    let text = matches_line(alloc, &response)?;
+    Ok(Reply { text, status: 0 })
+}
+
+/// The reply to the body of a find request.
+fn reply_to_find(
+    alloc: Global,
+    history: &History,
+    settings: &Settings,
+    body: &[u8],
+) -> Result<Reply, OutOfMemory>
+    ensures { IfOk result (λ reply. IsReplyTo history.now.versions settings.now Kind.Find body.now reply) }
+{
+    match read_find(alloc, body) {
+        Ok(request) => reply_with_matches(alloc, history, settings, &request),
+        Err(fault) => refuse_body(alloc, &fault),
+    }
+}
+
+/// The reply to the body of a request of a kind.
+pub(crate) fn reply_to_body(
+    alloc: Global,
+    history: &History,
+    settings: &Settings,
+    kind: Kind,
+    body: &[u8],
+) -> Result<Reply, OutOfMemory>
+    ensures { IfOk result (λ reply. IsReplyTo history.now.versions settings.now kind body.now reply) }
+{
+    match kind {
+        Kind::Update => reply_to_fetch(alloc, history, settings, body),
+        Kind::Find => reply_to_find(alloc, history, settings, body),
     }
 }

@@ -41,7 +41,7 @@ fn serve_wire<O: Sink, D: Door>(
     ensures told { (before : Option (List Connection))
         → IsFresh before (D.log door.old) (D.Wire.number wire) (D.Wire.start wire) (D.Wire.left wire)
         (D.Wire.contents wire) (D.Wire.Source.faults wire) (D.Wire.Sink.faults wire)
-        → IsTold history.now.versions settings.now.wait number result before (D.log door.new)
+        → IsTold history.now.versions settings.now number result before (D.log door.new)
         (O.contents out.old) (O.contents out.new) }
     ensures ends { (result ≡ 0) ⊎ (result ≡ 3) ⊎ (result ≡ 8) }
     ensures failed { result ≡ 3 → Rose (O.faults out.old) (O.faults out.new) }
@@ -85,7 +85,7 @@ fn take_turn<J: Source, O: Sink, D: Door>(
     ensures turn { (before : Option (List Connection))
         → IsFresh before (D.log door.old) (D.Wire.number wire) (D.Wire.start wire) (D.Wire.left wire)
         (D.Wire.contents wire) (D.Wire.Source.faults wire) (D.Wire.Sink.faults wire)
-        → IsTurn settings.now.wait number result
+        → IsTurn settings.now number result
         (record { left = J.left journal.old; kept = history.old; held = O.contents out.old; log = before })
         (record { left = J.left journal.new; kept = history.new; held = O.contents out.new; log = D.log door.new }) }
     ensures ends { (result ≡ 0) ⊎ (result ≡ 2) ⊎ (result ≡ 3) ⊎ (result ≡ 7) ⊎ (result ≡ 8) }
@@ -115,10 +115,10 @@ fn take_next<J: Source, O: Sink, D: Door>(
     out: &mut O,
     door: &mut D,
 ) -> Option<u8>
-    ensures goes_on { IfNone result (IsTurn settings.now.wait number 0
+    ensures goes_on { IfNone result (IsTurn settings.now number 0
         (record { left = J.left journal.old; kept = history.old; held = O.contents out.old; log = D.log door.old })
         (record { left = J.left journal.new; kept = history.new; held = O.contents out.new; log = D.log door.new })) }
-    ensures stops { IfSome result (λ status. StopsAt settings.now.wait number status
+    ensures stops { IfSome result (λ status. StopsAt settings.now number status
         (record { left = J.left journal.old; kept = history.old; held = O.contents out.old; log = D.log door.old })
         (record { left = J.left journal.new; kept = history.new; held = O.contents out.new; log = D.log door.new }) (D.coming door.new)) }
     ensures ends { IfSome result (λ status.
@@ -152,7 +152,7 @@ fn serve_connections<J: Source, O: Sink, D: Door>(
     out: &mut O,
     door: &mut D,
 ) -> u8
-    ensures run { HasRun settings.now.wait connections result
+    ensures run { HasRun settings.now connections result
         (record { left = J.left journal.old; kept = history.old; held = O.contents out.old; log = D.log door.old })
         (record { left = J.left journal.new; kept = history.new; held = O.contents out.new; log = D.log door.new }) (D.coming door.new) }
     ensures ends { (result ≡ 0) ⊎ (result ≡ 2) ⊎ (result ≡ 3) ⊎ (result ≡ 7) ⊎ (result ≡ 8) ⊎ (result ≡ 9) }
@@ -180,7 +180,7 @@ pub(crate) fn serve<J: Source, O: Sink, D: Door>(
     out: &mut O,
     door: &mut D,
 ) -> u8
-    ensures run { IsServeRun settings.now.wait connections result (J.left journal.old) (J.left journal.new)
+    ensures run { IsServeRun settings.now connections result (J.left journal.old) (J.left journal.new)
         (O.contents out.old) (O.contents out.new) (D.log door.old) (D.log door.new) (D.coming door.new) }
     ensures ends { (result ≡ 0) ⊎ (result ≡ 2) ⊎ (result ≡ 3) ⊎ (result ≡ 7) ⊎ (result ≡ 8) ⊎ (result ≡ 9) }
     ensures read_failed { result ≡ 2 → Rose (J.faults journal.old) (J.faults journal.new) }

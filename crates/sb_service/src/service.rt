@@ -1,18 +1,18 @@
 ghost use Rattle.std.specs.Prelude.{◌≡◌, ◌≢◌, ◌⊎◌, ◌++◌, ◌∷◌, ◌≤◌, ℕ, List, [], length, map, string_bytes, None, Some, Ok};
 ghost use Rattle.sb_outside.specs.Outside.{Rose, appended, next_piece};
 ghost use Rattle.list_versions.specs.Journal.{Kept, kept_of};
-ghost use Rattle.update_messages.specs.Messages.{Request};
-ghost use Rattle.update_messages.specs.Reading.{ReadsRequest, IsTextOf};
-ghost use Rattle.delta_server.specs.Answering.{serve_fault};
+ghost use Rattle.sb_outside.specs.declared.links.Kind.{Kind};
 ghost use Rattle.delta_server.specs.declared.answering.Settings.{Settings};
 ghost use Rattle.sb_service.specs.Command.{AnswerWords, IsNoCommand, ServeWords, answer_of, serve_of};
 ghost use Rattle.sb_service.specs.Printed.{answer_line};
+ghost use Rattle.sb_service.specs.Connection.{IsAnswerText};
 ghost use Rattle.sb_service.specs.Answer.{AreCounted, HasNoFault, IsAnswerRun, IsStatus, TellsUsage, most_body};
 ghost use Rattle.sb_service.specs.Serving.{HasNoBadLine, IsServeRun};
 
 use crate::answer::answer;
 use crate::command::{Command, command_of};
 use crate::serve::serve;
+use hash_messages::{find_values_read_one_way, find_values_read_or_have_a_fault};
 use list_versions::cuts_make_no_difference;
 use sb_model::OutOfMemory;
 use sb_outside::{Door, Failed, Sink, Source, write_all};
@@ -21,7 +21,7 @@ use update_messages::{values_read_one_way, values_read_or_have_a_fault};
 
 /// What is printed where the words are no command line.
 pub const USAGE: &str =
-    "usage: sblistd answer --journal PATH --kind fetch [--wait S] [--cache S] [--negative S]\n       \
+    "usage: sblistd answer --journal PATH --kind fetch|find [--wait S] [--cache S] [--negative S]\n       \
     sblistd serve --journal PATH --listen HOST:PORT --connections N [--wait S] [--cache S] [--negative S]\n";
 
 /// Tells how the program is used.
@@ -46,13 +46,13 @@ fn run_command<J: Source, S: Source, O: Sink, D: Door>(
 ) -> u8
     ensures statuses { IsStatus result }
     ensures some { result ≢ 1 }
-    ensures answers { (settings : Settings) → command ≡ Command.Answer settings → result ≢ 8
-        → IsAnswerRun settings.wait result (J.left journal.old) (J.left journal.new)
+    ensures answers { (kind : Kind) (settings : Settings) → command ≡ Command.Answer kind settings → result ≢ 8
+        → IsAnswerRun settings kind result (J.left journal.old) (J.left journal.new)
         (S.left input.old) (S.left input.new) (O.contents out.old) (O.contents out.new) }
-    ensures memory { (settings : Settings) → command ≡ Command.Answer settings → result ≡ 8 → out.new ≡ out.old }
-    ensures untouched { (settings : Settings) → command ≡ Command.Answer settings → door.new ≡ door.old }
+    ensures memory { (kind : Kind) (settings : Settings) → command ≡ Command.Answer kind settings → result ≡ 8 → out.new ≡ out.old }
+    ensures untouched { (kind : Kind) (settings : Settings) → command ≡ Command.Answer kind settings → door.new ≡ door.old }
     ensures serves { (settings : Settings) (connections : ℕ) → command ≡ Command.Serve settings connections
-        → IsServeRun settings.wait connections result (J.left journal.old) (J.left journal.new)
+        → IsServeRun settings connections result (J.left journal.old) (J.left journal.new)
         (O.contents out.old) (O.contents out.new) (D.log door.old) (D.log door.new) (D.coming door.new) }
     ensures unread { (settings : Settings) (connections : ℕ) → command ≡ Command.Serve settings connections
         → input.new ≡ input.old }
@@ -62,7 +62,9 @@ fn run_command<J: Source, S: Source, O: Sink, D: Door>(
         (O.faults out.old) (O.faults out.new) (D.faults door.old) (D.faults door.new) }
 {
     match command {
-        Command::Answer(settings) => match answer(alloc, &settings, journal, input, out) {
+        Command::Answer { kind, settings } => match answer(
+            alloc, &settings, kind, journal, input, out,
+        ) {
             Ok(status) => status,
             Err(OutOfMemory) => 8,
         },
@@ -76,7 +78,8 @@ fn run_command<J: Source, S: Source, O: Sink, D: Door>(
 /// Runs one command of the list server, and answers the exit status. The first word is the program's name, `sblistd`.
 ///
 /// `answer` loads the journal, reads the input to its next end, takes it as the body of a fetch request
-/// (`threatListUpdates:fetch`), and writes the body of the answer and a newline. The door is not used.
+/// (`threatListUpdates:fetch`) or of a find request (`fullHashes:find`), by the kind that the words name, and writes the body
+/// of the answer and a newline. The door is not used.
 ///
 /// `serve` loads the journal and takes connections from the door. Before each it reads the journal to its next end; each
 /// is answered by `serve_connection` and given back to the door in every case, and then its line is written:
@@ -114,14 +117,14 @@ pub fn run_server<J: Source, S: Source, O: Sink, D: Door>(
 
     // `answer`: what became of the journal, the input and the output. Where memory was refused, nothing was written.
     ensures answers { (answer : AnswerWords) → answer_of (map string_bytes words.now) ≡ Some answer → result ≢ 8
-        → IsAnswerRun answer.settings.wait result (J.left journal.old) (J.left journal.new)
+        → IsAnswerRun answer.settings answer.kind result (J.left journal.old) (J.left journal.new)
         (S.left input.old) (S.left input.new) (O.contents out.old) (O.contents out.new) }
     ensures memory { serve_of (map string_bytes words.now) ≡ None → result ≡ 8 → out.new ≡ out.old }
     ensures door { serve_of (map string_bytes words.now) ≡ None → door.new ≡ door.old }
 
     // `serve`: what became of the journal, the connections and the output.
     ensures serves { (line : ServeWords) → serve_of (map string_bytes words.now) ≡ Some line
-        → IsServeRun line.settings.wait line.connections result (J.left journal.old) (J.left journal.new)
+        → IsServeRun line.settings line.connections result (J.left journal.old) (J.left journal.new)
         (O.contents out.old) (O.contents out.new) (D.log door.old) (D.log door.new) (D.coming door.new) }
     ensures no_input { (line : ServeWords) → serve_of (map string_bytes words.now) ≡ Some line → input.new ≡ input.old }
 
@@ -138,28 +141,30 @@ pub fn run_server<J: Source, S: Source, O: Sink, D: Door>(
     ensures counts { AreCounted result (J.faults journal.old) (J.faults journal.new) (S.faults input.old) (S.faults input.new)
         (O.faults out.old) (O.faults out.new) (D.faults door.old) (D.faults door.new) }
 
-    // A request that reads and names declared lists is answered, where the journal has no fault and no count rose.
-    ensures complete { (answer : AnswerWords) (pieces bodies : List (List ℕ)) (kept : Kept) (request : Request)
+    // A body that has an answer gets it, where the journal has no fault and no count rose.
+    ensures complete { (answer : AnswerWords) (pieces bodies : List (List ℕ)) (kept : Kept) (text : List ℕ)
         → answer_of (map string_bytes words.now) ≡ Some answer
         → J.left journal.old ≡ Some pieces → kept_of (next_piece pieces) ≡ Ok kept
         → S.left input.old ≡ Some bodies → length (next_piece bodies) ≤ most_body
-        → IsTextOf ReadsRequest (next_piece bodies) request → serve_fault kept.versions request ≡ None
+        → IsAnswerText kept.versions answer.settings answer.kind (next_piece bodies) text
         → HasNoFault (J.faults journal.old) (J.faults journal.new)
         → HasNoFault (S.faults input.old) (S.faults input.new)
         → HasNoFault (O.faults out.old) (O.faults out.new)
         → (result ≡ 0) ⊎ (result ≡ 8) }
 
-    // What is written with status 0 is the answer to the request that the input is, over the history that the journal
-    // tells.
-    ensures served { (answer : AnswerWords) (pieces bodies : List (List ℕ)) (kept : Kept) (request : Request)
+    // What is written with status 0 is the answer to the body that the input is, over the history that the journal tells.
+    ensures served { (answer : AnswerWords) (pieces bodies : List (List ℕ)) (kept : Kept) (text : List ℕ)
         → answer_of (map string_bytes words.now) ≡ Some answer
         → J.left journal.old ≡ Some pieces → kept_of (next_piece pieces) ≡ Ok kept
-        → S.left input.old ≡ Some bodies → IsTextOf ReadsRequest (next_piece bodies) request
+        → S.left input.old ≡ Some bodies
+        → IsAnswerText kept.versions answer.settings answer.kind (next_piece bodies) text
         → result ≡ 0
-        → O.contents out.new ≡ appended (O.contents out.old) (answer_line kept.versions answer.settings.wait request) }
+        → O.contents out.new ≡ appended (O.contents out.old) (answer_line text) }
 {
     values_read_one_way();
     values_read_or_have_a_fault();
+    find_values_read_one_way();
+    find_values_read_or_have_a_fault();
     cuts_make_no_difference();
     match command_of(alloc, words) {
         Ok(Some(command)) => run_command(alloc, command, journal, input, out, door),

@@ -1,5 +1,5 @@
 //! Answers to fetch requests, and refusals of bodies.
-use crate::runs::{JOURNAL, shows};
+use crate::runs::{JOURNAL, answered, shows};
 use std::alloc::Global;
 use std::process::Abort;
 use std::test::Fail;
@@ -123,4 +123,26 @@ fn the_first_list_that_is_not_declared_is_named(rt: HostRuntime) -> Result<(), F
         5,
         "request unknown-list 1\n",
     )
+}
+
+// Bodies of find requests, and what is answered to them.
+static FINDS: [(&str, u8, &str); 3] = [
+    (
+        "{\"threatInfo\":{\"threatTypes\":[\"MALWARE\"],\"platformTypes\":[\"ANY_PLATFORM\"],\"threatEntryTypes\":[\"URL\"],\"threatEntries\":[{\"hash\":\"MTIzNA==\"},{\"hash\":\"NTY3OA==\"}]}}",
+        0,
+        "{\"matches\":[{\"cacheDuration\":\"300s\",\"platformType\":\"ANY_PLATFORM\",\"threat\":{\"hash\":\"MTIzNAAAAAAAAAAAAAAAAAAAAAAAAAAAAAAAAAAAAAA=\"},\"threatEntryType\":\"URL\",\"threatType\":\"MALWARE\"}],\"minimumWaitDuration\":\"1800s\",\"negativeCacheDuration\":\"300s\"}\n",
+    ),
+    ("{}", 5, "request field missing threatInfo 0\n"),
+    ("[", 5, "request not-json\n"),
+];
+
+#[test]
+fn a_find_gets_the_full_hashes_that_begin_so(rt: HostRuntime) -> Result<(), Fail> {
+    for (body, status, text) in FINDS.iter() {
+        let words = "sblistd answer --journal j --kind find";
+        let (answer, out) = answered(rt.alloc(), words, JOURNAL.as_bytes(), body.as_bytes())?;
+        assert_eq!(&rt; out.bytes(), text.as_bytes());
+        assert_eq!(&rt; answer, *status);
+    }
+    Ok(())
 }

@@ -65,7 +65,7 @@ static REFUSED: [&str; 25] = [
     "sblistd answer",
     "sblistd answer --kind=fetch",
     "sblistd answer --journal=j",
-    "sblistd answer --journal=j --kind=find",
+    "sblistd answer --journal=j --kind=finds",
     "sblistd answer --journal=j --kind=Fetch",
     "sblistd answer --journal=j --kind",
     "sblistd answer --journal= --kind=fetch",
@@ -156,7 +156,7 @@ static NAMED: [(&str, &str, &str); 4] = [
         "j",
         "a.example:80",
     ),
-    ("sblistd answer --kind=find --journal=j", "-", "-"),
+    ("sblistd answer --kind=Find --journal=j", "-", "-"),
     (
         "sblistd serve --listen=a.example:80 --journal=j --connections=0",
         "-",

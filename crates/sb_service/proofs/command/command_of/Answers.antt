@@ -1,9 +1,6 @@
-use Rattle.std.proofs.Common.{sym, ap}
-use Rattle.std.specs.Prelude.{option_map}
-use Rattle.sb_service.specs.Command.{AnswerWords}
+use Rattle.std.proofs.Common.{sym}
 use Rattle.sb_service.proofs.Commands.{asks_answer}
 use Rattle.sb_service.proofs.command.command_of.Goals as goal
 
 pub returns-in-Ok-Some : goal.returns-in-Ok-Some
-returns-in-Ok-Some c =
-    asks_answer _ _ (ap (option_map (λ (answer : AnswerWords). answer.settings)) (sym (rw c.in-Ok-Some.field-0-is at c.in-Ok-Some.ensures)))
+returns-in-Ok-Some c = asks_answer _ _ (sym (rw c.in-Ok-Some.field-0-is at c.in-Ok-Some.ensures))

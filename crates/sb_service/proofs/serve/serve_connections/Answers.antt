@@ -9,7 +9,7 @@ pub loop-taken-preserved : goal.loop-taken-preserved
 loop-taken-preserved g c =
     let inv = c.loop-taken.invariant in
     let is = c.in_default.is in
-    let more = one_more c.args.settings.now.wait (c.loop-taken.taken + 1) inv.0 _ _ _ (omega (arith, inv.1)) inv.2 c.in_default.ensures.goes_on in (
+    let more = one_more c.args.settings.now (c.loop-taken.taken + 1) inv.0 _ _ _ (omega (arith, inv.1)) inv.2 c.in_default.ensures.goes_on in (
       more.0,
       more.1,
       more.2,
@@ -22,5 +22,5 @@ pub returns-in-Some-clause-run : goal.returns-in-Some-clause-run
 returns-in-Some-clause-run g c =
     let inv = c.loop-taken.invariant in
     let few : c.loop-taken.taken < c.args.connections = c.loop-taken-test.true in
-    stopped c.args.settings.now.wait c.args.connections (c.loop-taken.taken + 1) c.in-Some.status inv.0 _ _ _ _
+    stopped c.args.settings.now c.args.connections (c.loop-taken.taken + 1) c.in-Some.status inv.0 _ _ _ _
     (omega (arith, inv.1)) (omega (arith, few)) inv.2 c.in-Some.ensures.stops

@@ -1,4 +1,4 @@
-use Rattle.sb_service.proofs.Runs.{answered, served, none_risen, not_risen, not_8, zero_or_memory}
+use Rattle.sb_service.proofs.Runs.{ReadsOrFails, answered, served, none_risen, not_risen, not_8, zero_or_memory}
 use Rattle.sb_service.proofs.Commands.{is_answer, is_other, is_serve}
 use Rattle.sb_service.proofs.Turns.{nothing_done}
 use Rattle.sb_service.proofs.Journals.{served_to_the_end}
@@ -6,35 +6,41 @@ use Rattle.sb_service.proofs.service.run_server.Goals as goal
 
 pub returns-in-Ok-Some-clause-answers : goal.returns-in-Ok-Some-clause-answers
 returns-in-Ok-Some-clause-answers g c answer words other =
-    c.run_command.ensures.answers answer.settings (is_answer _ _ _ answer c.in-Ok-Some.ensures c.in-Ok-Some.field-0-is words) other
+    c.run_command.ensures.answers answer.kind answer.settings (is_answer _ _ _ answer c.in-Ok-Some.ensures c.in-Ok-Some.field-0-is words) other
 
 pub returns-in-Ok-Some-clause-complete : goal.returns-in-Ok-Some-clause-complete
-returns-in-Ok-Some-clause-complete g c answer pieces bodies kept request words told is given short reads none journal input out =
-    let once = c.values_read_one_way.ensures.request in
-    let law = c.values_read_or_have_a_fault.ensures.request in
+returns-in-Ok-Some-clause-complete g c answer pieces bodies kept text words told is given short has journal input out =
+    let law : ReadsOrFails = record {
+      once = record { updates = c.values_read_one_way.ensures.request; hashes = c.find_values_read_one_way.ensures.request };
+      fetch = c.values_read_or_have_a_fault.ensures.request;
+      find = c.find_values_read_or_have_a_fault.ensures.request;
+    } in
     let counts = c.run_command.ensures.counts in
     zero_or_memory c.run_command.result c.run_command.ensures.statuses (λ other.
-    answered once law answer.settings.wait c.run_command.result pieces bodies _ _ _ _ _ _ kept request told is given short reads none
-    (c.run_command.ensures.answers answer.settings (is_answer _ _ _ answer c.in-Ok-Some.ensures c.in-Ok-Some.field-0-is words) other)
+    answered law answer.settings answer.kind c.run_command.result pieces bodies _ _ _ _ _ _ kept text told is given short has
+    (c.run_command.ensures.answers answer.kind answer.settings (is_answer _ _ _ answer c.in-Ok-Some.ensures c.in-Ok-Some.field-0-is words) other)
     (λ two. none_risen _ _ _ _ journal input (counts.read two))
     (λ three. not_risen _ _ out (counts.written three)))
 
 pub returns-in-Ok-Some-clause-served : goal.returns-in-Ok-Some-clause-served
-returns-in-Ok-Some-clause-served g c answer pieces bodies kept request words told is given reads zero =
-    let once = c.values_read_one_way.ensures.request in
-    let law = c.values_read_or_have_a_fault.ensures.request in
-    served once law answer.settings.wait c.run_command.result pieces bodies _ _ _ _ _ _ kept request told is given reads
-    (c.run_command.ensures.answers answer.settings (is_answer _ _ _ answer c.in-Ok-Some.ensures c.in-Ok-Some.field-0-is words) (not_8 _ zero)) zero
+returns-in-Ok-Some-clause-served g c answer pieces bodies kept text words told is given has zero =
+    let law : ReadsOrFails = record {
+      once = record { updates = c.values_read_one_way.ensures.request; hashes = c.find_values_read_one_way.ensures.request };
+      fetch = c.values_read_or_have_a_fault.ensures.request;
+      find = c.find_values_read_or_have_a_fault.ensures.request;
+    } in
+    served law answer.settings answer.kind c.run_command.result pieces bodies _ _ _ _ _ _ kept text told is given has
+    (c.run_command.ensures.answers answer.kind answer.settings (is_answer _ _ _ answer c.in-Ok-Some.ensures c.in-Ok-Some.field-0-is words) (not_8 _ zero)) zero
 
 pub returns-in-Ok-Some-clause-memory : goal.returns-in-Ok-Some-clause-memory
 returns-in-Ok-Some-clause-memory g c none eight =
     let other = is_other _ _ _ c.in-Ok-Some.ensures c.in-Ok-Some.field-0-is none in
-    c.run_command.ensures.memory other.0 other.1 eight
+    c.run_command.ensures.memory other.0 other.1 other.2 eight
 
 pub returns-in-Ok-Some-clause-door : goal.returns-in-Ok-Some-clause-door
 returns-in-Ok-Some-clause-door g c none =
     let other = is_other _ _ _ c.in-Ok-Some.ensures c.in-Ok-Some.field-0-is none in
-    c.run_command.ensures.untouched other.0 other.1
+    c.run_command.ensures.untouched other.0 other.1 other.2
 
 pub returns-in-Ok-Some-clause-serves : goal.returns-in-Ok-Some-clause-serves
 returns-in-Ok-Some-clause-serves g c line words =
@@ -52,7 +58,7 @@ returns-in-Ok-Some-clause-serves_all g c line pieces words told none journal out
     let is = is_serve _ _ _ line c.in-Ok-Some.ensures c.in-Ok-Some.field-0-is words in
     let counts = c.run_command.ensures.counts in
     zero_or_memory c.run_command.result c.run_command.ensures.statuses (λ other.
-    served_to_the_end c.cuts_make_no_difference.ensures line.settings.wait line.connections c.run_command.result pieces _ _ _ _ _ _ _ told none
+    served_to_the_end c.cuts_make_no_difference.ensures line.settings line.connections c.run_command.result pieces _ _ _ _ _ _ _ told none
     (c.run_command.ensures.serves line.settings line.connections is) (record {
       no_memory = other;
       no_read = λ two. not_risen _ _ journal (c.run_command.ensures.journal_failed line.settings line.connections is two);
