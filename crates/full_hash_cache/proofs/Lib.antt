@@ -1,0 +1,3 @@
+pub mod SamePairs
+pub mod Ranges
+pub mod Steps

@@ -1,0 +1,13 @@
+//! The kept answers to find requests of the Safe Browsing Update API, version 4: what an answer told
+//! of a list and a prefix is used again until its time of keeping has passed.
+//!
+//! `specs/Cache.antt` has the kept pairs as contracts see them, what is said of a hash by them, and
+//! what an answer leaves.
+#![tactic(auto)]
+
+pub use cache::FullHashCache;
+pub use pair::{Cached, Pair};
+
+mod cache;
+mod matches;
+mod pair;
