@@ -2,4 +2,6 @@ pub mod Collision
 pub mod Honest
 pub mod Law
 pub mod Printed
+pub mod Round
 pub mod Run
+pub mod Taking

@@ -1,0 +1,111 @@
+ghost use Rattle.std.specs.Prelude.{◌≡◌, ◌++◌, codes, decimal, OnOk};
+ghost use Rattle.std.specs.List.{flat_map};
+ghost use Rattle.sb_json.specs.Printed.{cause_text};
+ghost use Rattle.sb_round.specs.Printed.{round_line, fault_text, ending_text, end_text, update_line, update_lines, round_lines, taken_text};
+
+use crate::printing::{push_number, push_taken};
+use crate::rounds::{RoundEnd, RoundFault, Taken};
+use http_edge::push_exchange_cause;
+use sb_json::{MessageFault, push_message_cause};
+use sb_model::{Bytes, OutOfMemory, Row};
+
+// Appends what each line of a round begins with.
+fn push_round_number(page: &mut Bytes, number: u64) -> Result<(), OutOfMemory>
+    ensures { OnOk result (page.new ≡ page.old ++ (codes "round " ++ decimal number ++ codes " ")) }
+{
+    page.append(b"round ")?;
+    push_number(page, number)?;
+    page.push(b' ')
+}
+
+// Appends why a body is no message.
+fn push_unreadable(page: &mut Bytes, fault: &MessageFault) -> Result<(), OutOfMemory>
+    ensures { OnOk result (page.new ≡ page.old ++ (codes "unreadable " ++ cause_text fault.now)) }
+{
+    page.append(b"unreadable ")?;
+    push_message_cause(page, fault)?;
+    Ok(())
+}
+
+// Appends why a round brought no message.
+fn push_fault(page: &mut Bytes, fault: &RoundFault) -> Result<(), OutOfMemory>
+    ensures { OnOk result (page.new ≡ page.old ++ fault_text fault.now) }
+{
+    match fault {
+        RoundFault::Exchange(fault) => {
+            page.append(b"failed ")?;
+            push_exchange_cause(page, fault)
+        }
+        RoundFault::Message(fault) => push_unreadable(page, fault),
+    }
+}
+
+// Appends how a round ended.
+fn push_ending(page: &mut Bytes, taken: &Result<Row<Taken>, RoundFault>) -> Result<(), OutOfMemory>
+    ensures { OnOk result (page.new ≡ page.old ++ ending_text taken.now) }
+{
+    match taken {
+        Ok(_) => page.append(b"ok"),
+        Err(fault) => push_fault(page, fault),
+    }
+}
+
+// Appends when a round's session began, and how the round ended.
+fn push_end(page: &mut Bytes, end: &RoundEnd) -> Result<(), OutOfMemory>
+    ensures { OnOk result (page.new ≡ page.old ++ end_text end.now) }
+{
+    page.append(b"at ")?;
+    push_number(page, end.begun.0)?;
+    page.push(b' ')?;
+    push_ending(page, &end.taken)
+}
+
+/// Appends the first line of a round: its number, when its session began, and how it ended.
+pub fn push_round_line(page: &mut Bytes, number: u64, end: &RoundEnd) -> Result<(), OutOfMemory>
+    ensures { OnOk result (page.new ≡ page.old ++ round_line number (end_text end.now)) }
+{
+    push_round_number(page, number)?;
+    push_end(page, end)?;
+    page.push(b'\n')
+}
+
+/// Appends the line of an update that was taken in the round of this number.
+pub fn push_update_line(page: &mut Bytes, number: u64, taken: &Taken) -> Result<(), OutOfMemory>
+    ensures { OnOk result (page.new ≡ page.old ++ update_line number taken.now) }
+{
+    push_round_number(page, number)?;
+    push_taken(page, taken.name, &taken.result)?;
+    page.push(b'\n')
+}
+
+// Appends the lines of the updates, in order.
+fn push_each(page: &mut Bytes, number: u64, taken: &[Taken]) -> Result<(), OutOfMemory>
+    ensures { OnOk result (page.new ≡ page.old ++ flat_map (update_line number) taken.now) }
+{
+    for item in taken {
+        push_update_line(page, number, item)?;
+    }
+    Ok(())
+}
+
+// Appends the lines of the updates, where there are any.
+fn push_update_lines(
+    page: &mut Bytes,
+    number: u64,
+    taken: &Result<Row<Taken>, RoundFault>,
+) -> Result<(), OutOfMemory>
+    ensures { OnOk result (page.new ≡ page.old ++ update_lines number taken.now) }
+{
+    match taken {
+        Ok(taken) => push_each(page, number, taken.as_slice()),
+        Err(_) => Ok(()),
+    }
+}
+
+/// Appends the lines of a round: the first one, and then one for each update in the order of the answer.
+pub fn push_round(page: &mut Bytes, number: u64, end: &RoundEnd) -> Result<(), OutOfMemory>
+    ensures { OnOk result (page.new ≡ page.old ++ round_lines number end.now) }
+{
+    push_round_line(page, number, end)?;
+    push_update_lines(page, number, &end.taken)
+}

@@ -1,0 +1,128 @@
+ghost use Rattle.std.specs.Prelude.{◌≡◌, ◌≢◌, ◌≤◌, Ok, Err, IfOk, OnOk, OnErr};
+ghost use Rattle.sb_outside.specs.Outside.{Rose};
+ghost use Rattle.update_client.specs.Step.{after_updates, results_of};
+ghost use Rattle.wait_rules.specs.Waits.{after_success};
+ghost use Rattle.sb_round.specs.Round.{named_results, taken_from, outside, MakesRound, BreaksOff};
+ghost use Rattle.sb_round.specs.Taking.{HasSettled};
+
+use crate::asking::{Asked, ask};
+use crate::rounds::{RoundEnd, RoundFault, Taken};
+use crate::taking::take_message;
+use http_edge::{ExchangeFault, Target};
+use sb_json::MessageFault;
+use sb_model::{Moment, OutOfMemory, Row};
+use sb_outside::{Clock, Dice, Link};
+use std::alloc::Global;
+use update_client::{ClientLists, FetchOptions};
+use update_messages::FetchResponse;
+use wait_rules::WaitState;
+
+// Takes the message of a session that was closed at this moment.
+fn succeed(
+    alloc: Global,
+    lists: &mut ClientLists,
+    waits: &mut WaitState,
+    ended: Moment,
+    message: &FetchResponse,
+) -> Result<Row<Taken>, OutOfMemory>
+    ensures lists { OnOk result (lists.new ≡ after_updates lists.old message.now.items) }
+    ensures taken { IfOk result (λ taken.
+        taken ≡ named_results message.now.items (results_of lists.old message.now.items)) }
+    ensures waits { OnOk result (waits.new ≡ after_success ended message.now.wait) }
+    ensures lists_kept { OnErr result (lists.new ≡ lists.old) }
+    ensures waits_kept { OnErr result (waits.new ≡ waits.old) }
+{
+    let taken = take_message(alloc, lists, message)?;
+    waits.succeeded(ended, message.wait);
+    Ok(taken)
+}
+
+// Ends a round after its session.
+fn settle<D: Dice>(
+    alloc: Global,
+    lists: &mut ClientLists,
+    waits: &mut WaitState,
+    dice: &mut D,
+    asked: Asked,
+) -> Result<RoundEnd, OutOfMemory>
+    ensures settled { IfOk result (λ end. HasSettled lists.old lists.new waits.old waits.new
+        (D.given dice.old) (D.given dice.new) asked.begun asked.ended asked.answer end) }
+    ensures lists_kept { OnErr result (lists.new ≡ lists.old) }
+    ensures waits_kept { OnErr result (waits.new ≡ waits.old) }
+    ensures undrawn { OnErr result (D.given dice.new ≡ D.given dice.old) }
+    ensures had_message { OnErr result (asked.answer ≢ Err (RoundFault.Exchange ExchangeFault.Link)) }
+{
+    let Asked {
+        begun,
+        ended,
+        answer,
+    } = asked;
+    match answer {
+        Ok(message) => {
+            let taken = succeed(alloc, lists, waits, ended, &message)?;
+            Ok(RoundEnd {
+                begun,
+                taken: Ok(taken),
+            })
+        }
+        Err(fault) => {
+            waits.failed(ended, dice.word());
+            Ok(RoundEnd {
+                begun,
+                taken: Err(fault),
+            })
+        }
+    }
+}
+
+/// Makes one round of updates: waits until the moment that is allowed, asks for updates of all lists in one
+/// session, and takes the answer ("Request Frequency" of the Safe Browsing Update API, version 4).
+///
+/// A message is a success, with the wait that it bids. Anything else is a failure with one drawn word, and
+/// changes no list. After an `Err` the lists and the state of waiting are as before.
+pub fn run_round<L: Link, C: Clock, D: Dice>(
+    alloc: Global,
+    lists: &mut ClientLists,
+    waits: &mut WaitState,
+    options: &FetchOptions,
+    target: &Target,
+    need_digest: bool,
+    link: &mut L,
+    clock: &mut C,
+    dice: &mut D,
+) -> Result<RoundEnd, OutOfMemory>
+    // One round was made, and this is what it left.
+    ensures made { IfOk result (λ end. MakesRound lists.old waits.old options.now target.now need_digest
+        (outside (L.log link.old) (C.answers clock.old) (D.given dice.old))
+        (outside (L.log link.new) (C.answers clock.new) (D.given dice.new))
+        lists.new waits.new end) }
+
+    // Want of memory is no cause of a failed round. It breaks a round off.
+    ensures no_memory { IfOk result (λ end.
+        end.taken ≢ Err (RoundFault.Message MessageFault.OutOfMemory)) }
+    ensures broken_off { OnErr result (BreaksOff lists.old waits.old options.now target.now
+        (outside (L.log link.old) (C.answers clock.old) (D.given dice.old))
+        (outside (L.log link.new) (C.answers clock.new) (D.given dice.new))) }
+    ensures lists_kept { OnErr result (lists.new ≡ lists.old) }
+    ensures waits_kept { OnErr result (waits.new ≡ waits.old) }
+
+    // A fault of the link is counted, and nothing else is.
+    ensures failed { IfOk result (λ end. end.taken ≡ Err (RoundFault.Exchange ExchangeFault.Link)
+        → Rose (L.faults link.old) (L.faults link.new)) }
+    ensures kept { IfOk result (λ end. end.taken ≢ Err (RoundFault.Exchange ExchangeFault.Link)
+        → L.faults link.new ≡ L.faults link.old) }
+    ensures unmoved { OnErr result (L.faults link.new ≡ L.faults link.old) }
+    ensures counted { L.faults link.old ≤ L.faults link.new }
+{
+    let asked = ask(
+        alloc,
+        lists,
+        *waits,
+        options,
+        target,
+        need_digest,
+        link,
+        clock,
+    )?;
+    settle(alloc, lists, waits, dice, asked)
+}
