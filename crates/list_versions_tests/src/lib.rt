@@ -8,6 +8,8 @@ mod histories;
 #[cfg(test)]
 mod journals;
 #[cfg(test)]
+mod largest;
+#[cfg(test)]
 mod limits;
 #[cfg(test)]
 mod tests;

@@ -38,7 +38,7 @@ fn push_digits(text: &mut Bytes, number: u32) -> Result<(), OutOfMemory> {
 }
 
 // Appends a line that adds the hash of these two numbers and 24 zero bytes.
-fn push_hash(text: &mut Bytes, head: u32, tail: u32) -> Result<(), OutOfMemory> {
+pub(crate) fn push_hash(text: &mut Bytes, head: u32, tail: u32) -> Result<(), OutOfMemory> {
     text.push(b'+')?;
     push_digits(text, head)?;
     push_digits(text, tail)?;
