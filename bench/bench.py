@@ -279,6 +279,28 @@ def serve(journal, request, connections):
     return wall, usage.ru_utime, usage.ru_stime
 
 
+def time_connections(name, journal, path, body, few, many):
+    """Tells what each further connection with this body takes."""
+    text = f"POST {path} HTTP/1.1\r\nContent-Length: {len(body)}\r\n\r\n".encode("ascii") + body
+    small, large = serve(journal, text, few), serve(journal, text, many)
+    wall, user, system = ((more - less) / (many - few) for less, more in zip(small, large))
+    tell(name, f"{1 / wall:,.0f} a second", f"{user * 1e3:.2f} ms of its own and {system * 1e3:.2f} ms of the system's each")
+
+
+def find_body(journal, count):
+    """A find request of so many prefixes of four bytes: of every second one a full hash was added."""
+    numbers, prefixes = random.Random(SEED + 3), []
+    with open(journal, encoding="ascii") as lines:
+        for line in lines:
+            if line.startswith("+") and numbers.random() < 0.01:
+                prefixes += [bytes.fromhex(line[1:9]), numbers.randbytes(4)]
+            if len(prefixes) >= count:
+                break
+    info = {"threatTypes": ["MALWARE"], "platformTypes": ["ANY_PLATFORM"], "threatEntryTypes": ["URL"]}
+    info["threatEntries"] = [{"hash": text_of(prefix)} for prefix in prefixes[:count]]
+    return json.dumps({"threatInfo": info}).encode("ascii")
+
+
 def bench_serve(folder):
     """A server of one list. What it does for itself is its user time; the rest is the system's, of its sockets, and the client's."""
     journal, request = os.path.join(folder, "journal"), os.path.join(folder, "request")
@@ -287,12 +309,10 @@ def bench_serve(folder):
     for name, version, few, many in (("one who has the newest", SERVED_CHANGES, 2, 1_002), ("one who has nothing", None, 2, 22)):
         write_request(request, version, 0)
         with open(request, "rb") as body:
-            body = body.read()
-        head = f"POST /v4/threatListUpdates:fetch HTTP/1.1\r\nContent-Length: {len(body)}\r\n\r\n"
-        text = head.encode("ascii") + body
-        small, large = serve(journal, text, few), serve(journal, text, many)
-        wall, user, system = ((more - less) / (many - few) for less, more in zip(small, large))
-        tell(name, f"{1 / wall:,.0f} a second", f"{user * 1e3:.2f} ms of its own and {system * 1e3:.2f} ms of the system's each")
+            time_connections(name, journal, "/v4/threatListUpdates:fetch", body.read(), few, many)
+    for count in (1, 30, 1_024):
+        name = "a find of a prefix" if count == 1 else f"a find of {count:,} prefixes"
+        time_connections(name, journal, "/v4/fullHashes:find", find_body(journal, count), 2, 502)
 
 
 def bench_rice(runs):
