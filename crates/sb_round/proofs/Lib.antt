@@ -3,6 +3,7 @@ pub mod Meanings
 pub mod Replicas
 pub mod Results
 pub mod RoundFacts
+pub mod RunOfRounds
 pub mod SameNames
 pub mod ServedPrefixes
 pub mod SetMembers
