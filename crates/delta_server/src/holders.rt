@@ -18,10 +18,12 @@ pub(crate) type HolderCounts = HashMap<Prefix, u64>;
 
 // Counts one more, and gives the count before.
 fn raise(counts: &mut HolderCounts, prefix: Prefix) -> Result<u64, OutOfMemory>
-    ensures before { IfOk result (λ count. count ≡ unwrap_or (found_in counts.old.entries prefix) 0) }
-    ensures puts { IfOk result (λ count. Puts counts.old.entries counts.new.entries prefix (Some (min (count + 1) (2 ^ 64 - 1)))) }
-    ensures len { OnOk result (length counts.new.entries
-        ≡ length counts.old.entries + (if is_some (found_in counts.old.entries prefix) then 0 else 1)) }
+    ensures before { IfOk result
+        (λ count. count ≡ unwrap_or (found_in counts.old.entries prefix) 0) }
+    ensures puts { IfOk result (λ count. Puts counts.old.entries counts.new.entries prefix
+        (Some (min (count + 1) (2 ^ 64 - 1)))) }
+    ensures len { OnOk result (length counts.new.entries ≡ length counts.old.entries
+        + (if is_some (found_in counts.old.entries prefix) then 0 else 1)) }
 {
     let count = counts.entry(prefix)?.or_insert(0);
     let before = *count;
@@ -31,9 +33,12 @@ fn raise(counts: &mut HolderCounts, prefix: Prefix) -> Result<u64, OutOfMemory>
 
 // Counts one less, and gives the count that is left.
 fn lower(counts: &mut HolderCounts, prefix: Prefix) -> Result<u64, OutOfMemory>
-    ensures left { IfOk result (λ left. left ≡ unwrap_or (found_in counts.old.entries prefix) 0 - 1) }
-    ensures puts { IfOk result (λ left. Puts counts.old.entries counts.new.entries prefix (counted left)) }
-    ensures len { IfOk result (λ left. length counts.new.entries + (if is_some (found_in counts.old.entries prefix) then 1 else 0)
+    ensures left { IfOk result
+        (λ left. left ≡ unwrap_or (found_in counts.old.entries prefix) 0 - 1) }
+    ensures puts { IfOk result
+        (λ left. Puts counts.old.entries counts.new.entries prefix (counted left)) }
+    ensures len { IfOk result (λ left.
+        length counts.new.entries + (if is_some (found_in counts.old.entries prefix) then 1 else 0)
         ≡ length counts.old.entries + (if is_some (counted left) then 1 else 0)) }
 {
     let left = counts.remove(&prefix).unwrap_or(0).saturating_sub(1);
@@ -96,8 +101,9 @@ impl<'a> Holders<'a> {
 
     // A full hash went, where it had a prefix.
     pub(crate) fn leave_if(&mut self, gone: Option<Prefix>) -> Result<(), OutOfMemory>
-        ensures ok { OnOk result ((entries : List Entry) (hash : List ℕ) → AreApart entries → gone ≡ prefix_at hash entries
-            → Counts self.old entries → Counts self.new (without_hash entries hash)) }
+        ensures ok { OnOk result ((entries : List Entry) (hash : List ℕ) → AreApart entries
+            → gone ≡ prefix_at hash entries → Counts self.old entries
+            → Counts self.new (without_hash entries hash)) }
         ensures held { self.new.held.now ≡ self.old.held.now }
     {
         if let Some(prefix) = gone {

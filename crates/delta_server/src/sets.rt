@@ -16,7 +16,8 @@ use update_messages::{Additions, Removals};
 
 // For each size up to 32 whether some member has so many bytes.
 fn sizes_in(members: &[Prefix]) -> [bool; 33]
-    ensures occurs { (size : ℕ) → size < 33 → slice_index_or result size false ≡ list_any (has_size size) members.now }
+    ensures occurs { (size : ℕ) → size < 33
+        → slice_index_or result size false ≡ list_any (has_size size) members.now }
     ensures length { length result ≡ 33 }
 {
     let mut sizes = [false; 33];
