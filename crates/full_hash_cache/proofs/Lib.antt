@@ -1,3 +1,4 @@
 pub mod SamePairs
 pub mod Ranges
 pub mod Steps
+pub mod Told

@@ -6,8 +6,10 @@
 #![tactic(auto)]
 
 pub use cache::FullHashCache;
+pub use laws::unsafe_hashes_were_told;
 pub use pair::{Cached, Pair};
 
 mod cache;
+mod laws;
 mod matches;
 mod pair;

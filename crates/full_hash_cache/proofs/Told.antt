@@ -1,0 +1,276 @@
+-- What a cache keeps was told by answers that it took.
+use Rattle.std.proofs.Common.{rules, ◌≡◌, ℕ, zero, suc, ◌-◌, Bool, true, false, cond, nat_eq, List, [], ◌∷◌, ◌++◌, take, filter, map, Contains, Option, Some, None, IfSome, refl, sym, subst, arith}
+use Rattle.std.specs.Prelude.{◌&&◌}
+use Rattle.std.specs.declared.cmp.Ordering.{Ordering}
+use Rattle.std.specs.declared.cmp.Ordering.TheVariants.{Less, Equal, Greater}
+use Rattle.std.specs.Ordering.{nat_cmp, ordering_then, is_eq, match_ordering}
+use Rattle.std.specs.List.{fold, AllByRecursion}
+use Rattle.std.specs.Option.{option_map_or}
+use Rattle.std.specs.Map.{lookup_entry, remove_entry}
+use Rattle.std.specs.BTreeMap.{insert_entry}
+use Rattle.std.proofs.lemmas.Bool.Decides.{nat_tests}
+use Rattle.lru.specs.LruCache.{promoted}
+use Rattle.sb_model.specs.declared.names.ThreatType.{ThreatType}
+use Rattle.sb_model.specs.declared.names.PlatformType.{PlatformType}
+use Rattle.sb_model.specs.declared.names.EntryType.{EntryType}
+use Rattle.sb_model.specs.declared.names.ListName.{ListName}
+use Rattle.sb_model.specs.declared.time.Moment.{Moment}
+use Rattle.sb_model.specs.Names.{threat_code, platform_code, entry_code, same_name}
+use Rattle.sb_model.specs.Prefixes.{bytes_cmp}
+use Rattle.sb_model.specs.Time.{later_than, cache_of}
+use Rattle.hash_prefixes.specs.declared.hashes.FullHash.{FullHash}
+use Rattle.hash_messages.specs.Messages.{AskedHashes}
+use Rattle.hash_messages.specs.declared.response.Match.{Match}
+use Rattle.hash_messages.specs.declared.response.FindResponse.{FindResponse}
+use Rattle.full_hash_cache.specs.declared.pair.Pair.{Pair}
+use Rattle.full_hash_cache.specs.declared.pair.Cached.TheVariants.{Unsafe, Safe, Ask}
+use Rattle.full_hash_cache.specs.Cache.{Matches, Kept, Pairs, most_pairs, same_pair, same_hash, hash_cmp, is_before, kept_of, end_of, said_by, answer_of, later_end, with_match, ending, matches_for, begins, matches_of, with_pair, put_pair, put_pairs, pairs_asked}
+use Rattle.full_hash_cache.specs.Law.{Step, after_step, after_steps, IsTold, IsToldAfter}
+use Rattle.full_hash_cache.specs.Law.Step.{Takes, Asks}
+
+-- ---- lists
+
+abbrev Each : {X : Type 0} → (X → Type 0) → List X → Type 0
+Each P xs = AllByRecursion P xs
+
+each_map : {X : Type 0} (P Q : X → Type 0) → ((x : X) → P x → Q x) → (xs : List X) → Each P xs → Each Q xs
+each_map P Q f [] h = tt
+each_map P Q f (x ∷ xs) h = (f x h.0, each_map P Q f xs h.1)
+
+here : {X : Type 0} (x : X) (xs : List X) → Contains (x ∷ xs) x
+here x xs = (0, omega arith, refl)
+
+there : {X : Type 0} (x : X) (xs : List X) (y : X) → Contains xs y → Contains (x ∷ xs) y
+there x xs y h = (suc h.0, (let lt = h.1 in omega (arith, lt)), h.2)
+
+each_there : {X : Type 0} (xs : List X) → Each (Contains xs) xs
+each_there [] = tt
+each_there (x ∷ xs) = (here x xs, each_map (Contains xs) (Contains (x ∷ xs)) (there x xs) xs (each_there xs))
+
+each_append : {X : Type 0} (P : X → Type 0) (xs ys : List X) → Each P xs → Each P ys → Each P (xs ++ ys)
+each_append P [] ys h k = k
+each_append P (x ∷ xs) ys h k = (h.0, each_append P xs ys h.1 k)
+
+each_filter : {X : Type 0} (P : X → Type 0) (test : X → Bool) (xs : List X) → Each P xs → Each P (filter test xs)
+each_filter P test [] h = tt
+each_filter P test (x ∷ xs) h = go (test x) (each_filter P test xs h.1)
+  where
+    go : (b : Bool) → Each P (filter test xs) → Each P (cond b (x ∷ filter test xs) (filter test xs))
+    go true more = (h.0, more)
+    go false more = more
+
+each_take : {X : Type 0} (P : X → Type 0) (n : ℕ) (xs : List X) → Each P xs → Each P (take n xs)
+each_take P zero xs h = tt
+each_take P (suc n) [] h = tt
+each_take P (suc n) (x ∷ xs) h = (h.0, each_take P n xs h.1)
+
+-- ---- entries
+
+module _ {K V : Type 0} (P : K × V → Type 0) (test : K → Bool) where
+  each_removed : (es : List (K × V)) → Each P es → Each P (remove_entry test es)
+  each_removed [] h = tt
+  each_removed (e ∷ es) h = go (test e.0) (each_removed es h.1)
+    where
+      go : (b : Bool) → Each P (remove_entry test es) → Each P (cond b es (e ∷ remove_entry test es))
+      go true more = h.1
+      go false more = (h.0, more)
+
+  found_entry : (es : List (K × V)) → Each P es → IfSome (lookup_entry test es) (λ e. P e × (test e.0 ≡ true))
+  found_entry [] h = tt
+  found_entry (e ∷ es) h = go (test e.0) refl (found_entry es h.1)
+    where
+      go : (b : Bool) → test e.0 ≡ b → IfSome (lookup_entry test es) (λ e. P e × (test e.0 ≡ true))
+          → IfSome (cond b (Some e) (lookup_entry test es)) (λ e. P e × (test e.0 ≡ true))
+      go true is more = (h.0, is)
+      go false is more = more
+
+  each_promoted : (es : List (K × V)) → Each P es → Each P (promoted test es)
+  each_promoted es h = go (lookup_entry test es) (found_entry es h)
+    where
+      go : (o : Option (K × V)) → IfSome o (λ e. P e × (test e.0 ≡ true)) → Each P (option_map_or (λ e. e ∷ remove_entry test es) o es)
+      go None is = h
+      go (Some e) is = (is.0, each_removed es h)
+
+-- ---- equal names and hashes
+
+threat_by_code : (a b : ThreatType) → nat_eq (threat_code a) (threat_code b) ≡ true → a ≡ b
+threat_by_code a b h = search rules
+
+platform_by_code : (a b : PlatformType) → nat_eq (platform_code a) (platform_code b) ≡ true → a ≡ b
+platform_by_code a b h = search rules
+
+entry_by_code : (a b : EntryType) → nat_eq (entry_code a) (entry_code b) ≡ true → a ≡ b
+entry_by_code a b h = search rules
+
+all_three : (p q r : Bool) → (p && q && r) ≡ true → (p ≡ true) × (q ≡ true) × (r ≡ true)
+all_three p q r h = search rules
+
+named : (a b : ListName) → a.threat ≡ b.threat → a.platform ≡ b.platform → a.entry ≡ b.entry → a ≡ b
+named a b t p e = search rules
+
+equal_names : (a b : ListName) → same_name a b ≡ true → a ≡ b
+equal_names a b h =
+    let parts = all_three _ _ _ h in
+    named a b (threat_by_code _ _ parts.0) (platform_by_code _ _ parts.1) (entry_by_code _ _ parts.2)
+
+first_of_two : (p q : Bool) → (p && q) ≡ true → p ≡ true
+first_of_two p q h = search rules
+
+equal_lists : (a b : Pair) → same_pair a b ≡ true → a.list ≡ b.list
+equal_lists a b h = equal_names a.list b.list (first_of_two _ _ h)
+
+equal_numbers : (x y : ℕ) → nat_cmp x y ≡ Equal → x ≡ y
+equal_numbers x y h = grind (arith, nat_tests)
+
+equal_bytes : (a b : List ℕ) → bytes_cmp a b ≡ Equal → a ≡ b
+equal_bytes [] [] h = refl
+equal_bytes [] (y ∷ ys) h = cc h
+equal_bytes (x ∷ xs) [] h = cc h
+equal_bytes (x ∷ xs) (y ∷ ys) h = go (nat_cmp x y) refl h (equal_bytes xs ys)
+  where
+    go : (o : Ordering) → nat_cmp x y ≡ o → ordering_then o (bytes_cmp xs ys) ≡ Equal → (bytes_cmp xs ys ≡ Equal → xs ≡ ys) → x ∷ xs ≡ y ∷ ys
+    go Less is h more = cc h
+    go Equal is h more = λ i. equal_numbers x y is i ∷ more h i
+    go Greater is h more = cc h
+
+equal_hashes : (a b : FullHash) → hash_cmp a b ≡ Equal → a ≡ b
+equal_hashes a b h = λ i. record { bytes = equal_bytes a.bytes b.bytes h i }
+
+by_is_eq : (o : Ordering) → is_eq o ≡ true → o ≡ Equal
+by_is_eq Less h = cc h
+by_is_eq Equal h = refl
+by_is_eq Greater h = cc h
+
+-- ---- matches of a list that were told
+
+module _ (T : ListName → FullHash → Moment → Type 0) where
+  abbrev Holds : ListName → Matches → Type 0
+  Holds list matches = Each (λ m. T list m.0 m.1) matches
+
+  kept_end : (list : ListName) (hash : FullHash) (matches : Matches) → Holds list matches → IfSome (end_of matches hash) (λ end. T list hash end)
+  kept_end list hash [] h = tt
+  kept_end list hash (m ∷ ms) h = go (same_hash hash m.0) refl (kept_end list hash ms h.1)
+    where
+      go : (b : Bool) → same_hash hash m.0 ≡ b → IfSome (end_of ms hash) (λ end. T list hash end)
+          → IfSome (cond b (Some m.1) (end_of ms hash)) (λ end. T list hash end)
+      go true is more = subst (λ k. T list k m.1) (sym (equal_hashes hash m.0 (by_is_eq _ is))) h.0
+      go false is more = more
+
+  told_later : (list : ListName) (hash : FullHash) (end : Moment) (o : Option Moment) → T list hash end → IfSome o (λ end. T list hash end) → T list hash (later_end end o)
+  told_later list hash end None h k = h
+  told_later list hash end (Some other) h k = go (is_before end other)
+    where
+      go : (b : Bool) → T list hash (cond b other end)
+      go true = k
+      go false = h
+
+  inserted : (list : ListName) (hash : FullHash) (end : Moment) (matches : Matches) → T list hash end → Holds list matches → Holds list (insert_entry hash_cmp matches hash end)
+  inserted list hash end [] t h = (t, tt)
+  inserted list hash end (m ∷ ms) t h = go (hash_cmp hash m.0) refl (inserted list hash end ms t h.1)
+    where
+      go : (o : Ordering) → hash_cmp hash m.0 ≡ o → Holds list (insert_entry hash_cmp ms hash end)
+          → Holds list (match_ordering o ((hash, end) ∷ m ∷ ms) ((m.0, end) ∷ ms) (m ∷ insert_entry hash_cmp ms hash end))
+      go Less is more = (t, h)
+      go Equal is more = (subst (λ k. T list k end) (equal_hashes hash m.0 is) t, h.1)
+      go Greater is more = (h.0, more)
+
+  with_told : (list : ListName) (matches : Matches) (m : FullHash × Moment) → Holds list matches → T list m.0 m.1 → Holds list (with_match matches m)
+  with_told list matches m h t = inserted list m.0 _ matches (told_later list m.0 m.1 (end_of matches m.0) t (kept_end list m.0 matches h)) h
+
+  all_told : (list : ListName) (found matches : Matches) → Holds list matches → Holds list found → Holds list (fold with_match matches found)
+  all_told list [] matches h k = h
+  all_told list (m ∷ ms) matches h k = all_told list ms (with_match matches m) (with_told list matches m h k.0) k.1
+
+  -- ---- pairs
+
+  abbrev IsFounded : Pairs → Type 0
+  IsFounded pairs = Each (λ (e : Pair × Kept). Holds e.0.list e.1.matches) pairs
+
+  kept_matches : (pair : Pair) (pairs : Pairs) → IsFounded pairs → Holds pair.list (matches_of pairs pair)
+  kept_matches pair [] h = tt
+  kept_matches pair (e ∷ es) h = go (same_pair pair e.0) refl (kept_matches pair es h.1)
+    where
+      go : (b : Bool) → same_pair pair e.0 ≡ b → Holds pair.list (matches_of es pair)
+          → Holds pair.list (option_map_or (λ (kept : Kept). kept.matches) (cond b (Some e.1) (kept_of es pair)) [])
+      go true is more = subst (λ l. Holds l e.1.matches) (sym (equal_lists pair e.0 is)) h.0
+      go false is more = more
+
+  founded_with : (pairs : Pairs) (pair : Pair) (kept : Kept) → IsFounded pairs → Holds pair.list kept.matches → IsFounded (with_pair pairs pair kept)
+  founded_with pairs pair kept h k = go (lookup_entry (same_pair pair) pairs) (found_entry (λ (e : Pair × Kept). Holds e.0.list e.1.matches) (same_pair pair) pairs h)
+    where
+      go : (o : Option (Pair × Kept)) → IfSome o (λ e. Holds e.0.list e.1.matches × (same_pair pair e.0 ≡ true))
+          → IsFounded (option_map_or (λ e. (e.0, kept) ∷ remove_entry (same_pair pair) pairs) o ((pair, kept) ∷ take (most_pairs - 1) pairs))
+      go None is = (k, each_take (λ (e : Pair × Kept). Holds e.0.list e.1.matches) (most_pairs - 1) pairs h)
+      go (Some e) is = (
+        subst (λ l. Holds l kept.matches) (equal_lists pair e.0 is.1) k,
+        each_removed (λ (e : Pair × Kept). Holds e.0.list e.1.matches) (same_pair pair) pairs h,
+      )
+
+  abbrev Returns : Moment → FindResponse → Type 0
+  Returns at response = (list : ListName) → Each (λ (m : Match). same_name m.name list ≡ true → T list m.hash (later_than at (cache_of m.cache))) response.matches
+
+  listed : (at : Moment) (list : ListName) (found : List Match) → Each (λ (m : Match). same_name m.name list ≡ true → T list m.hash (later_than at (cache_of m.cache))) found
+      → Holds list (map (ending at) (filter (λ m. same_name m.name list) found))
+  listed at list [] h = tt
+  listed at list (m ∷ ms) h = go (same_name m.name list) refl (listed at list ms h.1)
+    where
+      go : (b : Bool) → same_name m.name list ≡ b → Holds list (map (ending at) (filter (λ m. same_name m.name list) ms))
+          → Holds list (map (ending at) (cond b (m ∷ filter (λ m. same_name m.name list) ms) (filter (λ m. same_name m.name list) ms)))
+      go true is more = (h.0 is, more)
+      go false is more = more
+
+  founded_put : (at : Moment) (response : FindResponse) → Returns at response → (pairs : Pairs) (pair : Pair) → IsFounded pairs → IsFounded (put_pair at response pairs pair)
+  founded_put at response returned pairs pair h =
+      let told = λ (m : FullHash × Moment). T pair.list m.0 m.1 in
+      let old = each_filter told (λ m. is_before at m.1) (matches_of pairs pair) (kept_matches pair pairs h) in
+      let found = all_told pair.list (map (ending at) (filter (λ m. same_name m.name pair.list) response.matches)) [] tt (listed at pair.list response.matches (returned pair.list)) in
+      let new = each_filter told (λ m. begins pair.prefix m.0) (matches_for at pair.list response.matches) found in
+      founded_with pairs pair _ h (all_told pair.list _ [] tt (each_append told _ _ old new))
+
+  founded_puts : (at : Moment) (response : FindResponse) → Returns at response → (asked : List Pair) (pairs : Pairs) → IsFounded pairs → IsFounded (put_pairs at response pairs asked)
+  founded_puts at response returned [] pairs h = h
+  founded_puts at response returned (pair ∷ asked) pairs h = founded_puts at response returned asked (put_pair at response pairs pair) (founded_put at response returned pairs pair h)
+
+-- ---- steps
+
+returned_by : (all : List Step) (at : Moment) (lists : List ListName) (asked : AskedHashes) (response : FindResponse) → Contains all (Takes at lists asked response)
+    → Returns (IsTold all) at response
+returned_by all at lists asked response h list =
+    each_map (Contains response.matches) _
+    (λ m c is. record { at = at; lists = lists; asked = asked; response = response; found = m; was_taken = h; was_returned = c; of_list = is; of_hash = refl; ends = refl })
+    response.matches (each_there response.matches)
+
+founded_step : (all : List Step) (step : Step) (pairs : Pairs) → Contains all step → IsFounded (IsTold all) pairs → IsFounded (IsTold all) (after_step pairs step)
+founded_step all (Takes at lists asked response) pairs c h = founded_puts (IsTold all) at response (returned_by all at lists asked response c) (pairs_asked asked lists) pairs h
+founded_step all (Asks now pair hash) pairs c h = each_promoted _ (same_pair pair) pairs h
+
+-- from any pairs whose matches were told
+pub founded_steps : (all steps : List Step) (pairs : Pairs) → Each (Contains all) steps → IsFounded (IsTold all) pairs → IsFounded (IsTold all) (after_steps pairs steps)
+founded_steps all [] pairs c h = h
+founded_steps all (step ∷ steps) pairs c h = founded_steps all steps (after_step pairs step) c.1 (founded_step all step pairs c.0 h)
+
+unsafe_is_told : (all : List Step) (now : Moment) (list : ListName) (hash : FullHash) (negative_end : Moment) (o : Option Moment)
+    → IfSome o (λ end. IsTold all list hash end) → said_by now negative_end o ≡ Unsafe → IsToldAfter all now list hash
+unsafe_is_told all now list hash negative_end None h is = go (is_before now negative_end) is
+  where
+    go : (b : Bool) → cond b Safe Ask ≡ Unsafe → IsToldAfter all now list hash
+    go true e = cc e
+    go false e = cc e
+unsafe_is_told all now list hash negative_end (Some end) h is = go (is_before now end) refl is
+  where
+    go : (b : Bool) → is_before now end ≡ b → cond b Unsafe Ask ≡ Unsafe → IsToldAfter all now list hash
+    go true before e = record { end = end; told = h; not_ended = before }
+    go false before e = cc e
+
+unsafe_in : (all : List Step) (now : Moment) (pair : Pair) (hash : FullHash) (pairs : Pairs) → IsFounded (IsTold all) pairs
+    → answer_of pairs now pair hash ≡ Unsafe → IsToldAfter all now pair.list hash
+unsafe_in all now pair hash pairs h is =
+    go (kept_of pairs pair) (kept_matches (IsTold all) pair pairs h) is
+  where
+    go : (o : Option Kept) → Holds (IsTold all) pair.list (option_map_or (λ (kept : Kept). kept.matches) o [])
+        → option_map_or (λ (kept : Kept). said_by now kept.negative_end (end_of kept.matches hash)) o Ask ≡ Unsafe → IsToldAfter all now pair.list hash
+    go None h e = cc e
+    go (Some kept) h e = unsafe_is_told all now pair.list hash kept.negative_end (end_of kept.matches hash) (kept_end (IsTold all) pair.list hash kept.matches h) e
+
+pub told_after : (steps : List Step) (now : Moment) (pair : Pair) (hash : FullHash) → answer_of (after_steps [] steps) now pair hash ≡ Unsafe → IsToldAfter steps now pair.list hash
+told_after steps now pair hash is = unsafe_in steps now pair hash (after_steps [] steps) (founded_steps steps steps [] (each_there steps) tt) is
