@@ -1,7 +1,7 @@
 use crate::values::{found, hash, list, prefix, request, response, windows};
 use full_hash_cache::{Cached, FullHashCache};
 use hash_messages::Match;
-use hash_prefixes::Prefix;
+use hash_prefixes::{FullHash, Prefix};
 use sb_model::{ListName, Moment, OutOfMemory, PlatformType};
 use std::alloc::Global;
 use std::test::Fail;
@@ -85,36 +85,36 @@ fn a_match_that_begins_with_no_asked_prefix_is_left_out(rt: HostRuntime) -> Resu
     Ok(())
 }
 
+/// What is said of a hash for its first four bytes.
+fn says_short(cache: &mut FullHashCache, of: FullHash) -> Cached {
+    let prefix = of.prefix(4);
+    cache.answer(Moment(1), windows(), &prefix, &of)
+}
+
+/// What is said of a hash for all of its bytes.
+fn says_long(cache: &mut FullHashCache, of: FullHash) -> Cached {
+    let prefix = of.prefix(32);
+    cache.answer(Moment(1), windows(), &prefix, &of)
+}
+
 #[test]
 fn prefixes_of_4_and_of_32_bytes_are_pairs_of_their_own(rt: HostRuntime) -> Result<(), Fail> {
     let mut cache = FullHashCache::new(rt.alloc())?;
     let of = hash(7, 1);
-    let (short, long) = (of.prefix(4), of.prefix(32));
-    let matches = [
-        found(hash(7, 0), 300),
-        found(of, 300),
-        found(hash(7, 2), 300),
-    ];
-    take(rt.alloc(), &mut cache, &[windows()], &[long], &matches)?;
-    assert_eq!(rt;
-        cache.answer(Moment(1), windows(), &long, &of),
-        Cached::Unsafe
-    );
-    assert_eq!(rt;
-        cache.answer(Moment(1), windows(), &short, &of),
-        Cached::Ask
-    );
+    let matches = [found(hash(7, 0), 300), found(of, 300)];
     take(
         rt.alloc(),
         &mut cache,
         &[windows()],
-        &[short, long],
-        &matches[1..],
+        &[of.prefix(32)],
+        &matches,
     )?;
-    assert_eq!(rt;
-        cache.answer(Moment(1), windows(), &short, &of),
-        Cached::Unsafe
-    );
+    assert_eq!(rt; says_long(&mut cache, of), Cached::Unsafe);
+    assert_eq!(rt; says_short(&mut cache, of), Cached::Ask);
+    let prefixes = [of.prefix(4), of.prefix(32)];
+    let matches = [found(of, 300), found(hash(7, 2), 300)];
+    take(rt.alloc(), &mut cache, &[windows()], &prefixes, &matches)?;
+    assert_eq!(rt; says_short(&mut cache, of), Cached::Unsafe);
     assert_eq!(rt; says(&mut cache, windows(), 7), Cached::Safe);
     Ok(())
 }

@@ -32,8 +32,9 @@ pub(crate) fn prefix(number: u32) -> Prefix {
     hash(number, 0).prefix(4)
 }
 
-/// A request for prefixes of the lists of malware for Windows and Linux.
+/// A request for prefixes, at most 1,024, of the lists of malware for Windows and Linux.
 pub(crate) fn request(alloc: Global, prefixes: &[Prefix]) -> Result<FindRequest, OutOfMemory> {
+    let prefixes = &prefixes[..prefixes.len().min(1_024)];
     Ok(FindRequest {
         client: ClientInfo {
             id: Text::new(alloc),
