@@ -75,7 +75,7 @@ between (x ∷ xs) k (y ∷ ys) h small = go (nat_cmp x y) refl (between xs k ys
     go Equal is more = rw (is, equal_same x y is) more
     go Greater is more = rw (is, above_not_same x y is) refl
 
-same_number : (x : ℕ) → nat_cmp x x ≡ Equal
+pub same_number : (x : ℕ) → nat_cmp x x ≡ Equal
 same_number x = grind (arith, nat_tests)
 
 all_by_index : (xs : List ℕ) → ((k : ℕ) → get_or xs k 0 < 256) → Bytes xs

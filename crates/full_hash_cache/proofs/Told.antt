@@ -37,10 +37,10 @@ each_map : {X : Type 0} (P Q : X → Type 0) → ((x : X) → P x → Q x) → (
 each_map P Q f [] h = tt
 each_map P Q f (x ∷ xs) h = (f x h.0, each_map P Q f xs h.1)
 
-here : {X : Type 0} (x : X) (xs : List X) → Contains (x ∷ xs) x
+pub here : {X : Type 0} (x : X) (xs : List X) → Contains (x ∷ xs) x
 here x xs = (0, omega arith, refl)
 
-there : {X : Type 0} (x : X) (xs : List X) (y : X) → Contains xs y → Contains (x ∷ xs) y
+pub there : {X : Type 0} (x : X) (xs : List X) (y : X) → Contains xs y → Contains (x ∷ xs) y
 there x xs y h = (suc h.0, (let lt = h.1 in omega (arith, lt)), h.2)
 
 each_there : {X : Type 0} (xs : List X) → Each (Contains xs) xs
@@ -108,12 +108,12 @@ all_three p q r h = search rules
 named : (a b : ListName) → a.threat ≡ b.threat → a.platform ≡ b.platform → a.entry ≡ b.entry → a ≡ b
 named a b t p e = search rules
 
-equal_names : (a b : ListName) → same_name a b ≡ true → a ≡ b
+pub equal_names : (a b : ListName) → same_name a b ≡ true → a ≡ b
 equal_names a b h =
     let parts = all_three _ _ _ h in
     named a b (threat_by_code _ _ parts.0) (platform_by_code _ _ parts.1) (entry_by_code _ _ parts.2)
 
-first_of_two : (p q : Bool) → (p && q) ≡ true → p ≡ true
+pub first_of_two : (p q : Bool) → (p && q) ≡ true → p ≡ true
 first_of_two p q h = search rules
 
 equal_lists : (a b : Pair) → same_pair a b ≡ true → a.list ≡ b.list
@@ -133,10 +133,10 @@ equal_bytes (x ∷ xs) (y ∷ ys) h = go (nat_cmp x y) refl h (equal_bytes xs ys
     go Equal is h more = λ i. equal_numbers x y is i ∷ more h i
     go Greater is h more = cc h
 
-equal_hashes : (a b : FullHash) → hash_cmp a b ≡ Equal → a ≡ b
+pub equal_hashes : (a b : FullHash) → hash_cmp a b ≡ Equal → a ≡ b
 equal_hashes a b h = λ i. record { bytes = equal_bytes a.bytes b.bytes h i }
 
-by_is_eq : (o : Ordering) → is_eq o ≡ true → o ≡ Equal
+pub by_is_eq : (o : Ordering) → is_eq o ≡ true → o ≡ Equal
 by_is_eq Less h = cc h
 by_is_eq Equal h = refl
 by_is_eq Greater h = cc h

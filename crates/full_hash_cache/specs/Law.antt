@@ -1,5 +1,5 @@
 -- Runs of a cache: answers to find requests that are taken, and hashes that are asked for.
-use Rattle.std.specs.Prelude.{◌≡◌, List, Contains, IsTrue}
+use Rattle.std.specs.Prelude.{◌≡◌, List, [], ◌∷◌, ◌++◌, None, Contains, IsTrue}
 use Rattle.std.specs.List.{fold}
 use Rattle.sb_model.specs.declared.names.ListName.{ListName}
 use Rattle.sb_model.specs.declared.time.Moment.{Moment}
@@ -10,7 +10,7 @@ use Rattle.hash_messages.specs.Messages.{AskedHashes}
 use Rattle.hash_messages.specs.declared.response.Match.{Match}
 use Rattle.hash_messages.specs.declared.response.FindResponse.{FindResponse}
 use Rattle.full_hash_cache.specs.declared.pair.Pair.{Pair}
-use Rattle.full_hash_cache.specs.Cache.{Pairs, asked_pairs, taken, is_before}
+use Rattle.full_hash_cache.specs.Cache.{Pairs, asked_pairs, end_of, matches_of, pairs_asked, taken, is_before}
 
 -- An answer is taken, which was received at a moment, or a hash is asked for.
 pub data Step : Type 0 where
@@ -43,3 +43,28 @@ pub record IsToldAfter (steps : List Step) (now : Moment) (list : ListName) (has
   pub end : Moment
   pub told : IsTold steps list hash end
   pub not_ended : IsTrue (is_before now end)
+
+-- A step puts a pair where it takes an answer to a request that asks for the pair.
+abbrev pub Puts : Step → Pair → Type 0
+Puts (Takes at lists asked response) pair = Contains (pairs_asked asked lists) pair
+Puts (Asks now other hash) pair = ⊥
+
+-- Of the steps that put a pair, the last one took this answer, which was received at a moment.
+pub record IsLastPut (steps : List Step) (pair : Pair) (at : Moment) (response : FindResponse) : Type 0 where
+  pub before : List Step
+  pub lists : List ListName
+  pub asked : AskedHashes
+  pub after : List Step
+  pub parted : steps ≡ before ++ Takes at lists asked response ∷ after
+  pub was_put : Contains (pairs_asked asked lists) pair
+  pub is_last : (step : Step) → Contains after step → Puts step pair → ⊥
+
+-- The last answer that put a pair has no match of the pair's list and a hash; its negative duration, counted from
+-- when it was received, has not passed at a moment; and no match of the hash is kept of the pair.
+pub record IsNotReturned (steps : List Step) (now : Moment) (pair : Pair) (hash : FullHash) : Type 0 where
+  pub at : Moment
+  pub response : FindResponse
+  pub last_put : IsLastPut steps pair at response
+  pub not_returned : (found : Match) → Contains response.matches found → IsTrue (same_name found.name pair.list) → found.hash ≡ hash → ⊥
+  pub not_ended : IsTrue (is_before now (later_than at (cache_of response.negative)))
+  pub none_kept : end_of (matches_of (after_steps [] steps) pair) hash ≡ None

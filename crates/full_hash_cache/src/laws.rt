@@ -1,8 +1,8 @@
-ghost use Rattle.std.specs.Prelude.{◌≡◌, List, []};
+ghost use Rattle.std.specs.Prelude.{◌≡◌, List, [], length, take};
 ghost use Rattle.sb_model.specs.declared.time.Moment.{Moment};
 ghost use Rattle.hash_prefixes.specs.declared.hashes.FullHash.{FullHash};
 ghost use Rattle.full_hash_cache.specs.Cache.{answer_of};
-ghost use Rattle.full_hash_cache.specs.Law.{Step, after_steps, IsToldAfter};
+ghost use Rattle.full_hash_cache.specs.Law.{Step, after_steps, IsToldAfter, IsNotReturned};
 ghost use Rattle.full_hash_cache.specs.declared.pair.Pair.{Pair};
 
 use crate::Cached;
@@ -13,4 +13,14 @@ pub fn unsafe_hashes_were_told()
     ensures { (steps : List Step) (now : Moment) (pair : Pair) (hash : FullHash)
         → answer_of (after_steps [] steps) now pair hash ≡ Cached.Unsafe
         → IsToldAfter steps now pair.list hash }
+{}
+
+/// A cache that began with no pairs says that a hash is safe, for a list and a prefix that begins the
+/// hash, only where the last answer that put the two has no match of the list and the hash, its
+/// negative duration has not passed, and no match of the hash is kept.
+pub fn safe_hashes_were_not_returned()
+    ensures { (steps : List Step) (now : Moment) (pair : Pair) (hash : FullHash)
+        → take (length pair.prefix) hash.bytes ≡ pair.prefix
+        → answer_of (after_steps [] steps) now pair hash ≡ Cached.Safe
+        → IsNotReturned steps now pair hash }
 {}

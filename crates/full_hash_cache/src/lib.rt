@@ -6,7 +6,7 @@
 #![tactic(auto)]
 
 pub use cache::FullHashCache;
-pub use laws::unsafe_hashes_were_told;
+pub use laws::{safe_hashes_were_not_returned, unsafe_hashes_were_told};
 pub use pair::{Cached, Pair};
 
 mod cache;
