@@ -33,5 +33,6 @@ pub mod Shown
 pub mod Single
 pub mod Splitting
 pub mod TakingOut
+pub mod Unordered
 pub mod Starting
 pub mod Words

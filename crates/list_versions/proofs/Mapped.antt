@@ -1,6 +1,6 @@
 -- Maps from full hashes to sizes, and the full hashes that they stand for.
 use Rattle.std.proofs.Common.{◌≡◌, ◌⊎◌, ℕ, List, [], ◌∷◌, map, refl, sym, ap, subst, ◌∙◌, inl, inr, arith, Bool, true, false, not, cond, Option, Some, None, fold}
-use Rattle.std.specs.Prelude.{All, Contains, ◌↔◌, filter, Result, Ok, Err, IfOk, OnOk}
+use Rattle.std.specs.Prelude.{All, Contains, ◌↔◌, filter, Result, Ok, Err, IfOk}
 use Rattle.std.specs.Cmp.{eq_by_cmp_equiv}
 use Rattle.std.specs.Cmp.Lexicographic.{nat_list_cmp_total}
 use Rattle.std.specs.List.Sorted.{IsStrictlySortedBy}
@@ -168,10 +168,10 @@ pub record SetLaws : Type 0 where
   pub members : (xs : List (List ℕ)) (x : List ℕ) → Contains (set_of xs) x ↔ Contains xs x
   pub only : (xs ys : List (List ℕ)) → IsRising xs → IsRising ys → ((x : List ℕ) → Contains xs x ↔ Contains ys x) → xs ≡ ys
 
-set_is : SetLaws → (xs ys : List (List ℕ)) → IsRising xs → ((x : List ℕ) → Contains xs x ↔ Contains ys x) → xs ≡ set_of ys
+pub set_is : SetLaws → (xs ys : List (List ℕ)) → IsRising xs → ((x : List ℕ) → Contains xs x ↔ Contains ys x) → xs ≡ set_of ys
 set_is laws xs ys rises same = laws.only xs (set_of ys) rises (laws.rising ys) (λ x. (λ c. (laws.members ys x).1 ((same x).0 c), λ c. (same x).1 ((laws.members ys x).0 c)))
 
-same_filtered : (p : List ℕ → Bool) (xs ys : List (List ℕ)) → ((x : List ℕ) → Contains xs x → Contains ys x) → (x : List ℕ) → Contains (filter p xs) x → Contains (filter p ys) x
+pub same_filtered : (p : List ℕ → Bool) (xs ys : List (List ℕ)) → ((x : List ℕ) → Contains xs x → Contains ys x) → (x : List ℕ) → Contains (filter p xs) x → Contains (filter p ys) x
 same_filtered p xs ys same x c =
     let kept = from_filter p x xs (in_contained x (filter p xs) c) in
     contains_in x (filter p ys) (in_filter p x ys kept.1 (in_contained x ys (same x (contains_in x xs kept.0))))
@@ -179,18 +179,14 @@ same_filtered p xs ys same x c =
 abbrev hashes_in : List Added → List (List ℕ)
 hashes_in entries = map (λ (entry : Added). entry.hash) entries
 
-pub all_listed : {E : Type 0} (laws : SetLaws) (result : Result (List FullHash) E) (sizes : HashSizes) → IfOk result (λ row. map (λ (hash : FullHash). hash.bytes) row ≡ keys_of sizes) → OnOk result (IsRising (keys_of sizes))
-    → IfOk result (λ row. (entries : List Added) → IsMapOf sizes entries → map (λ (hash : FullHash). hash.bytes) row ≡ set_of (map (λ (entry : Added). entry.hash) entries))
-all_listed laws (Ok row) sizes value rises = λ entries h. value ∙ set_is laws (keys_of sizes) (hashes_in entries) rises (same_hashes sizes entries h rises)
-all_listed laws (Err e) sizes value rises = tt
+pub all_listed : SetLaws → (sizes : HashSizes) (entries : List Added) → IsMapOf sizes entries → IsRising (keys_of sizes) → keys_of sizes ≡ set_of (map (λ (entry : Added). entry.hash) entries)
+all_listed laws sizes entries h rises = set_is laws (keys_of sizes) (hashes_in entries) rises (same_hashes sizes entries h rises)
 
-pub begun_listed : {E : Type 0} (laws : SetLaws) (p : List ℕ → Bool) (result : Result (List FullHash) E) (sizes : HashSizes) → IfOk result (λ row. map (λ (hash : FullHash). hash.bytes) row ≡ filter p (keys_of sizes)) → OnOk result (IsRising (keys_of sizes))
-    → IfOk result (λ row. (entries : List Added) → IsMapOf sizes entries → map (λ (hash : FullHash). hash.bytes) row ≡ set_of (filter p (map (λ (entry : Added). entry.hash) entries)))
-begun_listed laws p (Ok row) sizes value rises = λ entries h.
+pub begun_listed : SetLaws → (p : List ℕ → Bool) (sizes : HashSizes) (entries : List Added) → IsMapOf sizes entries → IsRising (keys_of sizes) → filter p (keys_of sizes) ≡ set_of (filter p (map (λ (entry : Added). entry.hash) entries))
+begun_listed laws p sizes entries h rises =
     let same = same_hashes sizes entries h rises in
-    value ∙ set_is laws (filter p (keys_of sizes)) (filter p (hashes_in entries)) (IsStrictlySortedBy-filter bytes_cmp p (keys_of sizes) rises)
+    set_is laws (filter p (keys_of sizes)) (filter p (hashes_in entries)) (IsStrictlySortedBy-filter bytes_cmp p (keys_of sizes) rises)
     (λ x. (same_filtered p (keys_of sizes) (hashes_in entries) (λ y. (same y).0) x, same_filtered p (hashes_in entries) (keys_of sizes) (λ y. (same y).1) x))
-begun_listed laws p (Err e) sizes value rises = tt
 
 pub found_in_map : {E : Type 0} (result : Result (List FullHash) E) (sizes : HashSizes) (prefix : List ℕ) (entries : List Added) → IsMapOf sizes entries
     → IfOk result (λ hashes. (others : List Added) → IsMapOf sizes others → map (λ (hash : FullHash). hash.bytes) hashes ≡ set_of (filter (begins prefix) (map (λ (entry : Added). entry.hash) others)))

@@ -1,15 +1,20 @@
 -- Full hashes with their sizes as a map, which the hash lines of a journal change.
-use Rattle.std.specs.Prelude.{◌≡◌, ℕ, Bool, cond, List, Option, Some, None, Contains, ◌↔◌}
+use Rattle.std.specs.Prelude.{◌≡◌, ℕ, Bool, cond, List, map, Option, Some, None, Contains, ◌↔◌}
 use Rattle.std.specs.BTreeMap.{is_at}
-use Rattle.std.specs.Map.{lookup}
+use Rattle.std.specs.Map.{keys_of, lookup}
+use Rattle.std.specs.Option.{unwrap_or}
 use Rattle.std.specs.Str.{bytes_eq}
 use Rattle.sb_model.specs.declared.history.Added.{Added}
-use Rattle.sb_model.specs.Prefixes.{bytes_cmp}
+use Rattle.sb_model.specs.Prefixes.{bytes_cmp, set_of}
 use Rattle.list_versions.specs.Live.{shown}
 
 -- the full hashes of a map, each with its size
 abbrev pub HashSizes : Type 0
 HashSizes = List (List ℕ × ℕ)
+
+-- the entries of a map in the order of their hashes, where they stand in any order
+abbrev pub rising_sizes : HashSizes → HashSizes
+rising_sizes entries = map (λ hash. (hash, unwrap_or (lookup (bytes_eq hash) entries) 0)) (set_of (keys_of entries))
 
 -- the size of a full hash, where the map has the hash
 abbrev pub size_in : HashSizes → List ℕ → Option ℕ

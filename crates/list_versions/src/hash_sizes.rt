@@ -1,12 +1,14 @@
 ghost use Rattle.std.specs.Prelude.{◌≡◌, ◌+◌, ◌^◌, ◌<◌, [], Some, None, OnOk, OnErr};
 ghost use Rattle.std.specs.Map.{keys_of};
-ghost use Rattle.sb_model.specs.Prefixes.{IsRising};
-ghost use Rattle.list_versions.specs.HashSizes.{Sets, line_size};
+ghost use Rattle.sb_model.specs.Prefixes.{IsRising, set_of};
+ghost use Rattle.list_versions.specs.HashSizes.{Sets, line_size, rising_sizes};
 
+use crate::hash_key::HashKey;
 use hash_prefixes::FullHash;
+use prefix_set::sets_go_by_members;
 use sb_model::{OutOfMemory, Steps};
 use std::alloc::Global;
-use std::collections::BTreeMap;
+use std::collections::HashMap;
 use std::marker::Model;
 use std::sync::ledger::Ledger;
 
@@ -15,15 +17,15 @@ use std::sync::ledger::Ledger;
 /// hashes.
 #[derive(Debug, Drop)]
 pub struct Folding {
-    sizes: BTreeMap<[u8; 32], u8>,
+    sizes: HashMap<HashKey, u8>,
 }
 
 impl Model for Folding {
-    ghost use Rattle.list_versions.specs.HashSizes.{HashSizes};
+    ghost use Rattle.list_versions.specs.HashSizes.{HashSizes, rising_sizes};
 
     ghost Value = { HashSizes };
 
-    ghost view = { λ f. f.sizes.entries };
+    ghost view = { λ f. rising_sizes f.sizes.entries };
 }
 
 impl Folding {
@@ -32,14 +34,17 @@ impl Folding {
         ensures { result ≡ [] }
     {
         Folding {
-            sizes: BTreeMap::new(alloc),
+            sizes: HashMap::new(alloc),
         }
     }
 
-    /// The map itself.
-    pub(crate) fn sizes(&self) -> &BTreeMap<[u8; 32], u8>
-        ensures { result.now.entries ≡ self.now }
+    /// The map itself, whose entries stand in an order of their own.
+    pub(crate) fn sizes(&self) -> &HashMap<HashKey, u8>
+        ensures map { rising_sizes result.now.entries ≡ self.now }
+        ensures keys { set_of (keys_of result.now.entries) ≡ keys_of self.now }
+        ensures rises { IsRising (keys_of self.now) }
     {
+        sets_go_by_members();
         &self.sizes
     }
 
@@ -49,7 +54,8 @@ impl Folding {
         ensures err { OnErr result (self.new ≡ self.old) }
         ensures rises { IsRising (keys_of self.new) }
     {
-        self.sizes.insert(hash, size)?;
+        sets_go_by_members();
+        self.sizes.insert(HashKey { bytes: hash }, size)?;
         Ok(())
     }
 
@@ -58,7 +64,8 @@ impl Folding {
         ensures gone { Sets self.old self.new hash.now None }
         ensures rises { IsRising (keys_of self.new) }
     {
-        self.sizes.remove(hash);
+        sets_go_by_members();
+        self.sizes.remove(&HashKey { bytes: *hash });
     }
 
     /// Folds one hash line: the hash is put with the size, in place of the one that it had, or is

@@ -18,6 +18,7 @@ mod checkpoints;
 mod draft;
 mod fault;
 mod growing;
+mod hash_key;
 mod hash_sizes;
 mod heads;
 mod hex_digits;

@@ -1,12 +1,15 @@
 ghost use Rattle.std.specs.Prelude.{◌≡◌, List, [], ◌∷◌, ◌++◌, map, filter, All, IfOk, OnOk};
+ghost use Rattle.std.specs.List.{IsDistinct};
 ghost use Rattle.std.specs.Map.{keys_of};
+ghost use Rattle.std.specs.Str.{bytes_eq};
 ghost use Rattle.sb_model.specs.History.{prefix_of};
-ghost use Rattle.sb_model.specs.Prefixes.{IsRising, set_of};
+ghost use Rattle.sb_model.specs.Prefixes.{set_of};
 ghost use Rattle.sb_model.specs.declared.history.Added.{Added as Entry};
 ghost use Rattle.list_versions.specs.HashSizes.{IsMapOf, shown_entry};
 ghost use Rattle.list_versions.specs.Live.{IsPublishable};
 ghost use Rattle.list_versions.specs.Lookup.{begins};
 
+use crate::hash_key::HashKey;
 use crate::hash_sizes::Folding;
 use crate::lookup::is_begun;
 use crate::published::shown_prefix;
@@ -14,18 +17,45 @@ use hash_prefixes::{FullHash, Prefix};
 use prefix_set::{PrefixSet, sets_go_by_members};
 use sb_model::{Added, OutOfMemory, Row};
 use std::alloc::Global;
+use std::collections::HashMap;
 
-// The full hashes in their order.
-fn keys_in(alloc: Global, folding: &Folding) -> Result<Row<FullHash>, OutOfMemory>
-    ensures value { IfOk result (λ row. map (λ hash. hash.bytes) row ≡ keys_of folding.now) }
-    ensures rises { OnOk result (IsRising (keys_of folding.now)) }
+// The full hashes in the order of the map.
+fn keys_in(alloc: Global, sizes: &HashMap<HashKey, u8>) -> Result<Vec<[u8; 32]>, OutOfMemory>
+    ensures { IfOk result (λ hashes. hashes.items ≡ keys_of sizes.now.entries) }
 {
-    let sizes = folding.sizes();
-    let mut row = Row::with_capacity(alloc, sizes.len())?;
-    'hashes: for hash in sizes.keys() {
+    let mut hashes = Vec::with_capacity(alloc, sizes.len())?;
+    'hashes: for key in sizes.keys() {
+        hashes.push(key.bytes)?;
+    }
+    Ok(hashes)
+}
+
+// Puts full hashes into rising order, each once.
+fn put_in_order(hashes: &mut Vec<[u8; 32]>)
+    ensures { hashes.new.items ≡ set_of hashes.old.items }
+{
+    sets_go_by_members();
+    hashes.sort_unstable();
+    hashes.dedup();
+}
+
+// The full hashes as a row.
+fn row_of(alloc: Global, hashes: &[[u8; 32]]) -> Result<Row<FullHash>, OutOfMemory>
+    ensures { IfOk result (λ row. map (λ hash. hash.bytes) row ≡ hashes.now) }
+{
+    let mut row = Row::with_capacity(alloc, hashes.len())?;
+    for hash in hashes {
         row.push(FullHash { bytes: *hash })?;
     }
     Ok(row)
+}
+
+// The full hashes in rising order, each once.
+fn rising_row(alloc: Global, mut hashes: Vec<[u8; 32]>) -> Result<Row<FullHash>, OutOfMemory>
+    ensures { IfOk result (λ row. map (λ hash. hash.bytes) row ≡ set_of hashes.items) }
+{
+    put_in_order(&mut hashes);
+    row_of(alloc, hashes.as_slice())
 }
 
 /// The full hashes, rising.
@@ -34,39 +64,39 @@ pub(crate) fn hashes_of(alloc: Global, folding: &Folding) -> Result<Row<FullHash
         → map (λ hash. hash.bytes) hashes ≡ set_of (map (λ entry. entry.hash) entries)) }
 {
     sets_go_by_members();
-    keys_in(alloc, folding)
+    let hashes = keys_in(alloc, folding.sizes())?;
+    let row = rising_row(alloc, hashes)?;
+    Ok(row)
 }
 
 // Appends a full hash, where it begins with a prefix.
 fn push_begun(
-    found: &mut Row<FullHash>,
+    found: &mut Vec<[u8; 32]>,
     prefix: &Prefix,
     hash: &[u8; 32],
 ) -> Result<(), OutOfMemory>
-    ensures { OnOk result (map (λ hash. hash.bytes) found.new
-        ≡ map (λ hash. hash.bytes) found.old ++ filter (begins prefix.now) (hash.now ∷ [])) }
+    ensures { OnOk result (found.new.items ≡ found.old.items ++ filter (begins prefix.now) (hash.now ∷ [])) }
 {
     if is_begun(prefix, hash) {
-        found.push(FullHash { bytes: *hash })?;
+        found.push(*hash)?;
     }
     Ok(())
 }
 
-// The full hashes that begin with a prefix, in their order.
+// The full hashes that begin with a prefix, in the order of the map.
 fn keys_begun(
     alloc: Global,
-    folding: &Folding,
+    sizes: &HashMap<HashKey, u8>,
     prefix: &Prefix,
-) -> Result<Row<FullHash>, OutOfMemory>
-    ensures value { IfOk result (λ row.
-        map (λ hash. hash.bytes) row ≡ filter (begins prefix.now) (keys_of folding.now)) }
-    ensures rises { OnOk result (IsRising (keys_of folding.now)) }
+) -> Result<Vec<[u8; 32]>, OutOfMemory>
+    ensures { IfOk result (λ hashes.
+        hashes.items ≡ filter (begins prefix.now) (keys_of sizes.now.entries)) }
 {
-    let mut row = Row::new(alloc);
-    'hashes: for hash in folding.sizes().keys() {
-        push_begun(&mut row, prefix, hash)?;
+    let mut hashes = Vec::new(alloc);
+    'hashes: for key in sizes.keys() {
+        push_begun(&mut hashes, prefix, &key.bytes)?;
     }
-    Ok(row)
+    Ok(hashes)
 }
 
 /// The full hashes that begin with a prefix, rising.
@@ -80,19 +110,20 @@ pub(crate) fn hashes_begun(
         ≡ set_of (filter (begins prefix.now) (map (λ entry. entry.hash) entries))) }
 {
     sets_go_by_members();
-    keys_begun(alloc, folding, prefix)
+    let hashes = keys_begun(alloc, folding.sizes(), prefix)?;
+    let row = rising_row(alloc, hashes)?;
+    Ok(row)
 }
 
-// The prefixes that are published, in the order of their full hashes.
-fn prefixes_in(alloc: Global, folding: &Folding) -> Result<Vec<Prefix>, OutOfMemory>
-    ensures value { IfOk result (λ prefixes. prefixes.items ≡ map shown_entry folding.now) }
-    ensures rises { OnOk result (IsRising (keys_of folding.now)) }
+// The prefixes that are published, in the order of the map.
+fn prefixes_in(alloc: Global, sizes: &HashMap<HashKey, u8>) -> Result<Vec<Prefix>, OutOfMemory>
+    ensures value { IfOk result (λ prefixes. prefixes.items ≡ map shown_entry sizes.now.entries) }
+    ensures unique { OnOk result (IsDistinct bytes_eq (keys_of sizes.now.entries)) }
 {
-    let sizes = folding.sizes();
     let mut prefixes = Vec::with_capacity(alloc, sizes.len())?;
-    'hashes: for (hash, size) in sizes.iter() {
+    'hashes: for (key, size) in sizes.iter() {
         let entry = Added {
-            hash: *hash,
+            hash: key.bytes,
             size: *size,
         };
         prefixes.push(shown_prefix(&entry))?;
@@ -105,8 +136,8 @@ pub(crate) fn prefixes_of(alloc: Global, folding: &Folding) -> Result<PrefixSet,
     ensures { IfOk result (λ set. (entries : List Entry) → IsMapOf folding.now entries
         → All IsPublishable entries → set ≡ set_of (map prefix_of entries)) }
 {
-    let prefixes = prefixes_in(alloc, folding)?;
     sets_go_by_members();
+    let prefixes = prefixes_in(alloc, folding.sizes())?;
     match PrefixSet::from_prefixes(alloc, prefixes.as_slice()) {
         Ok(set) => Ok(set),
         Err(_) => Err(OutOfMemory),

@@ -1,7 +1,6 @@
-use Rattle.std.proofs.Common.{◌≡◌, ◌++◌, map}
+use Rattle.std.proofs.Common.{◌≡◌, ◌++◌}
 use Rattle.std.specs.Map.{keys_of}
-use Rattle.hash_prefixes.specs.declared.hashes.FullHash.{FullHash}
 use Rattle.list_versions.proofs.listing.keys_in.Given as goal
 
 abbrev pub invariant-hashes : goal.invariant-hashes
-invariant-hashes l = map (λ (hash : FullHash). hash.bytes) l.row ++ l.hash-iterator ≡ keys_of l.folding
+invariant-hashes l = l.hashes.items ++ l.key-iterator ≡ keys_of l.fn.sizes.entries
