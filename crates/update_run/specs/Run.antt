@@ -1,0 +1,101 @@
+-- A run of a client: it begins with what its keeper kept, makes rounds of updates, saves its lists after each round that
+-- installed one, and prints what became of all.
+use Rattle.std.specs.Prelude.{◌≡◌, ◌⊎◌, ℕ, ◌≤◌, ◌<◌, Bool, List, [], ◌∷◌, ◌++◌, length, Option, IfSome}
+use Rattle.sb_outside.specs.Outside.{appended}
+use Rattle.sb_outside.specs.Writing.{HasFront}
+use Rattle.update_client.specs.Held.{Held}
+use Rattle.wait_rules.specs.declared.waits.WaitState.{WaitState}
+use Rattle.sb_round.specs.Round.{Round, Outside, BreaksOff}
+use Rattle.sb_round.specs.Rounds.{MakesRounds}
+use Rattle.update_run.specs.Opening.{first_lists, HasOpened}
+use Rattle.update_run.specs.Saved.{Keeping, HasSaved, FailsToSave, saved_texts, MayLackLast}
+use Rattle.update_run.specs.Printed.{told_rounds, run_text, saved_line, has_refusals}
+use Rattle.update_run.specs.declared.plan.Plan.{Plan}
+
+-- What is seen of a run at one moment: what the link, the clock and the dice tell, what the keeper tells, and what the
+-- output holds.
+pub record Seen : Type 0 where
+  pub outside : Outside
+  pub keeper : Keeping
+  pub held : Option (List ℕ)
+
+abbrev pub seen : Outside → Keeping → Option (List ℕ) → Seen
+seen outside keeper held = record { outside = outside; keeper = keeper; held = held }
+
+-- Where this text was kept, or none, the clock was read, a word was drawn, and these rounds were made. So each session
+-- asks for the lists that those before it left, begins at or after its allowed moment, and is in the link's log.
+pub record HasMade (plan : Plan) (kept : Option (List ℕ)) (rounds : List Round) (before after : Outside) : Type 0 where
+  pub waits : WaitState
+  pub opened : Outside
+  pub opens : HasOpened waits before opened
+  pub lists : List Held
+  pub waits_now : WaitState
+  pub made : MakesRounds (first_lists plan.names kept) waits plan.options plan.target plan.need_digest opened after lists waits_now rounds
+
+-- The keeper gave this text, or none.
+abbrev pub IsLoaded : Option (List ℕ) → Option (Option (List ℕ)) → Type 0
+IsLoaded kept known = IfSome known (λ text. kept ≡ text)
+
+-- A run came to its end: all rounds were made, each set that was installed is saved, and the whole text is written. It
+-- tells of a refusal or of none.
+pub record IsRun (plan : Plan) (refused : Bool) (before after : Seen) : Type 0 where
+  pub kept : Option (List ℕ)
+  pub loaded : IsLoaded kept before.keeper.kept
+  pub rounds : List Round
+  pub all : length rounds ≡ plan.rounds
+  pub made : HasMade plan kept rounds before.outside after.outside
+  pub saved : HasSaved (saved_texts (first_lists plan.names kept) rounds) before.keeper after.keeper
+  pub text : after.held ≡ appended before.held (run_text kept (first_lists plan.names kept) rounds)
+  pub refusal : refused ≡ has_refusals (first_lists plan.names kept) rounds
+
+-- ---- one that did not
+
+-- Nothing but the keeper was looked at.
+abbrev pub HasNotBegun : Seen → Seen → Type 0
+HasNotBegun before after = after ≡ before
+
+-- The keeper failed when the lists of the last round were handed in. All before it is saved, and what is written lacks
+-- only the line that tells so of this round.
+pub record StopsAtSave (plan : Plan) (before after : Seen) : Type 0 where
+  pub kept : Option (List ℕ)
+  pub loaded : IsLoaded kept before.keeper.kept
+  pub rounds : List Round
+  pub few : length rounds ≤ plan.rounds
+  pub made : HasMade plan kept rounds before.outside after.outside
+  pub texts : List (List ℕ)
+  pub last : List ℕ
+  pub saves : saved_texts (first_lists plan.names kept) rounds ≡ texts ++ last ∷ []
+  pub between : Keeping
+  pub saved : HasSaved texts before.keeper between
+  pub fails : FailsToSave last between after.keeper
+  pub written : List ℕ
+  pub text : after.held ≡ appended before.held written
+  pub lacks : written ++ saved_line (length rounds) ≡ told_rounds kept (first_lists plan.names kept) rounds
+
+-- After some rounds the run stopped. What the last of them installed may not be saved, and what is written is a front of
+-- the text up to there, of which something is missing.
+pub record StopsAfter (plan : Plan) (before after : Seen) : Type 0 where
+  pub kept : Option (List ℕ)
+  pub loaded : IsLoaded kept before.keeper.kept
+  pub rounds : List Round
+  pub few : length rounds ≤ plan.rounds
+  pub made : HasMade plan kept rounds before.outside after.outside
+  pub texts : List (List ℕ)
+  pub most : MayLackLast (saved_texts (first_lists plan.names kept) rounds) texts
+  pub saved : HasSaved texts before.keeper after.keeper
+  pub front : HasFront before.held after.held (run_text kept (first_lists plan.names kept) rounds)
+
+-- The same, and a further round was broken off.
+pub record BreaksOffAfter (plan : Plan) (before after : Seen) : Type 0 where
+  pub between : Outside
+  pub stops : StopsAfter plan before (seen between after.keeper after.held)
+  pub further : length stops.rounds < plan.rounds
+  pub breaks : BreaksOff stops.made.lists stops.made.waits_now plan.options plan.target between after.outside
+
+-- Memory was refused: before the clock was read, after some rounds, or within one.
+abbrev pub StopsForMemory : Plan → Seen → Seen → Type 0
+StopsForMemory plan before after = HasNotBegun before after ⊎ StopsAfter plan before after ⊎ BreaksOffAfter plan before after
+
+-- The keeper failed: when it was to give what it keeps, or when it was to keep something.
+abbrev pub StopsAtKeeper : Plan → Seen → Seen → Type 0
+StopsAtKeeper plan before after = HasNotBegun before after ⊎ StopsAtSave plan before after

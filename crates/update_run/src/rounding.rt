@@ -1,0 +1,166 @@
+ghost use Rattle.std.specs.Prelude.{◌≡◌, ◌≢◌, ◌≤◌, IfOk, IfErr, IsErrOf, Err};
+ghost use Rattle.std.specs.List.{list_any};
+ghost use Rattle.sb_outside.specs.Outside.{Rose};
+ghost use Rattle.sb_round.specs.Round.{outside};
+ghost use Rattle.sb_round.specs.declared.rounds.Taken.{Taken as TakenUpdate};
+ghost use Rattle.update_run.specs.Saved.{keeping};
+ghost use Rattle.update_run.specs.Printed.{is_refused as is_refused_result, has_refusal as has_refusal_one};
+ghost use Rattle.update_run.specs.Run.{seen};
+ghost use Rattle.update_run.specs.Rounding.{TakesRound, StopsRound, TakesAllRounds, StopsRounds};
+
+use crate::client::Client;
+use crate::saving::tell_round;
+use crate::{Plan, RunStop};
+use sb_model::Row;
+use sb_outside::{Clock, Dice, Gate, Keeper, Link, Point, Sink, flush};
+use sb_round::{RoundFault, Taken, rounds_go_on, run_round};
+use std::alloc::Global;
+use update_client::ListResult;
+
+fn is_refused(taken: &Taken) -> bool
+    ensures { result ≡ is_refused_result taken.now.result }
+{
+    match taken.result {
+        ListResult::Refused(_) => true,
+        ListResult::Installed(_) | ListResult::NotKept => false,
+    }
+}
+
+/// Whether a round brought no message, or an update that was refused.
+fn has_refusal(taken: &Result<Row<Taken>, RoundFault>) -> bool
+    ensures { result ≡ has_refusal_one taken.now }
+{
+    match taken {
+        Ok(taken) => taken.as_slice().iter().any(|one| is_refused(one)),
+        Err(_) => true,
+    }
+}
+
+/// Makes the round of this number, tells of it, and saves what it installed. Answers whether it is told with a refusal.
+fn make_round<O: Sink, K: Keeper, L: Link, C: Clock, D: Dice>(
+    alloc: Global,
+    plan: &Plan,
+    number: u32,
+    client: &mut Client,
+    out: &mut O,
+    keep: &mut K,
+    link: &mut L,
+    clock: &mut C,
+    dice: &mut D,
+) -> Result<bool, RunStop>
+    ensures took { IfOk result (λ refused. TakesRound plan.now number client.old client.new
+        (seen (outside (L.log link.old) (C.answers clock.old) (D.given dice.old))
+        (keeping (K.handed keep.old) (K.kept keep.old)) (O.contents out.old))
+        (seen (outside (L.log link.new) (C.answers clock.new) (D.given dice.new))
+        (keeping (K.handed keep.new) (K.kept keep.new)) (O.contents out.new)) refused) }
+    ensures stopped { IfErr result (λ stop. StopsRound stop plan.now number client.old
+        (seen (outside (L.log link.old) (C.answers clock.old) (D.given dice.old))
+        (keeping (K.handed keep.old) (K.kept keep.old)) (O.contents out.old))
+        (seen (outside (L.log link.new) (C.answers clock.new) (D.given dice.new))
+        (keeping (K.handed keep.new) (K.kept keep.new)) (O.contents out.new))) }
+    ensures output_failed { IsErrOf result RunStop.WriteFault → Rose (O.faults out.old) (O.faults out.new) }
+    ensures output_kept { result ≢ Err RunStop.WriteFault → O.faults out.new ≡ O.faults out.old }
+    ensures keeper_failed { IsErrOf result RunStop.KeepFault → Rose (K.faults keep.old) (K.faults keep.new) }
+    ensures keeper_kept { result ≢ Err RunStop.KeepFault → K.faults keep.new ≡ K.faults keep.old }
+{
+    let end = run_round(
+        alloc,
+        &mut client.lists,
+        &mut client.waits,
+        &plan.options,
+        &plan.target,
+        plan.need_digest,
+        link,
+        clock,
+        dice,
+    )?;
+    tell_round(
+        alloc,
+        u64::from(number),
+        &end,
+        &client.lists,
+        out,
+        keep,
+        &mut client.page,
+    )?;
+    Ok(has_refusal(&end.taken))
+}
+
+/// Writes what waits, and makes the round of this number.
+fn take_round<O: Sink, K: Keeper, L: Link, C: Clock, D: Dice, G: Gate>(
+    alloc: Global,
+    plan: &Plan,
+    number: u32,
+    client: &mut Client,
+    out: &mut O,
+    keep: &mut K,
+    link: &mut L,
+    clock: &mut C,
+    dice: &mut D,
+    gate: &G,
+) -> Result<bool, RunStop>
+    ensures took { IfOk result (λ refused. TakesRound plan.now number client.old client.new
+        (seen (outside (L.log link.old) (C.answers clock.old) (D.given dice.old))
+        (keeping (K.handed keep.old) (K.kept keep.old)) (O.contents out.old))
+        (seen (outside (L.log link.new) (C.answers clock.new) (D.given dice.new))
+        (keeping (K.handed keep.new) (K.kept keep.new)) (O.contents out.new)) refused) }
+    ensures stopped { IfErr result (λ stop. StopsRound stop plan.now number client.old
+        (seen (outside (L.log link.old) (C.answers clock.old) (D.given dice.old))
+        (keeping (K.handed keep.old) (K.kept keep.old)) (O.contents out.old))
+        (seen (outside (L.log link.new) (C.answers clock.new) (D.given dice.new))
+        (keeping (K.handed keep.new) (K.kept keep.new)) (O.contents out.new))) }
+    ensures output_failed { IsErrOf result RunStop.WriteFault → Rose (O.faults out.old) (O.faults out.new) }
+    ensures output_kept { result ≢ Err RunStop.WriteFault → O.faults out.new ≡ O.faults out.old }
+    ensures keeper_failed { IsErrOf result RunStop.KeepFault → Rose (K.faults keep.old) (K.faults keep.new) }
+    ensures keeper_kept { result ≢ Err RunStop.KeepFault → K.faults keep.new ≡ K.faults keep.old }
+{
+    flush(out, &mut client.page)?;
+    gate.pass(Point::Round(number));
+    make_round(alloc, plan, number, client, out, keep, link, clock, dice)
+}
+
+/// Makes the rounds of a run. Answers whether one of them is told with a refusal.
+pub(crate) fn take_rounds<O: Sink, K: Keeper, L: Link, C: Clock, D: Dice, G: Gate>(
+    alloc: Global,
+    plan: &Plan,
+    client: &mut Client,
+    out: &mut O,
+    keep: &mut K,
+    link: &mut L,
+    clock: &mut C,
+    dice: &mut D,
+    gate: &G,
+) -> Result<bool, RunStop>
+    ensures took { IfOk result (λ refused. TakesAllRounds plan.now client.old client.new
+        (seen (outside (L.log link.old) (C.answers clock.old) (D.given dice.old))
+        (keeping (K.handed keep.old) (K.kept keep.old)) (O.contents out.old))
+        (seen (outside (L.log link.new) (C.answers clock.new) (D.given dice.new))
+        (keeping (K.handed keep.new) (K.kept keep.new)) (O.contents out.new)) refused) }
+    ensures stopped { IfErr result (λ stop. StopsRounds stop plan.now client.old
+        (seen (outside (L.log link.old) (C.answers clock.old) (D.given dice.old))
+        (keeping (K.handed keep.old) (K.kept keep.old)) (O.contents out.old))
+        (seen (outside (L.log link.new) (C.answers clock.new) (D.given dice.new))
+        (keeping (K.handed keep.new) (K.kept keep.new)) (O.contents out.new))) }
+    ensures output_failed { IsErrOf result RunStop.WriteFault → Rose (O.faults out.old) (O.faults out.new) }
+    ensures output_kept { result ≢ Err RunStop.WriteFault → O.faults out.new ≡ O.faults out.old }
+    ensures keeper_failed { IsErrOf result RunStop.KeepFault → Rose (K.faults keep.old) (K.faults keep.new) }
+    ensures keeper_kept { result ≢ Err RunStop.KeepFault → K.faults keep.new ≡ K.faults keep.old }
+{
+    rounds_go_on();
+    let mut refused = false;
+    for made in 0..plan.rounds {
+        refused |= take_round(
+            alloc,
+            plan,
+            made + 1,
+            client,
+            out,
+            keep,
+            link,
+            clock,
+            dice,
+            gate,
+        )?;
+    }
+    Ok(refused)
+}

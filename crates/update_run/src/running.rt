@@ -1,0 +1,144 @@
+ghost use Rattle.std.specs.Prelude.{◌≡◌, ◌≢◌, ◌≤◌, ◌<◌, ◌++◌, [], length, IfOk, OnOk, OnErr, IfErr, IsErrOf, Err};
+ghost use Rattle.std.specs.List.{flat_map};
+ghost use Rattle.sb_outside.specs.Outside.{Rose, appended};
+ghost use Rattle.sb_outside.specs.Writing.{HasFront};
+ghost use Rattle.sb_round.specs.Round.{outside};
+ghost use Rattle.update_client.specs.Held.{most_lists};
+ghost use Rattle.update_run.specs.Saved.{keeping};
+ghost use Rattle.update_run.specs.Printed.{list_line};
+ghost use Rattle.update_run.specs.Rounding.{RunsFrom, StopsFrom};
+ghost use Rattle.update_run.specs.Run.{seen, IsRun, StopsAfter, StopsAtKeeper, StopsForMemory};
+
+use crate::client::Client;
+use crate::opening::load_lists;
+use crate::printing::push_list_line;
+use crate::rounding::take_rounds;
+use crate::{Plan, RunStop};
+use sb_model::{Bytes, OutOfMemory};
+use sb_outside::{Clock, Dice, Gate, Keeper, Link, Sink, flush};
+use std::alloc::Global;
+use update_client::HeldList;
+use wait_rules::WaitState;
+
+/// Appends the lines of lists.
+fn push_lists(page: &mut Bytes, lists: &[HeldList]) -> Result<(), OutOfMemory>
+    ensures { OnOk result (page.new ≡ page.old ++ flat_map list_line lists.now) }
+{
+    for held in lists {
+        push_list_line(page, held)?;
+    }
+    Ok(())
+}
+
+/// Writes what waits, and the lines of the lists after it.
+fn finish<O: Sink>(lists: &[HeldList], out: &mut O, page: &mut Bytes) -> Result<(), RunStop>
+    requires { 0 < length lists.now }
+    ensures text { OnOk result (O.contents out.new
+        ≡ appended (O.contents out.old) (page.old ++ flat_map list_line lists.now)) }
+    ensures no_keeper { result ≢ Err RunStop.KeepFault }
+    ensures stopped { OnErr result (HasFront (O.contents out.old) (O.contents out.new)
+        (page.old ++ flat_map list_line lists.now)) }
+    ensures output_failed { IsErrOf result RunStop.WriteFault → Rose (O.faults out.old) (O.faults out.new) }
+    ensures output_kept { result ≢ Err RunStop.WriteFault → O.faults out.new ≡ O.faults out.old }
+{
+    push_lists(page, lists)?;
+    flush(out, page)?;
+    Ok(())
+}
+
+/// Makes the rounds of a client, and tells of its lists.
+fn run_from<O: Sink, K: Keeper, L: Link, C: Clock, D: Dice, G: Gate>(
+    alloc: Global,
+    plan: &Plan,
+    client: &mut Client,
+    out: &mut O,
+    keep: &mut K,
+    link: &mut L,
+    clock: &mut C,
+    dice: &mut D,
+    gate: &G,
+) -> Result<bool, RunStop>
+    requires { 0 < length client.old.lists }
+    ensures run { IfOk result (λ refused. RunsFrom plan.now client.old refused
+        (seen (outside (L.log link.old) (C.answers clock.old) (D.given dice.old))
+        (keeping (K.handed keep.old) (K.kept keep.old)) (O.contents out.old))
+        (seen (outside (L.log link.new) (C.answers clock.new) (D.given dice.new))
+        (keeping (K.handed keep.new) (K.kept keep.new)) (O.contents out.new))) }
+    ensures stopped { IfErr result (λ stop. StopsFrom stop plan.now client.old
+        (seen (outside (L.log link.old) (C.answers clock.old) (D.given dice.old))
+        (keeping (K.handed keep.old) (K.kept keep.old)) (O.contents out.old))
+        (seen (outside (L.log link.new) (C.answers clock.new) (D.given dice.new))
+        (keeping (K.handed keep.new) (K.kept keep.new)) (O.contents out.new))) }
+    ensures output_failed { IsErrOf result RunStop.WriteFault → Rose (O.faults out.old) (O.faults out.new) }
+    ensures output_kept { result ≢ Err RunStop.WriteFault → O.faults out.new ≡ O.faults out.old }
+    ensures keeper_failed { IsErrOf result RunStop.KeepFault → Rose (K.faults keep.old) (K.faults keep.new) }
+    ensures keeper_kept { result ≢ Err RunStop.KeepFault → K.faults keep.new ≡ K.faults keep.old }
+{
+    let refused = take_rounds(alloc, plan, client, out, keep, link, clock, dice, gate)?;
+    finish(client.lists.lists(), out, &mut client.page)?;
+    Ok(refused)
+}
+
+/// Makes a run: loads the lists that the keeper keeps, makes the rounds of the plan, saves the lists after each round that
+/// installed one, and at the end writes a line for each list. Answers whether a round brought no message or an update
+/// that was refused.
+///
+/// A text that is kept and is no store is told, and the run begins with empty lists. What was printed goes to the output
+/// before each round and before each time that the lists are saved.
+pub fn run<O: Sink, K: Keeper, L: Link, C: Clock, D: Dice, G: Gate>(
+    alloc: Global,
+    plan: &Plan,
+    out: &mut O,
+    keep: &mut K,
+    link: &mut L,
+    clock: &mut C,
+    dice: &mut D,
+    gate: &G,
+) -> Result<bool, RunStop>
+    requires some { 0 < length plan.now.names }
+    requires few { length plan.now.names ≤ most_lists }
+    ensures run { IfOk result (λ refused. IsRun plan.now refused
+        (seen (outside (L.log link.old) (C.answers clock.old) (D.given dice.old))
+        (keeping (K.handed keep.old) (K.kept keep.old)) (O.contents out.old))
+        (seen (outside (L.log link.new) (C.answers clock.new) (D.given dice.new))
+        (keeping (K.handed keep.new) (K.kept keep.new)) (O.contents out.new))) }
+
+    // One that did not come to its end.
+    ensures write_fault { IsErrOf result RunStop.WriteFault → StopsAfter plan.now
+        (seen (outside (L.log link.old) (C.answers clock.old) (D.given dice.old))
+        (keeping (K.handed keep.old) (K.kept keep.old)) (O.contents out.old))
+        (seen (outside (L.log link.new) (C.answers clock.new) (D.given dice.new))
+        (keeping (K.handed keep.new) (K.kept keep.new)) (O.contents out.new)) }
+    ensures keep_fault { IsErrOf result RunStop.KeepFault → StopsAtKeeper plan.now
+        (seen (outside (L.log link.old) (C.answers clock.old) (D.given dice.old))
+        (keeping (K.handed keep.old) (K.kept keep.old)) (O.contents out.old))
+        (seen (outside (L.log link.new) (C.answers clock.new) (D.given dice.new))
+        (keeping (K.handed keep.new) (K.kept keep.new)) (O.contents out.new)) }
+    ensures memory { IsErrOf result RunStop.OutOfMemory → StopsForMemory plan.now
+        (seen (outside (L.log link.old) (C.answers clock.old) (D.given dice.old))
+        (keeping (K.handed keep.old) (K.kept keep.old)) (O.contents out.old))
+        (seen (outside (L.log link.new) (C.answers clock.new) (D.given dice.new))
+        (keeping (K.handed keep.new) (K.kept keep.new)) (O.contents out.new)) }
+
+    // A fault is counted, and nothing else is.
+    ensures output_failed { IsErrOf result RunStop.WriteFault → Rose (O.faults out.old) (O.faults out.new) }
+    ensures output_kept { result ≢ Err RunStop.WriteFault → O.faults out.new ≡ O.faults out.old }
+    ensures keeper_failed { IsErrOf result RunStop.KeepFault → Rose (K.faults keep.old) (K.faults keep.new) }
+    ensures keeper_kept { result ≢ Err RunStop.KeepFault → K.faults keep.new ≡ K.faults keep.old }
+{
+    let mut page = Bytes::new(alloc);
+    let lists = load_lists(alloc, plan.names.as_slice(), keep, &mut page)?;
+    let waits = WaitState::first(clock.now(), dice.word());
+    let mut client = Client { lists, waits, page };
+    run_from(
+        alloc,
+        plan,
+        &mut client,
+        out,
+        keep,
+        link,
+        clock,
+        dice,
+        gate,
+    )
+}

@@ -1,0 +1,139 @@
+ghost use Rattle.std.specs.Prelude.{◌≡◌, ◌≢◌, ◌++◌, ◌∷◌, [], OnOk, IfErr, IsErrOf, IsTrue, Err};
+ghost use Rattle.std.specs.List.{list_any};
+ghost use Rattle.sb_outside.specs.Outside.{Rose};
+ghost use Rattle.sb_outside.specs.Writing.{IsOnItsWay};
+ghost use Rattle.client_store.specs.Store.{store_text};
+ghost use Rattle.sb_round.specs.declared.rounds.Taken.{Taken as TakenUpdate};
+ghost use Rattle.update_run.specs.Saved.{keeping, HasSaved, is_installed as is_installed_result, has_installed as has_installed_one, saved_after};
+ghost use Rattle.update_run.specs.Printed.{saved_line, saved_part, told_end};
+ghost use Rattle.update_run.specs.Rounding.{StopsReplacing, StopsTelling};
+
+use crate::RunStop;
+use crate::printing::push_saved_line;
+use client_store::write_store;
+use sb_model::{Bytes, Row};
+use sb_outside::{Keeper, Sink, flush};
+use sb_round::{RoundEnd, RoundFault, Taken, push_round};
+use std::alloc::Global;
+use update_client::{ClientLists, ListResult};
+
+fn is_installed(taken: &Taken) -> bool
+    ensures { result ≡ is_installed_result taken.now.result }
+{
+    match taken.result {
+        ListResult::Installed(_) => true,
+        ListResult::Refused(_) | ListResult::NotKept => false,
+    }
+}
+
+/// Whether a round installed a list.
+fn has_installed(taken: &Result<Row<Taken>, RoundFault>) -> bool
+    ensures { result ≡ has_installed_one taken.now }
+{
+    match taken {
+        Ok(taken) => taken.as_slice().iter().any(|one| is_installed(one)),
+        Err(_) => false,
+    }
+}
+
+/// Hands a text to the keeper, after what was printed went to the output. The line that tells so waits then.
+fn replace<O: Sink, K: Keeper>(
+    number: u64,
+    text: &[u8],
+    out: &mut O,
+    keep: &mut K,
+    page: &mut Bytes,
+) -> Result<(), RunStop>
+    ensures saved { OnOk result (HasSaved (text.now ∷ []) (keeping (K.handed keep.old) (K.kept keep.old))
+        (keeping (K.handed keep.new) (K.kept keep.new))) }
+    ensures text { OnOk result (IsOnItsWay (O.contents out.old) (O.contents out.new) page.new
+        (page.old ++ saved_line number)) }
+    ensures stopped { IfErr result (λ stop. StopsReplacing stop number text.now (keeping (K.handed keep.old) (K.kept keep.old))
+        (keeping (K.handed keep.new) (K.kept keep.new)) (O.contents out.old) (O.contents out.new) page.old) }
+    ensures output_failed { IsErrOf result RunStop.WriteFault → Rose (O.faults out.old) (O.faults out.new) }
+    ensures output_kept { result ≢ Err RunStop.WriteFault → O.faults out.new ≡ O.faults out.old }
+    ensures keeper_failed { IsErrOf result RunStop.KeepFault → Rose (K.faults keep.old) (K.faults keep.new) }
+    ensures keeper_kept { result ≢ Err RunStop.KeepFault → K.faults keep.new ≡ K.faults keep.old }
+{
+    flush(out, page)?;
+    keep.replace(text)?;
+    push_saved_line(page, number)?;
+    Ok(())
+}
+
+/// Saves the lists in the round of this number.
+fn save<O: Sink, K: Keeper>(
+    alloc: Global,
+    number: u64,
+    lists: &ClientLists,
+    out: &mut O,
+    keep: &mut K,
+    page: &mut Bytes,
+) -> Result<(), RunStop>
+    ensures saved { OnOk result (HasSaved (store_text lists.now ∷ []) (keeping (K.handed keep.old) (K.kept keep.old))
+        (keeping (K.handed keep.new) (K.kept keep.new))) }
+    ensures text { OnOk result (IsOnItsWay (O.contents out.old) (O.contents out.new) page.new
+        (page.old ++ saved_line number)) }
+    ensures stopped { IfErr result (λ stop. StopsReplacing stop number (store_text lists.now) (keeping (K.handed keep.old) (K.kept keep.old))
+        (keeping (K.handed keep.new) (K.kept keep.new)) (O.contents out.old) (O.contents out.new) page.old) }
+    ensures output_failed { IsErrOf result RunStop.WriteFault → Rose (O.faults out.old) (O.faults out.new) }
+    ensures output_kept { result ≢ Err RunStop.WriteFault → O.faults out.new ≡ O.faults out.old }
+    ensures keeper_failed { IsErrOf result RunStop.KeepFault → Rose (K.faults keep.old) (K.faults keep.new) }
+    ensures keeper_kept { result ≢ Err RunStop.KeepFault → K.faults keep.new ≡ K.faults keep.old }
+{
+    let text = write_store(alloc, lists)?;
+    replace(number, text.as_slice(), out, keep, page)
+}
+
+/// Saves the lists where the round of this number installed one.
+fn save_installed<O: Sink, K: Keeper>(
+    alloc: Global,
+    number: u64,
+    end: &RoundEnd,
+    lists: &ClientLists,
+    out: &mut O,
+    keep: &mut K,
+    page: &mut Bytes,
+) -> Result<(), RunStop>
+    ensures saved { OnOk result (HasSaved (saved_after end.now.taken lists.now) (keeping (K.handed keep.old) (K.kept keep.old))
+        (keeping (K.handed keep.new) (K.kept keep.new))) }
+    ensures text { OnOk result (IsOnItsWay (O.contents out.old) (O.contents out.new) page.new
+        (page.old ++ saved_part number end.now.taken)) }
+    ensures some { IfErr result (λ _. IsTrue (has_installed_one end.now.taken)) }
+    ensures stopped { IfErr result (λ stop. StopsReplacing stop number (store_text lists.now) (keeping (K.handed keep.old) (K.kept keep.old))
+        (keeping (K.handed keep.new) (K.kept keep.new)) (O.contents out.old) (O.contents out.new) page.old) }
+    ensures output_failed { IsErrOf result RunStop.WriteFault → Rose (O.faults out.old) (O.faults out.new) }
+    ensures output_kept { result ≢ Err RunStop.WriteFault → O.faults out.new ≡ O.faults out.old }
+    ensures keeper_failed { IsErrOf result RunStop.KeepFault → Rose (K.faults keep.old) (K.faults keep.new) }
+    ensures keeper_kept { result ≢ Err RunStop.KeepFault → K.faults keep.new ≡ K.faults keep.old }
+{
+    if has_installed(&end.taken) {
+        return save(alloc, number, lists, out, keep, page);
+    }
+    Ok(())
+}
+
+/// Tells of a round that was made, and saves the lists where it installed one.
+pub(crate) fn tell_round<O: Sink, K: Keeper>(
+    alloc: Global,
+    number: u64,
+    end: &RoundEnd,
+    lists: &ClientLists,
+    out: &mut O,
+    keep: &mut K,
+    page: &mut Bytes,
+) -> Result<(), RunStop>
+    ensures saved { OnOk result (HasSaved (saved_after end.now.taken lists.now) (keeping (K.handed keep.old) (K.kept keep.old))
+        (keeping (K.handed keep.new) (K.kept keep.new))) }
+    ensures text { OnOk result (IsOnItsWay (O.contents out.old) (O.contents out.new) page.new
+        (page.old ++ told_end number end.now)) }
+    ensures stopped { IfErr result (λ stop. StopsTelling stop number end.now lists.now (keeping (K.handed keep.old) (K.kept keep.old))
+        (keeping (K.handed keep.new) (K.kept keep.new)) (O.contents out.old) (O.contents out.new) page.old) }
+    ensures output_failed { IsErrOf result RunStop.WriteFault → Rose (O.faults out.old) (O.faults out.new) }
+    ensures output_kept { result ≢ Err RunStop.WriteFault → O.faults out.new ≡ O.faults out.old }
+    ensures keeper_failed { IsErrOf result RunStop.KeepFault → Rose (K.faults keep.old) (K.faults keep.new) }
+    ensures keeper_kept { result ≢ Err RunStop.KeepFault → K.faults keep.new ≡ K.faults keep.old }
+{
+    push_round(page, number, end)?;
+    save_installed(alloc, number, end, lists, out, keep, page)
+}
