@@ -1,0 +1,6 @@
+pub mod Endings
+pub mod Entries
+pub mod Replicas
+pub mod RoundByRound
+pub mod Saves
+pub mod Ways

@@ -1,5 +1,5 @@
 -- The law of saved stores: where a server is honest, what a run saves and prints is the server's.
-use Rattle.std.specs.Prelude.{◌≡◌, ◌⊎◌, ◌×◌, ℕ, Bool, List, ◌++◌, map, All, Option, Some}
+use Rattle.std.specs.Prelude.{◌≡◌, ◌⊎◌, ℕ, Bool, true, false, List, ◌++◌, map, All, Option, Some}
 use Rattle.std.specs.List.{flat_map}
 use Rattle.sb_model.specs.History.{History, IsWellFormed}
 use Rattle.sb_model.specs.Naming.{Naming, IsNaming}
@@ -56,7 +56,7 @@ abbrev pub AreRoundsOf : Plan → Option (List ℕ) → List Round → Outside �
 AreRoundsOf plan kept rounds before after =
     HasMade plan kept rounds before after
     ⊎ ((between : Outside) × (made : HasMade plan kept rounds before between)
-      × BreaksOff made.lists made.waits_now plan.options plan.target between after)
+    × BreaksOff made.lists made.waits_now plan.options plan.target between after)
 
 -- A run met an honest server: the text that was kept, or none, is known, the lists that it begins with are replicas, and
 -- the bodies of its rounds are honest.

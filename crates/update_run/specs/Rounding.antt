@@ -12,7 +12,7 @@ use Rattle.sb_round.specs.Rounds.{MakesRounds, body_of}
 use Rattle.sb_round.specs.Run.{lists_after}
 use Rattle.sb_round.specs.declared.rounds.RoundEnd.{RoundEnd}
 use Rattle.update_run.specs.Saved.{Keeping, HasSaved, FailsToSave, MayLackLast, has_installed, saved_after, saved_texts}
-use Rattle.update_run.specs.Printed.{list_line, saved_line, saved_part, told_end, has_refusal, has_refusals, rounds_text}
+use Rattle.update_run.specs.Printed.{list_line, saved_line, told_end, has_refusal, has_refusals, rounds_text}
 use Rattle.update_run.specs.Run.{Seen}
 use Rattle.update_run.specs.declared.client.Client.{Client}
 use Rattle.update_run.specs.declared.plan.Plan.{Plan}

@@ -1,4 +1,4 @@
-ghost use Rattle.std.specs.Prelude.{◌≡◌, ◌≢◌, ◌≤◌, IfOk, IfErr, IsErrOf, Err};
+ghost use Rattle.std.specs.Prelude.{◌≡◌, ◌≢◌, [], IfOk, IfErr, IsErrOf, Err};
 ghost use Rattle.std.specs.List.{list_any};
 ghost use Rattle.sb_outside.specs.Outside.{Rose};
 ghost use Rattle.sb_round.specs.Round.{outside};
@@ -11,7 +11,7 @@ ghost use Rattle.update_run.specs.Rounding.{TakesRound, StopsRound, TakesAllRoun
 use crate::client::Client;
 use crate::saving::tell_round;
 use crate::{Plan, RunStop};
-use sb_model::Row;
+use sb_model::{OutOfMemory, Row};
 use sb_outside::{Clock, Dice, Gate, Keeper, Link, Point, Sink, flush};
 use sb_round::{RoundFault, Taken, rounds_go_on, run_round};
 use std::alloc::Global;
@@ -26,12 +26,18 @@ fn is_refused(taken: &Taken) -> bool
     }
 }
 
+fn any_refused(taken: &[Taken]) -> bool
+    ensures { result ≡ list_any (λ (one : TakenUpdate). is_refused_result one.result) taken.now }
+{
+    taken.iter().any(|one| is_refused(one))
+}
+
 /// Whether a round brought no message, or an update that was refused.
 fn has_refusal(taken: &Result<Row<Taken>, RoundFault>) -> bool
     ensures { result ≡ has_refusal_one taken.now }
 {
     match taken {
-        Ok(taken) => taken.as_slice().iter().any(|one| is_refused(one)),
+        Ok(taken) => any_refused(taken.as_slice()),
         Err(_) => true,
     }
 }
@@ -48,6 +54,7 @@ fn make_round<O: Sink, K: Keeper, L: Link, C: Clock, D: Dice>(
     clock: &mut C,
     dice: &mut D,
 ) -> Result<bool, RunStop>
+    requires { client.old.page ≡ [] }
     ensures took { IfOk result (λ refused. TakesRound plan.now number client.old client.new
         (seen (outside (L.log link.old) (C.answers clock.old) (D.given dice.old))
         (keeping (K.handed keep.old) (K.kept keep.old)) (O.contents out.old))
@@ -63,7 +70,7 @@ fn make_round<O: Sink, K: Keeper, L: Link, C: Clock, D: Dice>(
     ensures keeper_failed { IsErrOf result RunStop.KeepFault → Rose (K.faults keep.old) (K.faults keep.new) }
     ensures keeper_kept { result ≢ Err RunStop.KeepFault → K.faults keep.new ≡ K.faults keep.old }
 {
-    let end = run_round(
+    let end = match run_round(
         alloc,
         &mut client.lists,
         &mut client.waits,
@@ -73,17 +80,23 @@ fn make_round<O: Sink, K: Keeper, L: Link, C: Clock, D: Dice>(
         link,
         clock,
         dice,
-    )?;
-    tell_round(
+    ) {
+        Ok(end) => end,
+        Err(OutOfMemory) => return Err(RunStop::OutOfMemory),
+    };
+    let number = u64::from(number);
+    match tell_round(
         alloc,
-        u64::from(number),
+        number,
         &end,
         &client.lists,
         out,
         keep,
         &mut client.page,
-    )?;
-    Ok(has_refusal(&end.taken))
+    ) {
+        Ok(()) => Ok(has_refusal(&end.taken)),
+        Err(stop) => Err(stop),
+    }
 }
 
 /// Writes what waits, and makes the round of this number.
@@ -149,18 +162,13 @@ pub(crate) fn take_rounds<O: Sink, K: Keeper, L: Link, C: Clock, D: Dice, G: Gat
     rounds_go_on();
     let mut refused = false;
     for made in 0..plan.rounds {
-        refused |= take_round(
-            alloc,
-            plan,
-            made + 1,
-            client,
-            out,
-            keep,
-            link,
-            clock,
-            dice,
-            gate,
-        )?;
+        let number = made + 1;
+        match take_round(
+            alloc, plan, number, client, out, keep, link, clock, dice, gate,
+        ) {
+            Ok(is_refused) => refused |= is_refused,
+            Err(stop) => return Err(stop),
+        }
     }
     Ok(refused)
 }

@@ -41,9 +41,10 @@ fn finish<O: Sink>(lists: &[HeldList], out: &mut O, page: &mut Bytes) -> Result<
     ensures output_failed { IsErrOf result RunStop.WriteFault → Rose (O.faults out.old) (O.faults out.new) }
     ensures output_kept { result ≢ Err RunStop.WriteFault → O.faults out.new ≡ O.faults out.old }
 {
-    push_lists(page, lists)?;
-    flush(out, page)?;
-    Ok(())
+    match push_lists(page, lists) {
+        Ok(()) => Ok(flush(out, page)?),
+        Err(OutOfMemory) => Err(RunStop::OutOfMemory),
+    }
 }
 
 /// Makes the rounds of a client, and tells of its lists.
@@ -74,9 +75,13 @@ fn run_from<O: Sink, K: Keeper, L: Link, C: Clock, D: Dice, G: Gate>(
     ensures keeper_failed { IsErrOf result RunStop.KeepFault → Rose (K.faults keep.old) (K.faults keep.new) }
     ensures keeper_kept { result ≢ Err RunStop.KeepFault → K.faults keep.new ≡ K.faults keep.old }
 {
-    let refused = take_rounds(alloc, plan, client, out, keep, link, clock, dice, gate)?;
-    finish(client.lists.lists(), out, &mut client.page)?;
-    Ok(refused)
+    match take_rounds(alloc, plan, client, out, keep, link, clock, dice, gate) {
+        Ok(refused) => match finish(client.lists.lists(), out, &mut client.page) {
+            Ok(()) => Ok(refused),
+            Err(stop) => Err(stop),
+        },
+        Err(stop) => Err(stop),
+    }
 }
 
 /// Makes a run: loads the lists that the keeper keeps, makes the rounds of the plan, saves the lists after each round that
@@ -127,18 +132,11 @@ pub fn run<O: Sink, K: Keeper, L: Link, C: Clock, D: Dice, G: Gate>(
     ensures keeper_kept { result ≢ Err RunStop.KeepFault → K.faults keep.new ≡ K.faults keep.old }
 {
     let mut page = Bytes::new(alloc);
-    let lists = load_lists(alloc, plan.names.as_slice(), keep, &mut page)?;
+    let lists = match load_lists(alloc, plan.names.as_slice(), keep, &mut page) {
+        Ok(lists) => lists,
+        Err(stop) => return Err(stop),
+    };
     let waits = WaitState::first(clock.now(), dice.word());
     let mut client = Client { lists, waits, page };
-    run_from(
-        alloc,
-        plan,
-        &mut client,
-        out,
-        keep,
-        link,
-        clock,
-        dice,
-        gate,
-    )
+    run_from(alloc, plan, &mut client, out, keep, link, clock, dice, gate)
 }

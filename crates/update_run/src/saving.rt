@@ -11,7 +11,7 @@ ghost use Rattle.update_run.specs.Rounding.{StopsReplacing, StopsTelling};
 use crate::RunStop;
 use crate::printing::push_saved_line;
 use client_store::write_store;
-use sb_model::{Bytes, Row};
+use sb_model::{Bytes, OutOfMemory, Row};
 use sb_outside::{Keeper, Sink, flush};
 use sb_round::{RoundEnd, RoundFault, Taken, push_round};
 use std::alloc::Global;
@@ -26,12 +26,18 @@ fn is_installed(taken: &Taken) -> bool
     }
 }
 
+fn any_installed(taken: &[Taken]) -> bool
+    ensures { result ≡ list_any (λ (one : TakenUpdate). is_installed_result one.result) taken.now }
+{
+    taken.iter().any(|one| is_installed(one))
+}
+
 /// Whether a round installed a list.
 fn has_installed(taken: &Result<Row<Taken>, RoundFault>) -> bool
     ensures { result ≡ has_installed_one taken.now }
 {
     match taken {
-        Ok(taken) => taken.as_slice().iter().any(|one| is_installed(one)),
+        Ok(taken) => any_installed(taken.as_slice()),
         Err(_) => false,
     }
 }
@@ -81,8 +87,10 @@ fn save<O: Sink, K: Keeper>(
     ensures keeper_failed { IsErrOf result RunStop.KeepFault → Rose (K.faults keep.old) (K.faults keep.new) }
     ensures keeper_kept { result ≢ Err RunStop.KeepFault → K.faults keep.new ≡ K.faults keep.old }
 {
-    let text = write_store(alloc, lists)?;
-    replace(number, text.as_slice(), out, keep, page)
+    match write_store(alloc, lists) {
+        Ok(text) => replace(number, text.as_slice(), out, keep, page),
+        Err(OutOfMemory) => Err(RunStop::OutOfMemory),
+    }
 }
 
 /// Saves the lists where the round of this number installed one.
@@ -134,6 +142,8 @@ pub(crate) fn tell_round<O: Sink, K: Keeper>(
     ensures keeper_failed { IsErrOf result RunStop.KeepFault → Rose (K.faults keep.old) (K.faults keep.new) }
     ensures keeper_kept { result ≢ Err RunStop.KeepFault → K.faults keep.new ≡ K.faults keep.old }
 {
-    push_round(page, number, end)?;
-    save_installed(alloc, number, end, lists, out, keep, page)
+    match push_round(page, number, end) {
+        Ok(()) => save_installed(alloc, number, end, lists, out, keep, page),
+        Err(OutOfMemory) => Err(RunStop::OutOfMemory),
+    }
 }
