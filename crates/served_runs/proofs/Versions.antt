@@ -1,0 +1,89 @@
+-- Lists do not go back from round to round.
+use Rattle.std.proofs.Common.{◌≡◌, ◌⊎◌, ◌≤◌, ℕ, List, [], ◌∷◌, map, refl, sym, ap, ◌∙◌, subst, inl, inr, arith}
+use Rattle.std.specs.Prelude.{All, IsTrue, Result}
+use Rattle.sb_model.specs.History.{History, declares, up_to_version, version_count}
+use Rattle.sb_model.specs.Naming.{Naming}
+use Rattle.update_messages.specs.Answer.{update_for}
+use Rattle.update_messages.specs.declared.response.FetchResponse.{FetchResponse}
+use Rattle.update_client.specs.Asked.{asked_list}
+use Rattle.update_client.specs.Genuine.{IsWithinLimitsAlways}
+use Rattle.update_client.specs.Held.{Held}
+use Rattle.update_client.specs.Step.{after_updates}
+use Rattle.update_client.specs.declared.options.FetchOptions.{FetchOptions}
+use Rattle.sb_round.specs.Round.{Round, lists_after_round, updates_of}
+use Rattle.sb_round.specs.Rounds.{body_of}
+use Rattle.sb_round.specs.Run.{lists_after}
+use Rattle.sb_round.specs.declared.rounds.RoundFault.{RoundFault}
+use Rattle.served_runs.specs.Versions.{HasNoLimits, IsAnswered, IsUnanswered, AreAnsweredFrom, HoldsVersion, GoesOn, GoOn, KeepsVersions}
+use Rattle.served_runs.proofs.Answers.{TargetsAreGreatest, TargetsAreVersions, updates_are_to}
+use Rattle.served_runs.proofs.Steps.{NamesGo, Each, each_through, ComesTo, after_all, declared_after}
+
+-- ---- each list goes on
+
+each_is : (history : History) (token_at : Naming) (most : ℕ) (lists lists' : List Held) → Each (GoesOn history token_at most) lists lists' → GoOn history token_at most lists lists'
+each_is history token_at most [] [] h = tt
+each_is history token_at most [] (held' ∷ lists') h = h
+each_is history token_at most (held ∷ lists) [] h = h
+each_is history token_at most (held ∷ lists) (held' ∷ lists') h = (h.0, each_is history token_at most lists lists' h.1)
+
+is_each : (history : History) (token_at : Naming) (most : ℕ) (lists lists' : List Held) → GoOn history token_at most lists lists' → Each (GoesOn history token_at most) lists lists'
+is_each history token_at most [] [] h = tt
+is_each history token_at most [] (held' ∷ lists') h = h
+is_each history token_at most (held ∷ lists) [] h = h
+is_each history token_at most (held ∷ lists) (held' ∷ lists') h = (h.0, is_each history token_at most lists lists' h.1)
+
+stays_there : (history : History) (token_at : Naming) (most : ℕ) (held : Held) → GoesOn history token_at most held held
+stays_there history token_at most held = record { named = refl; version = λ from holds within. (from, omega arith, holds) }
+
+all_stay : (history : History) (token_at : Naming) (most : ℕ) (lists : List Held) → GoOn history token_at most lists lists
+all_stay history token_at most [] = tt
+all_stay history token_at most (held ∷ lists) = (stays_there history token_at most held, all_stay history token_at most lists)
+
+-- a list that came to a version, and went on from there
+went_on : (history : History) (token_at : Naming) (least version : ℕ) → least ≤ version → version ≤ version_count history
+    → (a b c : Held) → ComesTo token_at version a b → GoesOn history token_at version b c → GoesOn history token_at least a c
+went_on history token_at least version low within a b c comes goes = record {
+  named = goes.named ∙ comes.named;
+  version = λ from holds most. either from holds most comes.token;
+}
+  where
+    either : (from : ℕ) → HoldsVersion history token_at a from → from ≤ least → (b.token ≡ a.token) ⊎ (b.token ≡ token_at a.name version)
+        → (to : ℕ) × (from ≤ to) × HoldsVersion history token_at c to
+    either from holds most (inl same) =
+        goes.version from (record { within = holds.within; token = same ∙ holds.token ∙ ap (λ name. token_at name from) (sym comes.named) }) (omega (arith, most, low))
+    either from holds most (inr new) =
+        let later = goes.version version (record { within = within; token = new ∙ ap (λ name. token_at name version) (sym comes.named) }) (omega arith) in
+        (later.0, omega (arith, most, low, later.1), later.2)
+
+-- ---- rounds
+
+module _ (go : NamesGo) (greatest : TargetsAreGreatest) (last : TargetsAreVersions) (history : History) (token_at : Naming) (options : FetchOptions) (limits : HasNoLimits options) (always : IsWithinLimitsAlways history) where
+  comes_in : (lists : List Held) (round : Round) (version : ℕ) → All (λ held. IsTrue (declares history held.name)) lists → IsAnswered history token_at options lists round version
+      → Each (ComesTo token_at version) lists (lists_after_round lists round)
+  comes_in lists round version declared is =
+      subst (λ (answer : Result FetchResponse RoundFault). Each (ComesTo token_at version) lists (after_updates lists (updates_of answer))) (sym is.message)
+      (after_all go token_at version lists (map (update_for (up_to_version version history) token_at) (map (asked_list options) lists))
+      (updates_are_to greatest last history token_at options limits always version is.within lists declared))
+
+  nothing_came : (lists : List Held) (round : Round) → IsUnanswered round → lists_after_round lists round ≡ lists
+  nothing_came lists round is = ap (λ (answer : Result FetchResponse RoundFault). after_updates lists (updates_of answer)) is.none
+
+  pub keeps : (least : ℕ) (lists : List Held) (rounds : List Round) → All (λ held. IsTrue (declares history held.name)) lists → AreAnsweredFrom history token_at options least lists rounds
+      → GoOn history token_at least lists (lists_after lists (map body_of rounds))
+  keeps least lists [] declared are = all_stay history token_at least lists
+  keeps least lists (round ∷ rounds) declared (inl (unanswered, rest)) =
+      let same = nothing_came lists round unanswered in
+      subst (λ (ls : List Held). GoOn history token_at least ls (lists_after (lists_after_round lists round) (map body_of rounds))) same
+      (keeps least (lists_after_round lists round) rounds (subst (All (λ held. IsTrue (declares history held.name))) (sym same) declared) rest)
+  keeps least lists (round ∷ rounds) declared (inr (version, low, is, rest)) =
+      let comes = comes_in lists round version declared is in
+      let later = keeps version (lists_after_round lists round) rounds (declared_after history token_at version lists (lists_after_round lists round) comes declared) rest in
+      let final = lists_after (lists_after_round lists round) (map body_of rounds) in
+      each_is history token_at least lists final
+      (each_through (ComesTo token_at version) (GoesOn history token_at version) (GoesOn history token_at least) (went_on history token_at least version low is.within) lists (lists_after_round lists round) final
+      comes (is_each history token_at version (lists_after_round lists round) final later))
+
+pub keeps_versions : NamesGo → TargetsAreGreatest → TargetsAreVersions → (history : History) (token_at : Naming) (options : FetchOptions) (least : ℕ) (lists : List Held) (rounds : List Round)
+    → KeepsVersions history token_at options least lists rounds
+keeps_versions go greatest last history token_at options least lists rounds limits always declared are =
+    keeps go greatest last history token_at options limits always least lists rounds declared are
