@@ -1,11 +1,12 @@
 ghost use Rattle.std.specs.Prelude.{◌≡◌, ℕ, ◌≤◌, List, length, IfOk};
 ghost use Rattle.sha2.specs.Sha256.{sha256};
+ghost use Rattle.sb_model.specs.Difference.{removed_places, added_members};
 ghost use Rattle.sb_model.specs.Prefixes.{concatenation};
 ghost use Rattle.delta_server.specs.Updates.{whole_update, difference_update};
 
 use crate::sets::{addition_sets, removal_sets};
 use hash_prefixes::Prefix;
-use prefix_set::PrefixSet;
+use prefix_set::{Delta, PrefixSet};
 use sb_model::{Bytes, OutOfMemory, Row};
 use std::alloc::Global;
 use update_messages::{ListRequest, ListUpdate};
@@ -27,6 +28,21 @@ fn members_of(alloc: Global, set: &PrefixSet) -> Result<Row<Prefix>, OutOfMemory
         members.push(set.at(i))?;
     }
     Ok(members)
+}
+
+// The state that an update is made for.
+fn base_of(alloc: Global, asked: &ListRequest) -> Result<Bytes, OutOfMemory>
+    ensures { IfOk result (λ base. base ≡ asked.now.state) }
+{
+    Bytes::from_slice(alloc, asked.state.as_slice())
+}
+
+// What leads from one set to another: the places of its members that go, and the members that come.
+fn delta_of(alloc: Global, old: &PrefixSet, newer: &PrefixSet) -> Result<Delta, OutOfMemory>
+    ensures removals { IfOk result (λ delta. delta.removals ≡ removed_places old.now newer.now) }
+    ensures additions { IfOk result (λ delta. delta.additions ≡ added_members old.now newer.now) }
+{
+    old.difference(alloc, newer)
 }
 
 /// The update to the whole of a set.
@@ -64,8 +80,8 @@ pub fn partial_update(
 {
     let _ = old.len();
     let _ = newer.set.len();
-    let delta = old.difference(alloc, newer.set)?;
-    let base = asked.state.copy()?;
+    let delta = delta_of(alloc, old, newer.set)?;
+    let base = base_of(alloc, asked)?;
     Ok(ListUpdate {
         name: asked.name,
         full: false,
@@ -88,11 +104,11 @@ pub fn unchanged_update(
     ensures { IfOk result (λ update. (size : ℕ) (set : List (List ℕ)) → digest ≡ sha256 (concatenation set)
         → update ≡ difference_update asked.now size set set token) }
 {
-    let state = asked.state.copy()?;
+    let base = base_of(alloc, asked)?;
     Ok(ListUpdate {
         name: asked.name,
         full: false,
-        base: state,
+        base,
         additions: Row::new(alloc),
         removals: Row::new(alloc),
         new_state: Bytes::from_slice(alloc, token.as_slice())?,

@@ -35,5 +35,5 @@ returns c =
     let sets = c.in_ok-addition_sets.ensures.sets ∙ ap (λ (b : Bool). addition_sets b c.as_slice.result.now) rice ∙ ap (λ (ms : List _). addition_sets c.args.asked.now.rice ms) members in
     let gone = c.in_ok-removal_sets.ensures.sets ∙ ap (λ (b : Bool). removal_sets b c.args.size c.in_ok-delta.delta.removals) rice
     ∙ ap (λ (ns : List ℕ). removal_sets c.args.asked.now.rice c.args.size ns) c.in_ok-delta.ensures.removals in
-    same_update _ _ (ap (λ (a : AskedList). a.name) c.asked.view_is) refl (c.in_ok-base.ensures ∙ ap (λ (a : AskedList). a.state) c.asked.view_is) sets gone
+    same_update _ _ (ap (λ (a : AskedList). a.name) c.asked.view_is) refl c.in_ok-base.ensures sets gone
     (c.in_ok-from_slice.ensures ∙ c.as_slice-2.ensures) c.requires
