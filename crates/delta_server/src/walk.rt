@@ -1,11 +1,11 @@
-ghost use Rattle.std.specs.Prelude.{◌≡◌, ℕ, ◌+◌, ◌≤◌, List, [], length, drop, All, IfOk, OnOk, IfSome};
+ghost use Rattle.std.specs.Prelude.{◌≡◌, ℕ, ◌+◌, ◌^◌, ◌<◌, ◌≤◌, List, [], length, drop, All, IfOk, OnOk, IfSome, if◌then◌else◌};
 ghost use Rattle.sb_model.specs.declared.history.Added.{Added as Entry};
 ghost use Rattle.sb_model.specs.declared.history.Change.{Change as Recorded};
 ghost use Rattle.sb_model.specs.History.{History, IsPrefixSize};
 ghost use Rattle.sb_model.specs.Target.{target_version};
 ghost use Rattle.delta_server.specs.Counts.{AreApart};
 ghost use Rattle.delta_server.specs.Version.{Stands};
-ghost use Rattle.delta_server.specs.Walk.{HasSizes, entries_after, changes_taken, held_set};
+ghost use Rattle.delta_server.specs.Walk.{HasSizes, entries_after, may_take, changes_taken, held_set, published};
 
 use crate::version::Version;
 use prefix_set::PrefixSet;
@@ -29,6 +29,26 @@ fn pass_each(
     Ok(())
 }
 
+// How many changes are taken once one more was passed: that one and those before it, where the
+// holder of the held set may be brought to the version after it.
+fn taken_after(
+    version: &Version<'_>,
+    max_update: u32,
+    max_database: u32,
+    taken: u64,
+    i: usize,
+) -> u64
+    requires { i < 2 ^ 63 }
+    ensures taken { (entries : List Entry) → Stands version.now entries
+        → result ≡ (if may_take version.now.holders.held.now max_update max_database (published entries) then i + 1 else taken) }
+    ensures within { taken ≤ i → result ≤ i + 1 }
+{
+    if version.may_take(max_update, max_database) {
+        return i as u64 + 1;
+    }
+    taken
+}
+
 // How many of the changes after a version are taken.
 fn taken_from(
     version: &mut Version<'_>,
@@ -45,9 +65,7 @@ fn taken_from(
     let mut taken = 0;
     for (i, change) in changes.iter().enumerate() {
         version.change(list, change)?;
-        if version.may_take(max_update, max_database) {
-            taken = i as u64 + 1;
-        }
+        taken = taken_after(version, max_update, max_database, taken, i);
     }
     Ok(taken)
 }
