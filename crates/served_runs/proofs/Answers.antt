@@ -32,7 +32,7 @@ found_in_range test start (suc count) = go (test start) (found_in_range test (st
     go true h = omega arith
     go false h = later (find test (range_with_len (start + 1) count)) h
 
-named_within : (history : History) (token_at : Naming) (list : ListName) (state : List ℕ) → IfSome (version_named history token_at list state) (λ n. n ≤ version_count history)
+pub named_within : (history : History) (token_at : Naming) (list : ListName) (state : List ℕ) → IfSome (version_named history token_at list state) (λ n. n ≤ version_count history)
 named_within history token_at list state = go (version_named history token_at list state) (found_in_range (λ version. bytes_eq (token_at list version) state) 0 (version_count history + 1))
   where
     go : (found : Option ℕ) → IfSome found (λ n. n < 0 + (version_count history + 1)) → IfSome found (λ n. n ≤ version_count history)
@@ -63,7 +63,7 @@ reaches_newest history list (Some held) max_update max_database update database 
     let fits = within_database max_database (length (prefixes_at history list (version_count history))) database few in
     rw update (or_true (version_count history == held) _ (and_true (nat_le held (version_count history) && true) _ (and_true (nat_le held (version_count history)) true later refl) fits))
 
-count_up_to : (history : History) (version : ℕ) → version ≤ version_count history → version_count (up_to_version version history) ≡ version
+pub count_up_to : (history : History) (version : ℕ) → version ≤ version_count history → version_count (up_to_version version history) ≡ version
 count_up_to history version within = omega (arith, length-take version history.changes, within)
 
 newest_few : (history : History) (list : ListName) (version : ℕ) → IsWithinLimitsAlways history → IsTrue (declares history list) → version ≤ version_count history
