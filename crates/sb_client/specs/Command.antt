@@ -1,11 +1,24 @@
 -- The command lines that the client takes.
-use Rattle.std.specs.Prelude.{ℕ, ◌&&◌, ◌≡◌, ◌<◌, ◌≤◌, length, Bool, true, false, is_some, if◌then◌else◌, List, [], ◌∷◌, Option, Some, None, option_and_then, codes}
-use Rattle.std.specs.Str.{bytes_eq}
+use Rattle.std.proofs.Common.{refl, leb-true}
+use Rattle.std.specs.Prelude.{ℕ, ◌&&◌, not, ◌≡◌, ◌<◌, ◌≤◌, nat_le, length, Bool, true, false, is_some, if◌then◌else◌, List, [], ◌∷◌, Option, Some, None, option_map, option_and_then, codes}
+use Rattle.std.specs.Str.{bytes_eq, chars}
 use Rattle.sb_model.specs.declared.names.ListName.{ListName}
-use Rattle.sb_words.specs.CommandLine.{CommandShape, Given, given_of}
-use Rattle.sb_words.specs.Values.{lists_of}
+use Rattle.sb_words.specs.declared.shape.OptionKind.TheVariants.{Needed, Optional, Flag}
+use Rattle.sb_words.specs.CommandLine.{Text, CommandOption, CommandShape, Given, given_of, value_among}
+use Rattle.sb_words.specs.Values.{number_of, lists_of, is_key, host_port_of}
+use Rattle.update_client.specs.declared.options.FetchOptions.{FetchOptions}
+use Rattle.update_run.specs.declared.plan.Plan.{Plan}
 use Rattle.sb_client.specs.declared.command.Command.{Command}
-use Rattle.sb_client.specs.declared.command.Command.TheVariants.{Replay, Show, Vectors}
+use Rattle.sb_client.specs.declared.command.Command.TheVariants.{Replay, Run, Show, Vectors}
+
+abbrev pub needed : Text → CommandOption
+needed name = record { name = name; kind = Needed }
+
+abbrev pub optional : Text → CommandOption
+optional name = record { name = name; kind = Optional }
+
+abbrev pub flag : Text → CommandOption
+flag name = record { name = name; kind = Flag }
 
 -- `replay` has no options, and takes positional words.
 abbrev pub replay_shape : CommandShape
@@ -29,6 +42,115 @@ lists_given given = lists_of given.positionals
 abbrev pub replay_of : List (List ℕ) → Option (List ListName)
 replay_of words = option_and_then lists_given (given_to (codes "sbupdate") (codes "replay") replay_shape words)
 
+-- ---- `sbupdate run`
+
+-- `run` needs a store, a server and a number of rounds, may have a key, two limits and two flags, and takes positional words.
+abbrev pub run_shape : CommandShape
+run_shape = record {
+  options =
+      needed (codes "store") ∷ needed (codes "server") ∷ needed (codes "rounds")
+      ∷ optional (codes "key") ∷ optional (codes "max-update") ∷ optional (codes "max-database")
+      ∷ flag (codes "raw-only") ∷ flag (codes "no-digest") ∷ [];
+  takes_positionals = true;
+}
+
+-- the server, where it is a host and a port
+abbrev pub server_given : List (Text × Text) → Option Text
+server_given named =
+    option_and_then (λ text. option_map (λ _. text) (host_port_of text)) (value_among (codes "server") named)
+
+-- how many rounds: 1 to 1,024
+abbrev pub rounds_given : List (Text × Text) → Option ℕ
+rounds_given named = option_and_then (number_of 1 1024) (value_among (codes "rounds") named)
+
+-- the key, which is empty where there is none
+abbrev pub key_of : Option Text → Option Text
+key_of None = Some []
+key_of (Some text) = if is_key text then Some text else None
+
+abbrev pub key_given : List (Text × Text) → Option Text
+key_given named = key_of (value_among (codes "key") named)
+
+-- a limit of entries, at most 2,147,483,647, which has a default
+abbrev pub limit_of : ℕ → Option Text → Option ℕ
+limit_of default None = Some default
+limit_of default (Some text) = number_of 0 2147483647 text
+
+abbrev pub limit_given : Text → ℕ → List (Text × Text) → Option ℕ
+limit_given name default named = limit_of default (value_among name named)
+
+abbrev pub has_flag : Text → List (Text × Text) → Bool
+has_flag name named = is_some (value_among name named)
+
+-- what is asked for beside the lists, where the limits are at most 2,147,483,647
+abbrev pub options_by : (update database : ℕ) → Bool → (a b : Bool) → nat_le update 2147483647 ≡ a → nat_le database 2147483647 ≡ b → Option FetchOptions
+options_by update database raw true true small few = Some (record {
+  max_update = update;
+  max_database = database;
+  raw_only = raw;
+  update_limit = leb-true update 2147483647 small;
+  database_limit = leb-true database 2147483647 few;
+})
+options_by update database raw a b small few = None
+
+abbrev pub options_of : ℕ → ℕ → Bool → Option FetchOptions
+options_of update database raw =
+    options_by update database raw (nat_le update 2147483647) (nat_le database 2147483647) refl refl
+
+abbrev pub options_given : List (Text × Text) → Option FetchOptions
+options_given named =
+    option_and_then (λ update. option_and_then (λ database.
+    options_of update database (has_flag (codes "raw-only") named))
+    (limit_given (codes "max-database") 1048576 named))
+    (limit_given (codes "max-update") 0 named)
+
+-- What a command line of `run` says: the path of the store, the address of the server, and what is to be done.
+pub record RunWords : Type 0 where
+  pub store : Text
+  pub server : Text
+  pub plan : Plan
+
+-- The server's whole text is the host that is asked.
+abbrev pub run_words : (store server : Text) → List ListName → ℕ → (key : Text) → FetchOptions → Bool → RunWords
+run_words store server names rounds key options need_digest = record {
+  store = store;
+  server = server;
+  plan = record {
+    names = names;
+    rounds = rounds;
+    options = options;
+    target = record { host = chars server; key = chars key };
+    need_digest = need_digest;
+  };
+}
+
+-- what the options say, for these lists
+abbrev pub run_with : List ListName → List (Text × Text) → Option RunWords
+run_with names named =
+    option_and_then (λ store. option_and_then (λ server. option_and_then (λ rounds. option_and_then (λ key. option_map
+    (λ options. run_words store server names rounds key options (not (has_flag (codes "no-digest") named)))
+    (options_given named))
+    (key_given named))
+    (rounds_given named))
+    (server_given named))
+    (value_among (codes "store") named)
+
+abbrev pub run_given : Given → Option RunWords
+run_given given = option_and_then (λ names. run_with names given.named) (lists_given given)
+
+-- what the words of `sbupdate run --store PATH --server HOST:PORT --rounds N .. LIST..` say, where they are such words
+abbrev pub run_of : List Text → Option RunWords
+run_of words = option_and_then run_given (given_to (codes "sbupdate") (codes "run") run_shape words)
+
+-- where the words have a store and a server
+abbrev pub store_of : List Text → Option Text
+store_of words = option_map (λ (line : RunWords). line.store) (run_of words)
+
+abbrev pub server_of : List Text → Option Text
+server_of words = option_map (λ (line : RunWords). line.server) (run_of words)
+
+-- ---- `sbcheck`, and other words
+
 -- whether the words are `sbcheck show`, and whether they are `sbcheck vectors`
 abbrev pub asks_show : List (List ℕ) → Bool
 asks_show words = is_some (given_to (codes "sbcheck") (codes "show") bare_shape words)
@@ -39,6 +161,7 @@ asks_vectors words = is_some (given_to (codes "sbcheck") (codes "vectors") bare_
 -- The words are none of these.
 pub record IsNoCommand (words : List (List ℕ)) : Type 0 where
   pub replay : replay_of words ≡ None
+  pub run : run_of words ≡ None
   pub show : asks_show words ≡ false
   pub vectors : asks_vectors words ≡ false
 
@@ -46,11 +169,16 @@ pub record IsNoCommand (words : List (List ℕ)) : Type 0 where
 abbrev pub IsCommandOf : List (List ℕ) → Option Command → Type 0
 IsCommandOf words None = IsNoCommand words
 IsCommandOf words (Some (Replay names)) = replay_of words ≡ Some names
+IsCommandOf words (Some (Run plan)) = option_map (λ (line : RunWords). line.plan) (run_of words) ≡ Some plan
 IsCommandOf words (Some Show) = asks_show words ≡ true
 IsCommandOf words (Some Vectors) = asks_vectors words ≡ true
 
+abbrev pub AreFew : List ListName → Type 0
+AreFew names = (0 < length names) × (length names ≤ 8)
+
 -- what the lists of a command keep to: they are 1 to 8
 abbrev pub AreFewLists : Command → Type 0
-AreFewLists (Replay names) = (0 < length names) × (length names ≤ 8)
+AreFewLists (Replay names) = AreFew names
+AreFewLists (Run plan) = AreFew plan.names
 AreFewLists Show = Unit {0}
 AreFewLists Vectors = Unit {0}

@@ -1,17 +1,16 @@
 -- The printed text of a replay.
-use Rattle.std.specs.Prelude.{ℕ, ◌+◌, List, [], ◌∷◌, ◌++◌, length, Ok, Err, codes, decimal}
+use Rattle.std.specs.Prelude.{ℕ, ◌+◌, List, [], ◌∷◌, ◌++◌, Ok, Err, codes, decimal}
 use Rattle.std.specs.List.{flat_map}
 use Rattle.hex.specs.Hex.{encode_lower}
 use Rattle.sb_model.specs.declared.names.ListName.{ListName}
-use Rattle.sb_model.specs.Names.{text_of}
 use Rattle.sb_json.specs.Printed.{cause_text}
 use Rattle.update_messages.specs.Messages.{UpdatedList}
 use Rattle.update_client.specs.declared.fault.ListResult.{ListResult}
 use Rattle.update_client.specs.Held.{Held, nothing_held_of}
 use Rattle.update_client.specs.Step.{after_updates, results_of}
-use Rattle.update_client.specs.Printed.{token_text}
 use Rattle.sb_round.specs.Printed.{taken_text}
 use Rattle.sb_round.specs.Run.{lists_after}
+use Rattle.update_run.specs.Printed.{list_line}
 use Rattle.sb_client.specs.Lines.{newline}
 use Rattle.sb_client.specs.Readings.{Reading, updates_of, bodies_of}
 
@@ -38,9 +37,6 @@ outcome_lines number lists (reading ∷ readings) =
 -- a list, and then its prefixes, each on a line
 abbrev pub prefix_line : List ℕ → List ℕ
 prefix_line prefix = encode_lower prefix ++ newline ∷ []
-
-abbrev pub list_line : Held → List ℕ
-list_line held = codes "list " ++ text_of held.name ++ codes " " ++ decimal (length held.set) ++ codes " " ++ token_text held.token ++ newline ∷ []
 
 abbrev pub list_lines : Held → List ℕ
 list_lines held = list_line held ++ flat_map prefix_line held.set

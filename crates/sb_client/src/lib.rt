@@ -1,18 +1,23 @@
 //! The top call of the client programs: `sbupdate replay LIST..` reads recorded response bodies, one a
-//! line, and prints the lists that result; `sbcheck show` prints the canonical form of URLs with their
-//! expressions, and `sbcheck vectors` how many published examples are met.
+//! line, and prints the lists that result; `sbupdate run .. LIST..` makes rounds of updates with a server and
+//! saves the lists; `sbcheck show` prints the canonical form of URLs with their expressions, and `sbcheck
+//! vectors` how many published examples are met.
 #![tactic(auto)]
 
 pub use client::{USAGE, run_client};
 pub use laws::{lines_are_the_input, premises_are_met};
+pub use objects::Targets;
+pub use targeting::targets;
 
 mod client;
 mod command;
 mod input;
 mod laws;
 mod lines;
+mod objects;
 mod printing;
 mod replay;
 mod show;
 mod stop;
+mod targeting;
 mod vectors;

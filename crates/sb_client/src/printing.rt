@@ -1,13 +1,13 @@
 ghost use Rattle.std.specs.Prelude.{◌≡◌, ◌++◌, codes, decimal, length, OnOk};
 ghost use Rattle.sb_json.specs.Printed.{cause_text};
 ghost use Rattle.sb_round.specs.Printed.{taken_text};
-ghost use Rattle.sb_client.specs.Printed.{numbered, list_line, prefix_line};
+ghost use Rattle.sb_client.specs.Printed.{numbered, prefix_line};
 
 use hash_prefixes::append_hex;
 use sb_json::{MessageFault, push_message_cause};
 use sb_model::{Bytes, ListName, OutOfMemory};
-use sb_round::{push_name, push_number, push_taken};
-use update_client::{HeldList, ListResult, push_token};
+use sb_round::{push_number, push_taken};
+use update_client::ListResult;
 
 fn push_number_first(page: &mut Bytes, number: u64) -> Result<(), OutOfMemory>
     ensures { OnOk result (page.new ≡ page.old ++ (decimal number ++ codes " ")) }
@@ -41,19 +41,6 @@ pub(crate) fn push_taken_line(
 {
     push_number_first(page, number)?;
     push_taken(page, name, update)?;
-    page.push(b'\n')
-}
-
-/// Appends the line of a list.
-pub(crate) fn push_list_line(page: &mut Bytes, held: &HeldList) -> Result<(), OutOfMemory>
-    ensures { OnOk result (page.new ≡ page.old ++ list_line held.now) }
-{
-    page.append(b"list ")?;
-    push_name(page, held.name)?;
-    page.push(b' ')?;
-    push_number(page, u64::from(held.set.len()))?;
-    page.push(b' ')?;
-    push_token(page, held.token.as_slice())?;
     page.push(b'\n')
 }
 

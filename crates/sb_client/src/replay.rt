@@ -17,7 +17,7 @@ ghost use Rattle.sb_client.specs.Replay.{is_refused as is_refused_result, has_re
 
 use crate::input::{first_line, read_input};
 use crate::lines::{Reading, read_line};
-use crate::printing::{push_list_line, push_prefix_line, push_taken_line, push_unreadable_line};
+use crate::printing::{push_prefix_line, push_taken_line, push_unreadable_line};
 use crate::stop::Stop;
 use sb_json::MessageFault;
 use sb_model::{Bytes, ListName};
@@ -25,6 +25,7 @@ use sb_outside::{Sink, Source, flush, flush_if_full};
 use std::alloc::Global;
 use update_client::{ClientLists, HeldList, ListResult};
 use update_messages::{FetchResponse, ListUpdate, values_read_or_have_a_fault};
+use update_run::push_list_line;
 
 /// Whether an update is told with status 5.
 fn is_refused(outcome: &ListResult) -> bool

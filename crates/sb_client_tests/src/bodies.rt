@@ -4,7 +4,9 @@ ghost use Rattle.std.specs.Prelude.{◌<◌};
 use base64::engine::general_purpose::STANDARD;
 use sb_client::run_client;
 use sb_model::{Bytes, OutOfMemory, Row};
-use sb_outside::{MemorySink, MemorySource};
+use sb_outside::{
+    MemoryKeeper, MemorySink, MemorySource, OpenGate, ScriptClock, ScriptDice, ScriptLink,
+};
 use std::alloc::{AllocError, Global};
 use std::process::Abort;
 use std::test::Fail;
@@ -140,6 +142,22 @@ pub(crate) fn replay_words(alloc: Global, lists: &[&str]) -> Result<Vec<String>,
     Ok(words)
 }
 
+/// What words answer that use no other objects than these.
+pub(crate) fn answer_of(
+    alloc: Global,
+    words: &[String],
+    input: &mut MemorySource,
+    out: &mut MemorySink,
+) -> Result<u8, OutOfMemory> {
+    let mut keep = MemoryKeeper::new(alloc, None, Row::new(alloc));
+    let mut link = ScriptLink::new(alloc, Row::new(alloc), 0)?;
+    let mut clock = ScriptClock::new(alloc, Row::new(alloc), 0)?;
+    let mut dice = ScriptDice::new(alloc, Row::new(alloc), 0)?;
+    Ok(run_client(
+        alloc, words, input, out, &mut keep, &mut link, &mut clock, &mut dice, &OpenGate,
+    ))
+}
+
 /// What `sbupdate replay` of these lists answers and writes for an input.
 pub(crate) fn replayed(
     alloc: Global,
@@ -149,7 +167,7 @@ pub(crate) fn replayed(
     let words = replay_words(alloc, lists)?;
     let mut input = source(alloc, input, &[], 1000)?;
     let mut out = MemorySink::new(alloc, 4_000_000, Row::new(alloc))?;
-    let status = run_client(alloc, words.as_slice(), &mut input, &mut out);
+    let status = answer_of(alloc, words.as_slice(), &mut input, &mut out)?;
     Ok((status, out))
 }
 

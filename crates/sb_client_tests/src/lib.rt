@@ -10,6 +10,10 @@ mod objects;
 #[cfg(test)]
 mod recordings;
 #[cfg(test)]
+mod run_words;
+#[cfg(test)]
+mod runs;
+#[cfg(test)]
 mod shown;
 #[cfg(test)]
 mod words;

@@ -1,6 +1,5 @@
 //! Objects that fail, and the limits of an input.
-use crate::bodies::{LIST, replay_words, shows, source, words};
-use sb_client::run_client;
+use crate::bodies::{LIST, answer_of, replay_words, shows, source, words};
 use sb_model::{Bytes, Row};
 use sb_outside::MemorySink;
 use std::alloc::Global;
@@ -35,10 +34,8 @@ fn fails(rt: &impl Abort, alloc: Global, texts: &[&str]) -> Result<(), Fail> {
     let words = words(alloc, texts)?;
     let mut out = MemorySink::new(alloc, 1000, Row::new(alloc))?;
     let mut input = source(alloc, "x\n".as_bytes(), &[2], 1)?;
-    assert_eq!(rt;
-        run_client(alloc, words.as_slice(), &mut input, &mut out),
-        2
-    );
+    let answer = answer_of(alloc, words.as_slice(), &mut input, &mut out)?;
+    assert_eq!(rt; answer, 2);
     assert_eq!(rt; (input.faults(), out.bytes().len()), (1, 0));
     Ok(())
 }
@@ -64,10 +61,8 @@ fn breaks(
     let words = words(alloc, texts)?;
     let mut input = source(alloc, "{}\nx\n".as_bytes(), &[], 100)?;
     let mut out = MemorySink::new(alloc, 1000, Row::from_slice(alloc, &[2])?)?.with_step(10);
-    assert_eq!(rt;
-        run_client(alloc, words.as_slice(), &mut input, &mut out),
-        wanted
-    );
+    let answer = answer_of(alloc, words.as_slice(), &mut input, &mut out)?;
+    assert_eq!(rt; answer, wanted);
     assert_eq!(rt; out.bytes(), front.as_bytes());
     Ok(())
 }
@@ -105,10 +100,8 @@ fn counts(rt: &impl Abort, alloc: Global, last: &[u8], wanted: u8) -> Result<(),
     text.append(last)?;
     let mut input = source(alloc, text.as_slice(), &[], 100_000)?;
     let mut out = MemorySink::new(alloc, 4_000_000, Row::new(alloc))?;
-    assert_eq!(rt;
-        run_client(alloc, replay.as_slice(), &mut input, &mut out),
-        wanted
-    );
+    let answer = answer_of(alloc, replay.as_slice(), &mut input, &mut out)?;
+    assert_eq!(rt; answer, wanted);
     assert_eq!(rt; out.bytes().is_empty(), wanted == 6);
     Ok(())
 }

@@ -1,6 +1,5 @@
 //! URLs that are shown.
-use crate::bodies::{source, words};
-use sb_client::run_client;
+use crate::bodies::{answer_of, source, words};
 use sb_model::{Bytes, Row};
 use sb_outside::MemorySink;
 use std::alloc::Global;
@@ -39,7 +38,7 @@ fn shows(rt: &impl Abort, alloc: Global, text: &str, status: u8, shown: &str) ->
     let words = words(alloc, &["sbcheck", "show"])?;
     let mut input = source(alloc, text.as_bytes(), &[], 7)?;
     let mut out = MemorySink::new(alloc, 100_000, Row::new(alloc))?;
-    let answer = run_client(alloc, words.as_slice(), &mut input, &mut out);
+    let answer = answer_of(alloc, words.as_slice(), &mut input, &mut out)?;
     assert_eq!(rt; out.bytes(), shown.as_bytes());
     assert_eq!(rt; answer, status);
     Ok(())
@@ -60,10 +59,8 @@ fn a_text_has_at_most_8192_bytes(rt: HostRuntime) -> Result<(), Fail> {
     let text = Bytes::from_slice(alloc, vec![in alloc; b'a'; 8193]?.as_slice())?;
     let mut input = source(alloc, text.as_slice(), &[], 10_000)?;
     let mut out = MemorySink::new(alloc, 1000, Row::new(alloc))?;
-    assert_eq!(rt;
-        run_client(alloc, words.as_slice(), &mut input, &mut out),
-        21
-    );
+    let answer = answer_of(alloc, words.as_slice(), &mut input, &mut out)?;
+    assert_eq!(rt; answer, 21);
     assert_eq!(rt; out.bytes(), "1 refused too-long 8193\n".as_bytes());
     Ok(())
 }

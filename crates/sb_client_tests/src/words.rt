@@ -1,6 +1,6 @@
 //! The words of a command line.
-use crate::bodies::{LIST, source, words};
-use sb_client::{USAGE, run_client};
+use crate::bodies::{LIST, answer_of, source, words};
+use sb_client::USAGE;
 use sb_model::Row;
 use sb_outside::MemorySink;
 use std::alloc::Global;
@@ -114,7 +114,7 @@ fn answers(rt: &impl Abort, alloc: Global, texts: &[&str], text: &str) -> Result
     let words = words(alloc, texts)?;
     let mut input = source(alloc, b"", &[], 1)?;
     let mut out = MemorySink::new(alloc, 1000, Row::new(alloc))?;
-    let status = run_client(alloc, words.as_slice(), &mut input, &mut out);
+    let status = answer_of(alloc, words.as_slice(), &mut input, &mut out)?;
     assert_eq!(rt; out.bytes(), text.as_bytes());
     assert_eq!(rt; status, if text == USAGE { 1 } else { 0 });
     Ok(())

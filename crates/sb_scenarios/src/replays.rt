@@ -3,8 +3,10 @@ use base64::engine::general_purpose::STANDARD;
 use delta_server::{Settings, answer_fetch, state_token};
 use list_versions::History;
 use sb_client::run_client;
-use sb_model::{Bytes, EntryType, ListName, PlatformType, Row, ThreatType};
-use sb_outside::{MemorySink, MemorySource};
+use sb_model::{Bytes, EntryType, ListName, OutOfMemory, PlatformType, Row, ThreatType};
+use sb_outside::{
+    MemoryKeeper, MemorySink, MemorySource, OpenGate, ScriptClock, ScriptDice, ScriptLink,
+};
 use std::alloc::Global;
 use std::process::Abort;
 use std::test::Fail;
@@ -88,6 +90,22 @@ fn recording(alloc: Global, versions: &[usize], rice: bool) -> Result<Bytes, Fai
     Ok(lines)
 }
 
+/// What words answer that use no other objects than these.
+fn answer_of(
+    alloc: Global,
+    words: &[String],
+    input: &mut MemorySource,
+    out: &mut MemorySink,
+) -> Result<u8, OutOfMemory> {
+    let mut keep = MemoryKeeper::new(alloc, None, Row::new(alloc));
+    let mut link = ScriptLink::new(alloc, Row::new(alloc), 0)?;
+    let mut clock = ScriptClock::new(alloc, Row::new(alloc), 0)?;
+    let mut dice = ScriptDice::new(alloc, Row::new(alloc), 0)?;
+    Ok(run_client(
+        alloc, words, input, out, &mut keep, &mut link, &mut clock, &mut dice, &OpenGate,
+    ))
+}
+
 /// Sees what a replay of these answers prints.
 fn replays(
     rt: &impl Abort,
@@ -110,7 +128,7 @@ fn replays(
     pieces.push(recording(alloc, versions, rice)?)?;
     let mut input = MemorySource::new(pieces, Row::new(alloc));
     let mut out = MemorySink::new(alloc, 1_000_000, Row::new(alloc))?;
-    let answer = run_client(alloc, words.as_slice(), &mut input, &mut out);
+    let answer = answer_of(alloc, words.as_slice(), &mut input, &mut out)?;
     assert_eq!(rt; out.bytes(), text.as_bytes());
     assert_eq!(rt; answer, status);
     Ok(())

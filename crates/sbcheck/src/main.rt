@@ -2,7 +2,7 @@
 #![tactic(auto)]
 
 use sb_client::run_client;
-use sb_outside::{StdSink, StdSource};
+use sb_outside::{FileKeeper, OpenGate, StdSink, StdSource, SystemClock, SystemDice, TcpLink};
 use std::alloc::Global;
 use std::io::ErrorKind;
 use std::process::ExitCode;
@@ -28,5 +28,20 @@ fn main(rt: HostRuntime) -> ExitCode {
     };
     let mut input = StdSource::new(rt.stdin());
     let mut out = StdSink::new(rt.stdout());
-    ExitCode::from(run_client(alloc, words.as_slice(), &mut input, &mut out))
+    // No command of this program uses these.
+    let mut keep = FileKeeper::unusable(&rt);
+    let mut link = TcpLink::unusable(&rt);
+    let mut clock = SystemClock::new(&rt);
+    let mut dice = SystemDice::from_seed(0);
+    ExitCode::from(run_client(
+        alloc,
+        words.as_slice(),
+        &mut input,
+        &mut out,
+        &mut keep,
+        &mut link,
+        &mut clock,
+        &mut dice,
+        &OpenGate,
+    ))
 }

@@ -1,0 +1,10 @@
+use sb_model::Text;
+
+/// Where a command has its objects.
+#[derive(Debug, Drop)]
+pub struct Targets {
+    /// The path of the store.
+    pub store: Option<Text>,
+    /// The address of the server.
+    pub server: Option<Text>,
+}
