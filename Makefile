@@ -8,7 +8,7 @@ LIST := MALWARE/ANY_PLATFORM/URL
 PROGRAMS := sbupdate sbcheck sblistd kernels
 SOURCES := crates.txt HANDLES $(shell find crates \( -name out -o -name must-fail \) -prune -o -type f -print)
 
-.PHONY: all test demo compare try-http bench clean
+.PHONY: all test demo compare try-http try-run bench clean
 .DELETE_ON_ERROR:
 
 all: $(PROGRAMS:%=bin/%)
@@ -37,6 +37,10 @@ compare: bin/sbupdate bin/sbcheck bin/sblistd
 # Drives sblistd over loopback with curl.
 try-http: bin/sblistd
 	bash try/http.sh
+
+# Kills fifty clients in mid-run, and sees that the next run of each comes to the server's set.
+try-run: bin/sblistd bin/sbupdate
+	bash try/run.sh
 
 bench: all
 	python3 bench/bench.py

@@ -1,0 +1,158 @@
+#!/usr/bin/env bash
+# Kills clients in mid-run. The built sblistd serves a journal that grows, with no wait between rounds, and 50 built clients run
+# beside each other over loopback, each with a store of its own. Each is killed (SIGKILL) at a seeded moment, from its start to
+# after its last save. Then the next run of each has to read its store or name why not, and to end with the server's set.
+#
+# A client waits up to 60 seconds before its first request, at random. So the clients are killed within 75 seconds, and the
+# next runs take up to 60: together less than three minutes.
+set -u
+cd "$(dirname "$0")/.." || exit 1
+
+readonly LIST=MALWARE/ANY_PLATFORM/URL
+readonly CLIENTS=50
+readonly ROUNDS=300
+readonly LATEST=75000 # milliseconds from a client's start within which it is killed
+readonly SEED=20
+folder=$(mktemp -d)
+server=
+trap '[ -n "$server" ] && kill "$server" 2> /dev/null; rm -rf "$folder"' EXIT
+
+fail() {
+  echo "try-run: $1"
+  exit 1
+}
+
+# a port of loopback that nobody listens at
+free_port() {
+  local port
+  while port=$((20000 + RANDOM)); do
+    if ! (exec 3<> "/dev/tcp/127.0.0.1/$port") 2> /dev/null; then
+      echo "$port"
+      return
+    fi
+  done
+}
+
+# the next of the numbers that the seed gives: below its argument, into `drawn`
+state=$SEED
+draw() {
+  state=$((state * 6364136223846793005 + 1442695040888963407))
+  drawn=$((((state >> 33) & 0x3fffffff) % $1))
+}
+
+# ---- the server: version V of its list has counts[V] prefixes
+
+hash_of() {
+  printf '%s' "$1" | sha256sum | cut -d ' ' -f 1
+}
+
+version=0
+counts=(0)
+# appends one change: a host comes, and with every third one the host before it goes
+grow() {
+  local gone=
+  version=$((version + 1))
+  counts[version]=$((counts[version - 1] + 1))
+  if [ $((version % 3)) = 0 ]; then
+    gone="-$(hash_of "h$((version - 1)).example/")"$'\n'
+    counts[version]=$((counts[version] - 1))
+  fi
+  printf 'change %s 1 %s\n+%s\n%s' "$LIST" "$([ -n "$gone" ] && echo 1 || echo 0)" \
+    "$(hash_of "h$version.example/")" "$gone" >> "$folder/journal"
+}
+
+printf 'sblist 1 %016x\nlist %s 4\n' 1 "$LIST" > "$folder/journal"
+for _ in $(seq 20); do grow; done
+port=$(free_port)
+bin/sblistd serve --journal "$folder/journal" --listen "127.0.0.1:$port" --connections 1000000 --wait 0 > "$folder/printed" &
+server=$!
+sleep 1
+
+# ---- the clients, each killed at its moment
+
+client() {
+  local number=$1 moment=$2 pid
+  bin/sbupdate run --store "$folder/store-$number" --server "127.0.0.1:$port" --rounds "$ROUNDS" "$LIST" > "$folder/first-$number" &
+  pid=$!
+  sleep "$(printf '%d.%03d' $((moment / 1000)) $((moment % 1000)))"
+  kill -KILL "$pid" 2> /dev/null
+  wait "$pid"
+  echo $? > "$folder/status-$number"
+}
+
+start=$SECONDS
+for number in $(seq "$CLIENTS"); do
+  draw "$LATEST"
+  client "$number" "$drawn" 2> /dev/null &
+  clients[number]=$!
+done
+while [ $((SECONDS - start)) -le $((LATEST / 1000)) ]; do
+  grow
+  sleep 0.5
+done
+wait "${clients[@]}"
+waiting=0 within=0 ended=0
+for number in $(seq "$CLIENTS"); do
+  if [ "$(< "$folder/status-$number")" != 137 ]; then
+    ended=$((ended + 1))
+  elif [ -s "$folder/first-$number" ]; then
+    within=$((within + 1))
+  else
+    waiting=$((waiting + 1))
+  fi
+done
+echo "$CLIENTS clients: $waiting killed before their first round, $within in mid-run, $ended after their last save"
+
+# ---- the store that each left, seen by a run that reaches no server, and the next run of each
+
+# a store whose end is lacking is no store: every tenth is cut
+cut=0
+for number in $(seq 10 10 "$CLIENTS"); do
+  if [ -e "$folder/store-$number" ]; then
+    truncate --size=-1 "$folder/store-$number"
+    cut=$((cut + 1))
+  fi
+done
+
+runs=()
+for number in $(seq "$CLIENTS"); do
+  if [ -e "$folder/store-$number" ]; then
+    cp "$folder/store-$number" "$folder/copy-$number"
+    bin/sbupdate run --store "$folder/copy-$number" --server 127.0.0.1:1 --rounds 1 "$LIST" > "$folder/kept-$number" &
+    runs+=($!)
+  fi
+done
+start=$SECONDS
+for number in $(seq "$CLIENTS"); do
+  bin/sbupdate run --store "$folder/store-$number" --server "127.0.0.1:$port" --rounds 1 "$LIST" > "$folder/next-$number" &
+  next[number]=$!
+done
+wanted="list $LIST ${counts[version]} $(printf '01%016x%016x010601' 1 "$version")"
+for number in $(seq "$CLIENTS"); do
+  wait "${next[number]}" || fail "the next run of client $number ended with status $?: $(< "$folder/next-$number")"
+  [ "$(tail -n 1 "$folder/next-$number")" = "$wanted" ] || fail "the next run of client $number ended otherwise: $(< "$folder/next-$number")"
+done
+took=$((SECONDS - start))
+[ "${#runs[@]}" = 0 ] || wait "${runs[@]}"
+
+without=0 read=0 named=0
+for number in $(seq "$CLIENTS"); do
+  if [ ! -e "$folder/copy-$number" ]; then
+    without=$((without + 1))
+  elif grep '^store ignored: ' "$folder/next-$number" > "$folder/cause"; then
+    named=$((named + 1))
+  else
+    # what was read is the server's list at the version that its token names
+    line=$(tail -n 1 "$folder/kept-$number")
+    token=${line##* }
+    at=$((16#${token:18:16}))
+    [ "$line" = "list $LIST ${counts[at]-none} $(printf '01%016x%016x010601' 1 "$at")" ] ||
+      fail "client $number kept what the server never had: $(< "$folder/kept-$number")"
+    read=$((read + 1))
+  fi
+done
+[ "$named" -ge "$cut" ] || fail "$named of $cut stores that were cut are named"
+echo "the next runs, within $took seconds: $read read a store, $named named why it is none, $without had none yet"
+echo "  $cut stores were cut by hand; each store that was read is the server's list at the version of its token"
+echo "all $CLIENTS end with the server's newest set:"
+echo "  $wanted"
