@@ -4,11 +4,10 @@
 
 pub use server_link::{Harm, ServerLink};
 
-mod server_link;
-
 #[cfg(test)]
 mod replays;
 #[cfg(test)]
 mod runs;
+mod server_link;
 #[cfg(test)]
 mod setting;

@@ -30,7 +30,10 @@ fn left_so(
     assert_eq!(rt; left.out.bytes(), wanted.1.as_bytes());
     assert_eq!(rt; left.status, wanted.0);
     let store = sealed(alloc, wanted.2)?;
-    assert!(rt; keep.kept().is_some_and(|text| text.as_slice() == store.as_slice()));
+    assert!(rt;
+        keep.kept()
+            .is_some_and(|text| text.as_slice() == store.as_slice())
+    );
     Ok(())
 }
 
@@ -83,8 +86,7 @@ fn a_body_that_is_not_that_of_its_digest_fails(rt: HostRuntime) -> Result<(), Fa
 }
 
 /// The two first lines of a run.
-const TWO_LINES: &str =
-    "round 1 at 1000000 ok\nround 1 MALWARE/ANY_PLATFORM/URL installed 2\n";
+const TWO_LINES: &str = "round 1 at 1000000 ok\nround 1 MALWARE/ANY_PLATFORM/URL installed 2\n";
 
 /// Sees what comes of a run whose store cannot be replaced.
 fn stops_at_the_store(rt: &impl Abort, alloc: Global) -> Result<(), Fail> {

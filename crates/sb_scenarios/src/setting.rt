@@ -138,11 +138,7 @@ pub fn keeper(
         Some(text) => Some(Bytes::from_slice(alloc, text)?),
         None => None,
     };
-    Ok(MemoryKeeper::new(
-        alloc,
-        kept,
-        Row::from_slice(alloc, failing)?,
-    ))
+    Ok(MemoryKeeper::new(alloc, kept, Row::from_slice(alloc, failing)?))
 }
 
 /// What a run left.

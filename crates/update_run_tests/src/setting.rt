@@ -29,6 +29,9 @@ pub const ONE: (&[u8], &[u8]) = (
     b"+XQNe5L8043rXdIKl9DF8NwfJkrg3mW8YIBNqvwvJ4c=",
 );
 
+/// A message without updates, and its digest.
+pub const NONE: (&[u8], &[u8]) = (b"{}", b"RBNvo1WzZ4oRRq0W9+hknpT7T8If536DEMBg9hyq/4o=");
+
 /// A response with this body, of which the last bytes are cut off.
 pub fn response(alloc: Global, body: (&[u8], &[u8]), cut: usize) -> Result<Bytes, OutOfMemory> {
     let mut text = Bytes::from_slice(alloc, b"HTTP/1.1 200 OK\r\nContent-Length: ")?;
@@ -81,8 +84,19 @@ pub fn run_with(
     keep: &mut MemoryKeeper,
     responses: &[Bytes],
 ) -> Result<Left, OutOfMemory> {
+    run_into(alloc, rounds, Row::new(alloc), keep, responses)
+}
+
+/// The same, where the writes of these numbers fail.
+pub fn run_into(
+    alloc: Global,
+    rounds: u32,
+    failing: Row<u64>,
+    keep: &mut MemoryKeeper,
+    responses: &[Bytes],
+) -> Result<Left, OutOfMemory> {
     let plan = plan_of(alloc, rounds)?;
-    let mut out = MemorySink::new(alloc, 65_536, Row::new(alloc))?;
+    let mut out = MemorySink::new(alloc, 65_536, failing)?;
     let mut link = link_of(alloc, responses)?;
     let readings = Row::from_slice(alloc, &[Moment(1_000_000)])?;
     let mut clock = ScriptClock::new(alloc, readings, 64)?;
