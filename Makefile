@@ -25,10 +25,12 @@ test:
 	rt ci
 
 # The recording has an update with a wrong checksum, the same update with the right one, a later one whose
-# prefixes come in no order, and a partial one. The first is refused, so the replay ends with status 5.
-demo: bin/sbupdate
+# prefixes come in no order, and a partial one. The first is refused, so the replay ends with status 5. Then a server
+# and a client of it run: up to 66 seconds.
+demo: bin/sbupdate bin/sblistd
 	@bin/sbupdate replay $(LIST) < demo/recording.jsonl; status=$$?; \
 	  echo "status $$status"; test $$status -eq 5
+	@bash demo/run.sh
 
 # A second program of the same rules, in Python, has to print what sbupdate, sbcheck and sblistd print.
 compare: bin/sbupdate bin/sbcheck bin/sblistd

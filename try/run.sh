@@ -10,7 +10,7 @@ cd "$(dirname "$0")/.." || exit 1
 
 readonly LIST=MALWARE/ANY_PLATFORM/URL
 readonly CLIENTS=50
-readonly ROUNDS=300
+readonly ROUNDS=(3 300) # of every other client, so that some are killed in mid-run, and some after their last save
 readonly LATEST=75000 # milliseconds from a client's start within which it is killed
 readonly SEED=20
 folder=$(mktemp -d)
@@ -72,7 +72,7 @@ sleep 1
 
 client() {
   local number=$1 moment=$2 pid
-  bin/sbupdate run --store "$folder/store-$number" --server "127.0.0.1:$port" --rounds "$ROUNDS" "$LIST" > "$folder/first-$number" &
+  bin/sbupdate run --store "$folder/store-$number" --server "127.0.0.1:$port" --rounds "${ROUNDS[number % 2]}" "$LIST" > "$folder/first-$number" &
   pid=$!
   sleep "$(printf '%d.%03d' $((moment / 1000)) $((moment % 1000)))"
   kill -KILL "$pid" 2> /dev/null
