@@ -5,7 +5,7 @@
 
 SHELL := /bin/bash
 LIST := MALWARE/ANY_PLATFORM/URL
-PROGRAMS := sbupdate sbcheck sblistd kernels
+PROGRAMS := sbupdate sbcheck sblistd kernels find_kernels
 SOURCES := crates.txt HANDLES $(shell find crates \( -name out -o -name must-fail \) -prune -o -type f -print)
 
 .PHONY: all test demo compare try-http try-run bench clean

@@ -26,6 +26,7 @@ REPOSITORY = os.path.dirname(os.path.dirname(os.path.abspath(__file__)))
 SBUPDATE = os.path.join(REPOSITORY, "bin", "sbupdate")
 SBLISTD = os.path.join(REPOSITORY, "bin", "sblistd")
 KERNELS = os.path.join(REPOSITORY, "bin", "kernels")
+FIND_KERNELS = os.path.join(REPOSITORY, "bin", "find_kernels")
 
 LIST = "MALWARE/ANY_PLATFORM/URL"
 OTHER_LIST = "SOCIAL_ENGINEERING/ANY_PLATFORM/URL"
@@ -39,6 +40,7 @@ JOURNAL_CHANGES = 65_536
 LONG_CHANGES = 2_048
 LONG_HASHES = 1_024
 SERVED_CHANGES = 1_023
+CACHE_ANSWERS = 1_000_000
 USUAL_URLS = 100_000
 HOSTILE_URLS = 2_000
 HOSTILE_BYTES = 8_192
@@ -182,15 +184,15 @@ def bench_replay(title, path, runs):
         tell(f"yardstick, sorted as {name}", f"{wanted * 1e3:.1f} ms", ratio)
 
 
-def processor_times(kernels, count, runs):
-    """The processor time of each kernel.
+def processor_times(kernels, count, runs, program=KERNELS):
+    """The processor time of each kernel of a program.
 
     They take turns, so that what else runs disturbs them alike.
     """
     best = [float("inf")] * len(kernels)
     for _ in range(runs):
         for place, kernel in enumerate(kernels):
-            _, took = run([KERNELS, kernel, str(count), "1"])
+            _, took = run([program, kernel, str(count), "1"])
             best[place] = min(best[place], took)
     return best
 
@@ -353,6 +355,14 @@ def bench_sets(runs):
     tell(f"{SET_LOOK_UPS:,} look-ups", f"{look_ups * 1e3:.1f} ms", f"{look_ups / SET_LOOK_UPS * 1e9:.2f} ns a look-up")
 
 
+def bench_cache(runs):
+    """Questions to a full cache. Each pair has two matches, and is asked for one of them and for another hash in turn."""
+    hashes, ask = processor_times(("cache-hashes", "cache-ask"), CACHE_ANSWERS, runs, FIND_KERNELS)
+    print("kept answers, 4,096 pairs with two matches each")
+    took = ask - hashes
+    tell(f"{CACHE_ANSWERS:,} answers", f"{took * 1e3:.1f} ms", f"{took / CACHE_ANSWERS * 1e9:.0f} ns an answer")
+
+
 def bench_urls(title, prefix, count, runs):
     kernels = [prefix + kernel for kernel in ("urls", "canonical", "expressions")]
     texts, canonical, expressions = processor_times(kernels, count, runs)
@@ -380,6 +390,7 @@ def main():
         bench_answers(folder, words.runs)
         bench_serve(folder)
     bench_sets(words.kernel_runs)
+    bench_cache(words.kernel_runs)
     bench_rice(words.kernel_runs)
     bench_messages("prefixes as they are", "raw-", words.kernel_runs)
     bench_messages("Rice coded prefixes", "rice-", words.kernel_runs)
