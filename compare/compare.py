@@ -5,7 +5,7 @@ The second program is the first part of this file. It follows docs/FORMATS.md wi
 base64 and SHA-256, and shares nothing with the crates. First come the recordings of compare/recordings.py, whose
 texts are known; then seeded inputs: bodies that are right, bodies with changed fields, and bodies with changed
 bytes. `sbcheck show` runs beside compare/urls.py on seeded URLs, and `sblistd answer` beside compare/server.py on seeded
-journals and requests. The exit status is 1 where a run differs.
+journals, fetch requests and find requests. The exit status is 1 where a run differs.
 """
 
 import argparse
@@ -290,11 +290,12 @@ def show(names, text):
     return found.stdout, found.returncode
 
 
-def answered(data, text, wait):
+def answered(data, text, kind, times):
     with tempfile.NamedTemporaryFile() as journal:
         journal.write(data)
         journal.flush()
-        words = ["answer", "--journal", journal.name, "--kind", "fetch", "--wait", str(wait)]
+        words = ["answer", "--journal", journal.name, "--kind", kind]
+        words += [f"--{name}={seconds}" for name, seconds in times.items()]
         found = subprocess.run([SBLISTD, *words], input=text, stdout=subprocess.PIPE, check=False)
     return found.stdout, found.returncode
 
@@ -304,6 +305,21 @@ def answers_differ(number, question):
     if found != wanted:
         print(f"answer {number}: {question!r}\n  wanted {wanted}\n  found  {found}")
     return found != wanted
+
+
+def compare_answers(rand, kind, count):
+    """Runs both list servers on seeded journals and requests of a kind: how many of the answers differ."""
+    differing, statuses, matches = 0, collections.Counter(), 0
+    for number in range(count):
+        question = server.any_question(rand, kind)
+        printed, status = server.answer(*question)
+        statuses[status] += 1
+        matches += printed.count(b'"threat":')
+        differing += answers_differ(number, question)
+    told = ", ".join(f"{count:,} with status {status}" for status, count in sorted(statuses.items()))
+    found = f"; {matches:,} matches" if kind == "find" else ""
+    print(f"{count:,} journals and {kind} requests: {told}{found}")
+    return differing
 
 
 def differs(told, names, text, wanted, run=run):
@@ -319,7 +335,7 @@ def main():
     parser = argparse.ArgumentParser(description=__doc__.splitlines()[0])
     parser.add_argument("--runs", type=int, default=5_000, help="how many inputs (5000)")
     parser.add_argument("--urls", type=int, default=20_000, help="how many URLs (20000)")
-    parser.add_argument("--answers", type=int, default=3_000, help="how many journals and requests (3000)")
+    parser.add_argument("--answers", type=int, default=3_000, help="how many journals and requests of each kind (3000)")
     parser.add_argument("--seed", type=int, default=20_240_229, help="where they begin")
     options = parser.parse_args()
     differing = 0
@@ -346,13 +362,8 @@ def main():
         refused += sum(line.split(b" ")[1] == b"refused" for line in wanted.splitlines())
         differing += differs(f"URLs {number}", [], b"\n".join(lines) + b"\n", (wanted, status), run=show)
     print(f"{options.urls // 1_000 * 1_000:,} URLs, {refused:,} of them refused")
-    statuses = collections.Counter()
-    for number in range(options.answers):
-        question = server.any_question(rand)
-        statuses[server.answer(*question)[1]] += 1
-        differing += answers_differ(number, question)
-    told = ", ".join(f"{count:,} with status {status}" for status, count in sorted(statuses.items()))
-    print(f"{options.answers:,} journals and requests: {told}")
+    for kind in ("fetch", "find"):
+        differing += compare_answers(rand, kind, options.answers)
     print(f"{differing} differ")
     return 1 if differing else 0
 

@@ -13,6 +13,7 @@ DEEPEST = 127
 MOST_STATE = 4_096
 MOST_SECONDS = 315_576_000_000
 MOST_ITEMS = 8
+MOST_PREFIXES = 1_024
 I32, I64 = 2**31 - 1, 2**63 - 1
 
 
@@ -222,6 +223,21 @@ class Reader:
         read["rice"] = "RICE" in [self.string(word, "supportedCompressions") for word in words]
         return read
 
+    def words(self, holder, name, table):
+        words = []
+        for value in self.list(holder, name):
+            words.append(self.string(value, name))
+            if words[-1] not in table:
+                self.refuse("name", name)
+        return words
+
+    def prefix(self, value):
+        entry = self.object(value, "threatEntries")
+        data = self.bytes(self.needed(entry, "hash"), "hash")
+        if not 4 <= len(data) <= 32:
+            self.refuse(f"size {len(data)}", "hash")
+        return data
+
     def duration(self, holder, name):
         value = holder.get(name)
         if value is None:
@@ -244,15 +260,35 @@ def read_body(line):
     return updates
 
 
-def read_request(text):
-    """The asked items of a fetch request."""
-    outside = Reader(0)
-    body = outside.object(read_json(text), "message")
+def read_client(outside, body):
     client = body.get("client")
     if client is not None:
         for name in ("clientId", "clientVersion"):
             outside.text_or_none(outside.object(client, "client"), name)
+
+
+def read_request(text):
+    """The asked items of a fetch request."""
+    outside = Reader(0)
+    body = outside.object(read_json(text), "message")
+    read_client(outside, body)
     items = outside.list(body, "listUpdateRequests")
     if len(items) > MOST_ITEMS:
         raise Unreadable(f"too-many-items {len(items)}")
     return [Reader(number).request(item) for number, item in enumerate(items, 1)]
+
+
+def read_find(text):
+    """The words that a find request asks for, three lists of them, and its prefixes."""
+    outside = Reader(0)
+    body = outside.object(read_json(text), "message")
+    read_client(outside, body)
+    for state in outside.list(body, "clientStates"):
+        outside.bytes(state, "clientStates")
+    info = outside.inner(body, "threatInfo")
+    tables = (("threatTypes", THREATS), ("platformTypes", PLATFORMS), ("threatEntryTypes", ENTRIES))
+    words = [outside.words(info, field, table) for field, table in tables]
+    items = outside.list(info, "threatEntries")
+    if len(items) > MOST_PREFIXES:
+        raise Unreadable(f"too-many-items {len(items)}")
+    return words, [Reader(number).prefix(item) for number, item in enumerate(items, 1)]

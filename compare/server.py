@@ -1,7 +1,7 @@
-"""The second program's list server: it reads a journal and a fetch request, and answers.
+"""The second program's list server: it reads a journal and a fetch or find request, and answers.
 
 The rules are those of docs/FORMATS.md. A history is folded anew for each version, and a target is looked for from the
-newest version down.
+newest version down. A find goes through all full hashes of a list for each prefix.
 """
 
 import base64
@@ -10,7 +10,7 @@ import json
 import re
 
 from changing import change_bytes, change_field
-from messages import ENTRIES, PLATFORMS, THREATS, Unreadable, read_request
+from messages import ENTRIES, PLATFORMS, THREATS, Unreadable, read_find, read_request
 
 MOST_LINE = 128
 MOST_LISTS = 8
@@ -251,8 +251,41 @@ def answer_item(journal, asked):
     return item | ({"additions": additions} if additions else {}) | ({"removals": removals} if removals else {})
 
 
-def answer(data, text, wait):
-    """What `sblistd answer --kind fetch` prints, and its status."""
+def fetch_body(journal, text, times):
+    """The body of the answer to a fetch request."""
+    items = read_request(text)
+    for place, asked in enumerate(items):
+        if asked["name"] not in journal.declared:
+            raise Unreadable(f"unknown-list {place}")
+    body = {}
+    if items:
+        body["listUpdateResponses"] = [answer_item(journal, asked) for asked in items]
+    return body | some_seconds("minimumWaitDuration", times["wait"])
+
+
+def some_seconds(name, seconds):
+    return {name: f"{seconds}s"} if seconds else {}
+
+
+def matches_of(journal, name, prefixes, cache):
+    """The matches of a list: each of its newest full hashes that begins with one of the prefixes."""
+    threat, platform, entry = name.split("/")
+    of_list = {"threatType": threat, "platformType": platform, "threatEntryType": entry} | some_seconds("cacheDuration", cache)
+    found = [full for full in sorted(journal.newest[name]) if any(full.startswith(prefix) for prefix in prefixes)]
+    return [of_list | {"threat": {"hash": base64.b64encode(full).decode("ascii")}} for full in found]
+
+
+def find_body(journal, text, times):
+    """The body of the answer to a find request."""
+    (threats, platforms, entries), prefixes = read_find(text)
+    names = [f"{t}/{p}/{e}" for t in THREATS for p in PLATFORMS for e in ENTRIES if t in threats and p in platforms and e in entries]
+    matches = [one for name in names if name in journal.declared for one in matches_of(journal, name, prefixes, times["cache"])]
+    body = {"matches": matches} if matches else {}
+    return body | some_seconds("minimumWaitDuration", times["wait"]) | some_seconds("negativeCacheDuration", times["negative"])
+
+
+def answer(data, text, kind, times):
+    """What `sblistd answer` prints, and its status. The kind is `fetch` or `find`."""
     try:
         journal = read_journal(data)
     except BadJournal as fault:
@@ -260,17 +293,9 @@ def answer(data, text, wait):
     if len(text) > MOST_REQUEST:
         return b"", 6
     try:
-        items = read_request(text)
+        body = (fetch_body if kind == "fetch" else find_body)(journal, text, times)
     except Unreadable as fault:
         return f"request {fault}\n".encode("ascii"), 5
-    for place, asked in enumerate(items):
-        if asked["name"] not in journal.declared:
-            return f"request unknown-list {place}\n".encode("ascii"), 5
-    body = {}
-    if items:
-        body["listUpdateResponses"] = [answer_item(journal, asked) for asked in items]
-    if wait:
-        body["minimumWaitDuration"] = f"{wait}s"
     return json.dumps(body, sort_keys=True, separators=(",", ":")).encode("ascii") + b"\n", 0
 
 
@@ -346,8 +371,41 @@ def any_request(rand, journal, names):
     return change_bytes(rand, text) if kind > 0.93 else text
 
 
-def any_question(rand):
-    """A journal, a request and a wait."""
+def any_hash(rand, journal):
+    """The bytes of a prefix, which the journal may have and which may be too short."""
+    added = [full for entries in journal.newest.values() for full in entries]
+    full = rand.choice(added) if added and rand.random() < 0.7 else some_hash(rand)
+    return full[: rand.choice([4, 4, 4, 5, 6, 32, 32, rand.randrange(33)])]
+
+
+def some_words(rand, table, named):
+    """Words of a table, mostly with those that some lists are named by."""
+    words = rand.sample(table, rand.choice([0, 1, 1, 2])) + [word for word in named if rand.random() < 0.8]
+    rand.shuffle(words)
+    return words + (["OTHER"] if rand.random() < 0.02 else [])
+
+
+def any_find(rand, journal, names):
+    threats, platforms, entries = zip(*(name.split("/") for name in list(journal.declared) or names))
+    info = {
+        "threatTypes": some_words(rand, THREATS, threats),
+        "platformTypes": some_words(rand, PLATFORMS, platforms),
+        "threatEntryTypes": some_words(rand, ENTRIES, entries),
+    }
+    count = rand.choice([0, 1, 1, 2, 3, 8]) if rand.random() < 0.98 else rand.choice([1_024, 1_025])
+    info["threatEntries"] = [{"hash": base64.b64encode(any_hash(rand, journal)).decode("ascii")} for _ in range(count)]
+    body = {"client": {"clientId": "sblist", "clientVersion": "1"}, "threatInfo": info}
+    if rand.random() < 0.3:
+        body["clientStates"] = [base64.b64encode(any_state(rand, journal, names[0], names)).decode("ascii")]
+    kind = rand.random()
+    if kind < 0.2:
+        change_field(rand, body)
+    text = json.dumps(body).encode("ascii")
+    return change_bytes(rand, text) if kind > 0.93 else text
+
+
+def any_question(rand, kind):
+    """A journal, a request of a kind, the kind, and the times that an answer tells."""
     every = [f"{t}/{p}/{e}" for t in THREATS for p in PLATFORMS for e in ENTRIES]
     names = rand.sample(every, 9)
     data = any_journal(rand, names[: rand.choice([2, 9])])
@@ -355,4 +413,6 @@ def any_question(rand):
         journal = read_journal(data)
     except BadJournal:
         journal = Journal()
-    return data, any_request(rand, journal, names), rand.choice([0, 1, 1_800, 86_400])
+    request = any_request(rand, journal, names) if kind == "fetch" else any_find(rand, journal, names)
+    times = {name: rand.choice([0, 1, 1_800, 86_400]) for name in ("wait", "cache", "negative")}
+    return data, request, kind, times
