@@ -1,20 +1,24 @@
--- The lists of a command line are some, and few.
-use Rattle.std.proofs.Common.{◌≡◌, ◌≢◌, ℕ, suc, ◌<◌, ◌≤◌, List, [], ◌∷◌, length, Bool, true, false, cond, refl, sym, ap, ◌∙◌, subst, Option, Some, None, arith, nat_lt}
-use Rattle.std.specs.Prelude.{◌&&◌, nat_le, option_and_then, option_map, is_some, codes}
+-- Words are one command, and its lists are some, and few.
+use Rattle.std.proofs.Common.{◌≡◌, ◌≢◌, ℕ, suc, ◌-◌, ◌<◌, ◌≤◌, List, [], ◌∷◌, length, map, get_or, take, drop, take_all, Bool, true, false, cond, refl, sym, ap, ◌∙◌, subst, Option, Some, None, Result, Ok, Err, arith, nat_lt}
+use Rattle.std.specs.Prelude.{◌&&◌, not, nat_le, option_and_then, option_map, is_some, codes, IfOk}
 use Rattle.std.specs.Result.{result_ok}
 use Rattle.std.specs.Str.{bytes_eq}
 use Rattle.std.proofs.lemmas.Slice.Eq.{bytes_eq-Decides}
 use borrow.Author.Tests.{ltb-true, leb-true}
 use Rattle.sb_model.specs.declared.names.ListName.{ListName}
 use Rattle.sb_model.specs.Names.{name_of}
-use Rattle.sb_words.specs.CommandLine.{Given, given_of}
+use Rattle.sb_words.specs.CommandLine.{Given, CommandShape, given_of, value_among}
+use Rattle.update_client.specs.declared.options.FetchOptions.{FetchOptions}
 use Rattle.sb_words.specs.Values.{names_of, few_names_of, different, has_each_once, lists_of}
 use Rattle.sb_client.specs.declared.command.Command.{Command}
-use Rattle.sb_client.specs.declared.command.Command.TheVariants.{Replay, Show, Vectors}
-use Rattle.sb_client.specs.Command.{replay_shape, bare_shape, given_to, lists_given, replay_of, asks_show, asks_vectors, IsNoCommand, IsCommandOf, AreFewLists}
+use Rattle.update_run.specs.declared.plan.Plan.{Plan}
+use Rattle.sb_client.specs.declared.command.Command.TheVariants.{Replay, Run, Show, Vectors}
+use Rattle.sb_client.specs.Command.{replay_shape, run_shape, bare_shape, given_to, lists_given, server_given, rounds_given, key_given, options_given, has_flag, run_with, run_given, RunWords, run_words, replay_of, run_of, asks_show, asks_vectors, IsNoCommand, IsCommandOf, AreFew, AreFewLists}
 
-abbrev AreFew : List ListName → Type 0
-AreFew names = (0 < length names) × (length names ≤ 8)
+-- what is known of a value
+pub ok_same : {T E A : Type 0} (r : Result T E) (f : T → A) (a b : A) → a ≡ b → IfOk r (λ x. f x ≡ a) → IfOk r (λ x. f x ≡ b)
+ok_same (Ok x) f a b e h = h ∙ e
+ok_same (Err other) f a b e h = tt
 
 joined_count : (name : Option ListName) (rest : Option (List ListName)) (n : ℕ) (names : List ListName)
     → ((found : List ListName) → rest ≡ Some found → length found ≡ n)
@@ -59,8 +63,42 @@ given_by : (given : Option Given) (names : List ListName) → option_and_then li
 given_by None names e = absurd (cc)
 given_by (Some given) names e = few_lists given.positionals names e
 
-pub few_replayed : (words : List (List ℕ)) (names : List ListName) → replay_of words ≡ Some names → AreFew names
+few_replayed : (words : List (List ℕ)) (names : List ListName) → replay_of words ≡ Some names → AreFew names
 few_replayed words names e = given_by (given_to (codes "sbupdate") (codes "replay") replay_shape words) names e
+
+-- a plan has the lists that its words name
+plan_by : (store : Option (List ℕ)) (server : Option (List ℕ)) (rounds : Option ℕ) (key : Option (List ℕ)) (options : Option FetchOptions) (names : List ListName) (need : Bool) (line : RunWords)
+    → option_and_then (λ store. option_and_then (λ server. option_and_then (λ rounds. option_and_then (λ key. option_map
+    (λ options. run_words store server names rounds key options need) options) key) rounds) server) store ≡ Some line
+    → line.plan.names ≡ names
+plan_by None server rounds key options names need line e = absurd (cc)
+plan_by (Some store) None rounds key options names need line e = absurd (cc)
+plan_by (Some store) (Some server) None key options names need line e = absurd (cc)
+plan_by (Some store) (Some server) (Some rounds) None options names need line e = absurd (cc)
+plan_by (Some store) (Some server) (Some rounds) (Some key) None names need line e = absurd (cc)
+plan_by (Some store) (Some server) (Some rounds) (Some key) (Some options) names need line e =
+    let is : run_words store server names rounds key options need ≡ line = cc in
+    ap (λ (l : RunWords). l.plan.names) (sym is)
+
+planned_by : (named : List (List ℕ × List ℕ)) (some : Option (List ListName)) (line : RunWords) → ((names : List ListName) → some ≡ Some names → AreFew names)
+    → option_and_then (λ names. run_with names named) some ≡ Some line → AreFew line.plan.names
+planned_by named None line few e = absurd (cc)
+planned_by named (Some names) line few e =
+    let is = plan_by (value_among (codes "store") named) (server_given named) (rounds_given named) (key_given named) (options_given named) names (not (has_flag (codes "no-digest") named)) line e in
+    subst AreFew (sym is) (few names refl)
+
+run_by : (given : Option Given) (line : RunWords) → option_and_then run_given given ≡ Some line → AreFew line.plan.names
+run_by None line e = absurd (cc)
+run_by (Some given) line e = planned_by given.named (lists_given given) line (few_lists given.positionals) e
+
+few_planned : (words : List (List ℕ)) (line : RunWords) → run_of words ≡ Some line → AreFew line.plan.names
+few_planned words line e = run_by (given_to (codes "sbupdate") (codes "run") run_shape words) line e
+
+few_asked : (words : List (List ℕ)) (line : Option RunWords) (plan : Plan) → run_of words ≡ line → option_map (λ (line : RunWords). line.plan) line ≡ Some plan → AreFew plan.names
+few_asked words None plan e h = absurd (cc)
+few_asked words (Some line) plan e h =
+    let is : line.plan ≡ plan = cc in
+    subst (λ (plan : Plan). AreFew plan.names) is (few_planned words line e)
 
 -- what was found is a command
 pub is_found : (words : List (List ℕ)) (found : Option Command) (command : Command) → found ≡ Some command → IsCommandOf words found → IsCommandOf words (Some command)
@@ -69,12 +107,9 @@ is_found words found command e h = subst (IsCommandOf words) e h
 -- the lists of a command are few
 pub few_lists_of : (words : List (List ℕ)) (command : Command) → IsCommandOf words (Some command) → AreFewLists command
 few_lists_of words (Replay names) e = few_replayed words names e
+few_lists_of words (Run plan) e = few_asked words (run_of words) plan refl e
 few_lists_of words Show e = tt
 few_lists_of words Vectors e = tt
-
-pub not_empty : {A : Type 0} (xs : List A) → 0 < length xs → xs ≢ []
-not_empty [] h = absurd (omega arith)
-not_empty (x ∷ xs) h = λ e. cc
 
 -- ---- a program's words are no other's
 
@@ -107,66 +142,49 @@ and_false : (a b : Bool) → a ≡ false → (a && b) ≡ false
 and_false false b h = refl
 and_false true b h = absurd (cc)
 
-and_false_right : (a b : Bool) → b ≡ false → (a && b) ≡ false
-and_false_right true false h = refl
-and_false_right false false h = refl
-and_false_right a true h = absurd (cc)
+-- ---- the words of a run
 
--- of `sbupdate replay`
-pub replay_words : (first second : List ℕ) (rest : List (List ℕ)) → (bytes_eq first (codes "sbupdate") && bytes_eq second (codes "replay")) ≡ true
-    → (command : Option Command) → command ≡ option_map Replay (option_and_then lists_given (given_of replay_shape rest)) → IsCommandOf (first ∷ second ∷ rest) command
-replay_words first second rest h command e =
-    let parts = and_true _ _ h in
-    let other : bytes_eq first (codes "sbcheck") ≡ false = other_program first parts.0 in
-    let given : replay_of (first ∷ second ∷ rest) ≡ option_and_then lists_given (given_of replay_shape rest) = ap (λ (b : Bool). option_and_then lists_given (cond b (given_of replay_shape rest) None)) h in
-    let no_show : asks_show (first ∷ second ∷ rest) ≡ false = ap (λ (b : Bool). is_some (cond b (given_of bare_shape rest) None)) (and_false _ _ other) in
-    let no_vectors : asks_vectors (first ∷ second ∷ rest) ≡ false = ap (λ (b : Bool). is_some (cond b (given_of bare_shape rest) None)) (and_false _ _ other) in
-    subst (IsCommandOf (first ∷ second ∷ rest)) (sym e) (by_lists (first ∷ second ∷ rest) _ given no_show no_vectors)
-  where
-    by_lists : (words : List (List ℕ)) (lists : Option (List ListName)) → replay_of words ≡ lists → asks_show words ≡ false → asks_vectors words ≡ false → IsCommandOf words (option_map Replay lists)
-    by_lists words None e s v = record { replay = e; show = s; vectors = v }
-    by_lists words (Some names) e s v = e
+by_line : (words : List (List ℕ)) (line : Option RunWords) → run_of words ≡ line → replay_of words ≡ None → asks_show words ≡ false → asks_vectors words ≡ false
+    → IsCommandOf words (option_map Run (option_map (λ (line : RunWords). line.plan) line))
+by_line words None e r s v = record { replay = r; run = e; show = s; vectors = v }
+by_line words (Some line) e r s v = ap (option_map (λ (line : RunWords). line.plan)) e
 
--- of `sbcheck show`
-pub show_words : (first second : List ℕ) (rest : List (List ℕ)) → (bytes_eq first (codes "sbcheck") && bytes_eq second (codes "show")) ≡ true
+run_words_are : (first second : List ℕ) (rest : List (List ℕ))
     → (bytes_eq first (codes "sbupdate") && bytes_eq second (codes "replay")) ≡ false
-    → (command : Option Command) → command ≡ cond (is_some (given_of bare_shape rest)) (Some Show) None → IsCommandOf (first ∷ second ∷ rest) command
-show_words first second rest h k command e =
-    let parts = and_true _ _ h in
-    let no_replay : replay_of (first ∷ second ∷ rest) ≡ None = ap (λ (b : Bool). option_and_then lists_given (cond b (given_of replay_shape rest) None)) k in
-    let given : asks_show (first ∷ second ∷ rest) ≡ is_some (given_of bare_shape rest) = ap (λ (b : Bool). is_some (cond b (given_of bare_shape rest) None)) h in
-    let no_vectors : asks_vectors (first ∷ second ∷ rest) ≡ false = ap (λ (b : Bool). is_some (cond b (given_of bare_shape rest) None)) (and_false_right _ _ (other_command second parts.1)) in
-    subst (IsCommandOf (first ∷ second ∷ rest)) (sym e) (by_bare (first ∷ second ∷ rest) _ given no_replay no_vectors)
-  where
-    by_bare : (words : List (List ℕ)) (bare : Bool) → asks_show words ≡ bare → replay_of words ≡ None → asks_vectors words ≡ false → IsCommandOf words (cond bare (Some Show) None)
-    by_bare words true s r v = s
-    by_bare words false s r v = record { replay = r; show = s; vectors = v }
+    → (bytes_eq first (codes "sbupdate") && bytes_eq second (codes "run")) ≡ true
+    → IsCommandOf (first ∷ second ∷ rest) (option_map Run (option_map (λ (line : RunWords). line.plan) (option_and_then run_given (given_of run_shape rest))))
+run_words_are first second rest other held =
+    let check : bytes_eq first (codes "sbcheck") ≡ false = other_program first (and_true _ _ held).0 in
+    let asked : run_of (first ∷ second ∷ rest) ≡ option_and_then run_given (given_of run_shape rest) = ap (λ (b : Bool). option_and_then run_given (cond b (given_of run_shape rest) None)) held in
+    let no_replay : replay_of (first ∷ second ∷ rest) ≡ None = ap (λ (b : Bool). option_and_then lists_given (cond b (given_of replay_shape rest) None)) other in
+    let no_show : asks_show (first ∷ second ∷ rest) ≡ false = ap (λ (b : Bool). is_some (cond b (given_of bare_shape rest) None)) (and_false _ _ check) in
+    let no_vectors : asks_vectors (first ∷ second ∷ rest) ≡ false = ap (λ (b : Bool). is_some (cond b (given_of bare_shape rest) None)) (and_false _ _ check) in
+    by_line (first ∷ second ∷ rest) _ asked no_replay no_show no_vectors
 
--- of `sbcheck vectors`
-pub vectors_words : (first second : List ℕ) (rest : List (List ℕ)) → (bytes_eq first (codes "sbcheck") && bytes_eq second (codes "vectors")) ≡ true
-    → (bytes_eq first (codes "sbupdate") && bytes_eq second (codes "replay")) ≡ false
-    → (bytes_eq first (codes "sbcheck") && bytes_eq second (codes "show")) ≡ false
-    → (command : Option Command) → command ≡ cond (is_some (given_of bare_shape rest)) (Some Vectors) None → IsCommandOf (first ∷ second ∷ rest) command
-vectors_words first second rest h k l command e =
-    let no_replay : replay_of (first ∷ second ∷ rest) ≡ None = ap (λ (b : Bool). option_and_then lists_given (cond b (given_of replay_shape rest) None)) k in
-    let no_show : asks_show (first ∷ second ∷ rest) ≡ false = ap (λ (b : Bool). is_some (cond b (given_of bare_shape rest) None)) l in
-    let given : asks_vectors (first ∷ second ∷ rest) ≡ is_some (given_of bare_shape rest) = ap (λ (b : Bool). is_some (cond b (given_of bare_shape rest) None)) h in
-    subst (IsCommandOf (first ∷ second ∷ rest)) (sym e) (by_bare (first ∷ second ∷ rest) _ given no_replay no_show)
-  where
-    by_bare : (words : List (List ℕ)) (bare : Bool) → asks_vectors words ≡ bare → replay_of words ≡ None → asks_show words ≡ false → IsCommandOf words (cond bare (Some Vectors) None)
-    by_bare words true v r s = v
-    by_bare words false v r s = record { replay = r; show = s; vectors = v }
+ok_gives : {T E : Type 0} (P Q : T → Type 0) (r : Result T E) → ((x : T) → P x → Q x) → IfOk r P → IfOk r Q
+ok_gives P Q (Ok x) f h = f x h
+ok_gives P Q (Err e) f h = tt
 
--- of other words
-pub other_words : (first second : List ℕ) (rest : List (List ℕ))
-    → (bytes_eq first (codes "sbupdate") && bytes_eq second (codes "replay")) ≡ false
-    → (bytes_eq first (codes "sbcheck") && bytes_eq second (codes "show")) ≡ false
-    → (bytes_eq first (codes "sbcheck") && bytes_eq second (codes "vectors")) ≡ false → IsNoCommand (first ∷ second ∷ rest)
-other_words first second rest k l m = record {
-  replay = ap (λ (b : Bool). option_and_then lists_given (cond b (given_of replay_shape rest) None)) k;
-  show = ap (λ (b : Bool). is_some (cond b (given_of bare_shape rest) None)) l;
-  vectors = ap (λ (b : Bool). is_some (cond b (given_of bare_shape rest) None)) m;
-}
+-- the same of words that a slice holds
+pub run_asked : {S E : Type 0} (text : S → List ℕ) (words : List S) (first second : S) (n : ℕ) (result : Result (Option Command) E)
+    → 2 ≤ length words → n ≡ length words - 2 → first ≡ get_or words 0 first → second ≡ get_or words 1 second
+    → (bytes_eq (text first) (codes "sbupdate") && bytes_eq (text second) (codes "replay")) ≡ false
+    → (bytes_eq (text first) (codes "sbupdate") && bytes_eq (text second) (codes "run")) ≡ true
+    → IfOk result (λ command. command ≡ option_map Run (option_map (λ (line : RunWords). line.plan) (option_and_then run_given (given_of run_shape (map text (take n (drop 2 words)))))))
+    → IfOk result (λ command. IsCommandOf (map text words) command)
+run_asked text [] first second n result two count at0 at1 other held h = absurd (omega (arith, two))
+run_asked text (a ∷ []) first second n result two count at0 at1 other held h = absurd (omega (arith, two))
+run_asked {S = S} text (a ∷ b ∷ rest) first second n result two count at0 at1 other held h =
+    let no_replay : (bytes_eq (text a) (codes "sbupdate") && bytes_eq (text b) (codes "replay")) ≡ false =
+    subst (λ (x : S). (bytes_eq (text x) (codes "sbupdate") && bytes_eq (text b) (codes "replay")) ≡ false) at0
+    (subst (λ (y : S). (bytes_eq (text first) (codes "sbupdate") && bytes_eq (text y) (codes "replay")) ≡ false) at1 other) in
+    let runs : (bytes_eq (text a) (codes "sbupdate") && bytes_eq (text b) (codes "run")) ≡ true =
+    subst (λ (x : S). (bytes_eq (text x) (codes "sbupdate") && bytes_eq (text b) (codes "run")) ≡ true) at0
+    (subst (λ (y : S). (bytes_eq (text first) (codes "sbupdate") && bytes_eq (text y) (codes "run")) ≡ true) at1 held) in
+    let asked = run_words_are (text a) (text b) (map text rest) no_replay runs in
+    let all : take n rest ≡ rest = take_all n rest (omega (arith, count)) in
+    ok_gives _ _ result (λ command is. subst (IsCommandOf (text a ∷ text b ∷ map text rest)) (sym is)
+    (subst (λ (more : List S). IsCommandOf (text a ∷ text b ∷ map text rest) (option_map Run (option_map (λ (line : RunWords). line.plan) (option_and_then run_given (given_of run_shape (map text more)))))) (sym all) asked)) h
 
 -- ---- words are one command
 
@@ -181,13 +199,40 @@ is_some_test false given e = absurd (cc)
 true_false : (b : Bool) → b ≡ true → b ≡ false → ⊥
 true_false b h k = cc
 
-replay_or_check : (words : List (List ℕ)) (names : List ListName) (second : List ℕ) → replay_of words ≡ Some names → is_some (given_to (codes "sbcheck") second bare_shape words) ≡ true → ⊥
-replay_or_check [] names second e h = absurd (cc)
-replay_or_check (first ∷ []) names second e h = absurd (cc)
-replay_or_check (first ∷ next ∷ words) names second e h =
-    let update = and_true _ _ (some_test (bytes_eq first (codes "sbupdate") && bytes_eq next (codes "replay")) lists_given (given_of replay_shape words) names e) in
+-- the program, where words say something to it
+some_update : {A : Type 0} (f : Given → Option A) (second : List ℕ) (shape : CommandShape) (first next : List ℕ) (words : List (List ℕ)) (found : A)
+    → option_and_then f (given_to (codes "sbupdate") second shape (first ∷ next ∷ words)) ≡ Some found
+    → (bytes_eq first (codes "sbupdate") ≡ true) × (bytes_eq next second ≡ true)
+some_update f second shape first next words found e =
+    and_true _ _ (some_test (bytes_eq first (codes "sbupdate") && bytes_eq next second) f (given_of shape words) found e)
+
+update_or_check : {A : Type 0} (f : Given → Option A) (command : List ℕ) (shape : CommandShape) (words : List (List ℕ)) (found : A) (second : List ℕ)
+    → option_and_then f (given_to (codes "sbupdate") command shape words) ≡ Some found → is_some (given_to (codes "sbcheck") second bare_shape words) ≡ true → ⊥
+update_or_check f command shape [] found second e h = absurd (cc)
+update_or_check f command shape (first ∷ []) found second e h = absurd (cc)
+update_or_check f command shape (first ∷ next ∷ words) found second e h =
+    let update = some_update f command shape first next words found e in
     let check = and_true _ _ (is_some_test (bytes_eq first (codes "sbcheck") && bytes_eq next second) (given_of bare_shape words) h) in
     true_false _ check.0 (other_program first update.0)
+
+replay_or_check : (words : List (List ℕ)) (names : List ListName) (second : List ℕ) → replay_of words ≡ Some names → is_some (given_to (codes "sbcheck") second bare_shape words) ≡ true → ⊥
+replay_or_check words names second e h = update_or_check lists_given (codes "replay") replay_shape words names second e h
+
+run_or_check : (words : List (List ℕ)) (line : RunWords) (second : List ℕ) → run_of words ≡ Some line → is_some (given_to (codes "sbcheck") second bare_shape words) ≡ true → ⊥
+run_or_check words line second e h = update_or_check run_given (codes "run") run_shape words line second e h
+
+other_word : codes "replay" ≡ codes "run" → ⊥
+other_word e = absurd (cc)
+
+replay_or_run : (words : List (List ℕ)) (names : List ListName) (line : RunWords) → replay_of words ≡ Some names → run_of words ≡ Some line → ⊥
+replay_or_run [] names line e h = absurd (cc)
+replay_or_run (first ∷ []) names line e h = absurd (cc)
+replay_or_run (first ∷ next ∷ words) names line e h =
+    let replays = some_update lists_given (codes "replay") replay_shape first next words names e in
+    let runs = some_update run_given (codes "run") run_shape first next words line h in
+    let replay : next ≡ codes "replay" = (bytes_eq-Decides _ _).0 replays.1 in
+    let run : next ≡ codes "run" = (bytes_eq-Decides _ _).0 runs.1 in
+    other_word (sym replay ∙ run)
 
 show_or_vectors : (words : List (List ℕ)) → asks_show words ≡ true → asks_vectors words ≡ true → ⊥
 show_or_vectors [] e h = absurd (cc)
@@ -197,23 +242,64 @@ show_or_vectors (first ∷ next ∷ words) e h =
     let counted = and_true _ _ (is_some_test (bytes_eq first (codes "sbcheck") && bytes_eq next (codes "vectors")) (given_of bare_shape words) h) in
     true_false _ counted.1 (other_command next shown.1)
 
+-- words with a plan are those of a run
+planned : (line : Option RunWords) (plan : Plan) → option_map (λ (line : RunWords). line.plan) line ≡ Some plan → (found : RunWords) × (line ≡ Some found) × (found.plan ≡ plan)
+planned None plan e = absurd (cc)
+planned (Some line) plan e = (line, refl, (let same : line.plan ≡ plan = cc in same))
+
 pub is_replay : (words : List (List ℕ)) (command : Command) → IsCommandOf words (Some command) → (names : List ListName) → replay_of words ≡ Some names → command ≡ Replay names
 is_replay words (Replay found) h names e = let same : found ≡ names = cc in ap Replay same
+is_replay words (Run plan) h names e = absurd (let line = planned (run_of words) plan h in replay_or_run words names line.0 e line.1)
 is_replay words Show h names e = absurd (replay_or_check words names (codes "show") e h)
 is_replay words Vectors h names e = absurd (replay_or_check words names (codes "vectors") e h)
 
+pub is_run : (words : List (List ℕ)) (command : Command) → IsCommandOf words (Some command) → (line : RunWords) → run_of words ≡ Some line → command ≡ Run line.plan
+is_run words (Replay names) h line e = absurd (replay_or_run words names line h e)
+is_run words (Run plan) h line e =
+    let found = planned (run_of words) plan h in
+    let same : Some found.0 ≡ Some line = sym found.1 ∙ e in
+    let is : found.0 ≡ line = cc in
+    ap Run (sym found.2 ∙ ap (λ (l : RunWords). l.plan) is)
+is_run words Show h line e = absurd (run_or_check words line (codes "show") e h)
+is_run words Vectors h line e = absurd (run_or_check words line (codes "vectors") e h)
+
 pub is_show : (words : List (List ℕ)) (command : Command) → IsCommandOf words (Some command) → asks_show words ≡ true → command ≡ Show
 is_show words (Replay names) h e = absurd (replay_or_check words names (codes "show") h e)
+is_show words (Run plan) h e = absurd (let line = planned (run_of words) plan h in run_or_check words line.0 (codes "show") line.1 e)
 is_show words Show h e = refl
 is_show words Vectors h e = absurd (show_or_vectors words e h)
 
 pub is_vectors : (words : List (List ℕ)) (command : Command) → IsCommandOf words (Some command) → asks_vectors words ≡ true → command ≡ Vectors
 is_vectors words (Replay names) h e = absurd (replay_or_check words names (codes "vectors") h e)
+is_vectors words (Run plan) h e = absurd (let line = planned (run_of words) plan h in run_or_check words line.0 (codes "vectors") line.1 e)
 is_vectors words Show h e = absurd (show_or_vectors words h e)
 is_vectors words Vectors h e = refl
+
+-- of words that are none of a run, no command is one
+pub is_no_run : (words : List (List ℕ)) (command : Command) → IsCommandOf words (Some command) → run_of words ≡ None → (plan : Plan) → command ≢ Run plan
+is_no_run words command h none plan e =
+    let is : IsCommandOf words (Some (Run plan)) = subst (λ (command : Command). IsCommandOf words (Some command)) e h in
+    let found = planned (run_of words) plan is in
+    let same = found.1 in
+    cc
 
 -- a command is some command
 pub no_command : (words : List (List ℕ)) (command : Command) → IsCommandOf words (Some command) → IsNoCommand words → ⊥
 no_command words (Replay names) h none = let other = none.replay in cc
+no_command words (Run plan) h none = is_no_run words (Run plan) h none.run plan refl
 no_command words Show h none = let other = none.show in cc
 no_command words Vectors h none = let other = none.vectors in cc
+
+-- ---- of what was found
+
+pub replay_found : (words : List (List ℕ)) (found : Option Command) (command : Command) → found ≡ Some command → IsCommandOf words found → (names : List ListName) → replay_of words ≡ Some names → command ≡ Replay names
+replay_found words found command e h names asked = is_replay words command (is_found words found command e h) names asked
+
+pub run_found : (words : List (List ℕ)) (found : Option Command) (command : Command) → found ≡ Some command → IsCommandOf words found → (line : RunWords) → run_of words ≡ Some line → command ≡ Run line.plan
+run_found words found command e h line asked = is_run words command (is_found words found command e h) line asked
+
+pub show_found : (words : List (List ℕ)) (found : Option Command) (command : Command) → found ≡ Some command → IsCommandOf words found → asks_show words ≡ true → command ≡ Show
+show_found words found command e h asked = is_show words command (is_found words found command e h) asked
+
+pub vectors_found : (words : List (List ℕ)) (found : Option Command) (command : Command) → found ≡ Some command → IsCommandOf words found → asks_vectors words ≡ true → command ≡ Vectors
+vectors_found words found command e h asked = is_vectors words command (is_found words found command e h) asked

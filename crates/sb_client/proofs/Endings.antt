@@ -40,22 +40,24 @@ pub not_risen : (before after : ℕ) → after ≡ before → before < 2 ^ 64 - 
 not_risen before after e l r = omega (arith, e, l, r)
 
 -- of all statuses three are left to a replay, and three to a run of `show`
-pub left_over : (status : ℕ) → IsStatus status → status ≢ 1 → (status ≡ 2 → ⊥) → (status ≡ 3 → ⊥) → (status ≡ 6 → ⊥) → status ≢ 21 → (status ≡ 0) ⊎ (status ≡ 5) ⊎ (status ≡ 8)
+pub left_over : (status : ℕ) → IsStatus status → status ≢ 1 → (status ≡ 2 → ⊥) → (status ≡ 3 → ⊥) → (status ≡ 6 → ⊥) → (status ≢ 4) × (status ≢ 21) → (status ≡ 0) ⊎ (status ≡ 5) ⊎ (status ≡ 8)
 left_over status (inl h) one two three six last = inl h
 left_over status (inr (inl h)) one two three six last = absurd (one h)
 left_over status (inr (inr (inl h))) one two three six last = absurd (two h)
 left_over status (inr (inr (inr (inl h)))) one two three six last = absurd (three h)
-left_over status (inr (inr (inr (inr (inl h))))) one two three six last = inr (inl h)
-left_over status (inr (inr (inr (inr (inr (inl h)))))) one two three six last = absurd (six h)
-left_over status (inr (inr (inr (inr (inr (inr (inl h))))))) one two three six last = inr (inr h)
-left_over status (inr (inr (inr (inr (inr (inr (inr h))))))) one two three six last = absurd (last h)
+left_over status (inr (inr (inr (inr (inl h))))) one two three six last = absurd (last.0 h)
+left_over status (inr (inr (inr (inr (inr (inl h)))))) one two three six last = inr (inl h)
+left_over status (inr (inr (inr (inr (inr (inr (inl h))))))) one two three six last = absurd (six h)
+left_over status (inr (inr (inr (inr (inr (inr (inr (inl h)))))))) one two three six last = inr (inr h)
+left_over status (inr (inr (inr (inr (inr (inr (inr (inr h)))))))) one two three six last = absurd (last.1 h)
 
-pub left_to_show : (status : ℕ) → IsStatus status → status ≢ 1 → (status ≡ 2 → ⊥) → (status ≡ 3 → ⊥) → (status ≡ 6 → ⊥) → status ≢ 5 → (status ≡ 0) ⊎ (status ≡ 21) ⊎ (status ≡ 8)
-left_to_show status (inl h) one two three six five = inl h
-left_to_show status (inr (inl h)) one two three six five = absurd (one h)
-left_to_show status (inr (inr (inl h))) one two three six five = absurd (two h)
-left_to_show status (inr (inr (inr (inl h)))) one two three six five = absurd (three h)
-left_to_show status (inr (inr (inr (inr (inl h))))) one two three six five = absurd (five h)
-left_to_show status (inr (inr (inr (inr (inr (inl h)))))) one two three six five = absurd (six h)
-left_to_show status (inr (inr (inr (inr (inr (inr (inl h))))))) one two three six five = inr (inr h)
-left_to_show status (inr (inr (inr (inr (inr (inr (inr h))))))) one two three six five = inr (inl h)
+pub left_to_show : (status : ℕ) → IsStatus status → status ≢ 1 → (status ≡ 2 → ⊥) → (status ≡ 3 → ⊥) → (status ≡ 6 → ⊥) → (status ≢ 4) × (status ≢ 5) → (status ≡ 0) ⊎ (status ≡ 21) ⊎ (status ≡ 8)
+left_to_show status (inl h) one two three six last = inl h
+left_to_show status (inr (inl h)) one two three six last = absurd (one h)
+left_to_show status (inr (inr (inl h))) one two three six last = absurd (two h)
+left_to_show status (inr (inr (inr (inl h)))) one two three six last = absurd (three h)
+left_to_show status (inr (inr (inr (inr (inl h))))) one two three six last = absurd (last.0 h)
+left_to_show status (inr (inr (inr (inr (inr (inl h)))))) one two three six last = absurd (last.1 h)
+left_to_show status (inr (inr (inr (inr (inr (inr (inl h))))))) one two three six last = absurd (six h)
+left_to_show status (inr (inr (inr (inr (inr (inr (inr (inl h)))))))) one two three six last = inr (inr h)
+left_to_show status (inr (inr (inr (inr (inr (inr (inr (inr h)))))))) one two three six last = inr (inl h)

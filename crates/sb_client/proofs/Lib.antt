@@ -9,5 +9,7 @@ pub mod LineCuts
 pub mod Outcomes
 pub mod Readings
 pub mod Replays
+pub mod RunOptions
+pub mod Runs
 pub mod Shows
 pub mod Ways

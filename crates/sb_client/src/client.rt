@@ -207,7 +207,7 @@ fn run_command<S: Source, O: Sink, K: Keeper, L: Link, C: Clock, D: Dice, G: Gat
     requires { AreFewLists command }
     ensures statuses { IsStatus result }
     ensures some { result ≢ 1 }
-    ensures replay_ends { (names : List ListName) → command ≡ Command.Replay names → result ≢ 21 }
+    ensures replay_ends { (names : List ListName) → command ≡ Command.Replay names → (result ≢ 4) × (result ≢ 21) }
     ensures printed { (names : List ListName) → command ≡ Command.Replay names → result ≡ 0
         → IsPrinted names false (S.left input.old) (S.left input.new) (O.contents out.old) (O.contents out.new) }
     ensures refused { (names : List ListName) → command ≡ Command.Replay names → result ≡ 5
@@ -250,7 +250,7 @@ fn run_command<S: Source, O: Sink, K: Keeper, L: Link, C: Clock, D: Dice, G: Gat
         (keeping (K.handed keep.new) (K.kept keep.new)) (O.contents out.new)) }
     ensures untouched { ((plan : PlanOf) → command ≢ Command.Run plan)
         → (keep.new ≡ keep.old) × (link.new ≡ link.old) × (clock.new ≡ clock.old) × (dice.new ≡ dice.old) }
-    ensures show_ends { command ≡ Command.Show → result ≢ 5 }
+    ensures show_ends { command ≡ Command.Show → (result ≢ 4) × (result ≢ 5) }
     ensures shown { command ≡ Command.Show → result ≡ 0
         → IsShown false (S.left input.old) (S.left input.new) (O.contents out.old) (O.contents out.new) }
     ensures some_refused { command ≡ Command.Show → result ≡ 21
@@ -348,7 +348,8 @@ pub fn run_client<S: Source, O: Sink, K: Keeper, L: Link, C: Clock, D: Dice, G: 
         → (O.contents out.new ≡ O.contents out.old)
         ⊎ IsPartlyPrinted names (S.left input.old) (S.left input.new) (O.contents out.old) (O.contents out.new) }
 
-    ensures replay_ends { (names : List ListName) → replay_of (map string_bytes words.now) ≡ Some names → result ≢ 21 }
+    ensures replay_ends { (names : List ListName) → replay_of (map string_bytes words.now) ≡ Some names
+        → (result ≢ 4) × (result ≢ 21) }
 
     // A run that came to its end: all rounds were made, each set that was installed is saved, and the whole text is
     // written, which tells of a refusal or of a round without a response exactly where the status is 5.
@@ -391,7 +392,7 @@ pub fn run_client<S: Source, O: Sink, K: Keeper, L: Link, C: Clock, D: Dice, G: 
 
     // Shown URLs: the whole text, which tells of one without a canonical form exactly where the status is 21, or
     // a front of it.
-    ensures show_ends { asks_show (map string_bytes words.now) ≡ true → result ≢ 5 }
+    ensures show_ends { asks_show (map string_bytes words.now) ≡ true → (result ≢ 4) × (result ≢ 5) }
     ensures shown { asks_show (map string_bytes words.now) ≡ true → result ≡ 0
         → IsShown false (S.left input.old) (S.left input.new) (O.contents out.old) (O.contents out.new) }
     ensures some_refused { asks_show (map string_bytes words.now) ≡ true → result ≡ 21

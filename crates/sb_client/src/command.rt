@@ -278,7 +278,8 @@ pub(crate) fn run_line<'a>(
 /// What a run is to do, by its command line.
 fn plan_of(alloc: Global, line: RunLine<'_>) -> Result<Plan, OutOfMemory>
     ensures { IfOk result (λ plan. plan
-        ≡ (run_words line.store.now line.server.now line.names line.rounds line.key.now line.options line.need_digest).plan) }
+        ≡ (run_words line.entry.store.now line.entry.server.now line.entry.names line.entry.rounds line.entry.key.now
+        line.entry.options line.entry.need_digest).plan) }
 {
     let host = Text::from_str(alloc, line.server)?;
     let key = Text::from_str(alloc, line.key)?;
@@ -291,12 +292,13 @@ fn plan_of(alloc: Global, line: RunLine<'_>) -> Result<Plan, OutOfMemory>
     })
 }
 
-/// The run that words ask for; `None` where they are none of `sbupdate run`.
+/// The run that the words after `run` ask for.
 fn run_command(alloc: Global, words: &[String]) -> Result<Option<Command>, OutOfMemory>
     ensures { IfOk result (λ command. command
-        ≡ option_map Command.Run (option_map (λ (line : RunWords). line.plan) (run_of (map string_bytes words.now)))) }
+        ≡ option_map Command.Run (option_map (λ (line : RunWords). line.plan)
+        (option_and_then run_given (given_of run_shape (map string_bytes words.now))))) }
 {
-    match run_line(alloc, words) {
+    match run_line_of(alloc, words) {
         Ok(Some(line)) => Ok(Some(Command::Run(plan_of(alloc, line)?))),
         Ok(None) => Ok(None),
         Err(OutOfMemory) => Err(OutOfMemory),
@@ -348,7 +350,7 @@ pub(crate) fn command_of(alloc: Global, words: &[String]) -> Result<Option<Comma
         return replay_command(alloc, rest);
     }
     if are(program, command, "sbupdate", "run") {
-        return run_command(alloc, words);
+        return run_command(alloc, rest);
     }
     if are(program, command, "sbcheck", "show") {
         return bare_command(alloc, rest, Command::Show);

@@ -1,6 +1,7 @@
 use Rattle.std.proofs.Common.{ℕ, List, ◌++◌, ap, ◌∙◌, subst, append_assoc}
 use Rattle.std.specs.List.{flat_map}
-use Rattle.sb_client.specs.Printed.{list_line, prefix_line}
+use Rattle.sb_client.specs.Printed.{prefix_line}
+use Rattle.update_run.specs.Printed.{list_line}
 use Rattle.sb_outside.specs.Writing.{HasFront}
 use Rattle.sb_client.proofs.Ways.{on_err, front_none, some_back, some_front}
 use Rattle.sb_client.proofs.replay.print_list.Goals as goal
