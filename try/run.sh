@@ -14,8 +14,8 @@ readonly ROUNDS=(3 300) # of every other client, so that some are killed in mid-
 readonly LATEST=75000 # milliseconds from a client's start within which it is killed
 readonly SEED=20
 folder=$(mktemp -d)
-server=
-trap '[ -n "$server" ] && kill "$server" 2> /dev/null; rm -rf "$folder"' EXIT
+started=()
+trap 'kill "${started[@]}" 2> /dev/null; rm -rf "$folder"' EXIT
 
 fail() {
   echo "try-run: $1"
@@ -65,7 +65,7 @@ printf 'sblist 1 %016x\nlist %s 4\n' 1 "$LIST" > "$folder/journal"
 for _ in $(seq 20); do grow; done
 port=$(free_port)
 bin/sblistd serve --journal "$folder/journal" --listen "127.0.0.1:$port" --connections 1000000 --wait 0 > "$folder/printed" &
-server=$!
+started+=($!)
 sleep 1
 
 # ---- the clients, each killed at its moment
@@ -120,12 +120,14 @@ for number in $(seq "$CLIENTS"); do
     cp "$folder/store-$number" "$folder/copy-$number"
     bin/sbupdate run --store "$folder/copy-$number" --server 127.0.0.1:1 --rounds 1 "$LIST" > "$folder/kept-$number" &
     runs+=($!)
+    started+=($!)
   fi
 done
 start=$SECONDS
 for number in $(seq "$CLIENTS"); do
   bin/sbupdate run --store "$folder/store-$number" --server "127.0.0.1:$port" --rounds 1 "$LIST" > "$folder/next-$number" &
   next[number]=$!
+  started+=($!)
 done
 wanted="list $LIST ${counts[version]} $(printf '01%016x%016x010601' 1 "$version")"
 for number in $(seq "$CLIENTS"); do

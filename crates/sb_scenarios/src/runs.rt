@@ -1,7 +1,6 @@
 //! Runs of a client whose sessions are answered by a server.
 use crate::Harm;
 use crate::setting::{EVEN, Left, MIXED, Story, keeper, run, sealed};
-use sb_model::Bytes;
 use sb_outside::{KeepFailure, MemoryKeeper, Remains};
 use std::alloc::Global;
 use std::process::Abort;
@@ -173,18 +172,11 @@ fn reads_the_first_format(rt: &impl Abort, alloc: Global) -> Result<(), Fail> {
     let store = sealed(alloc, BEFORE_EVEN)?;
     let mut keep = keeper(alloc, Some(store.as_slice()), &[])?;
     goes_on(rt, alloc, &mut keep, ASKS_FROM_BEFORE)?;
+    assert!(rt; keep.kept().is_some_and(|text| text.len() == 78));
     goes_on(rt, alloc, &mut keep, ASKS_FROM_NEWEST)
 }
 
 #[test]
 fn a_store_of_format_1_is_read_saved_and_read_again(rt: HostRuntime) -> Result<(), Fail> {
     reads_the_first_format(&rt, rt.alloc())
-}
-
-#[test]
-fn the_store_of_two_prefixes_has_78_bytes(rt: HostRuntime) -> Result<(), Fail> {
-    let alloc = rt.alloc();
-    let store = sealed(alloc, NEWEST)?;
-    assert_eq!(rt; store.len(), 78);
-    Ok(())
 }
