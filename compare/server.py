@@ -346,6 +346,15 @@ def any_state(rand, journal, name, names):
     return token[:-1] if kind == 3 and rand.random() < 0.3 else token
 
 
+def written(rand, body, changed):
+    """The text of a body, of which now and then a field is changed (so often), or some bytes."""
+    kind = rand.random()
+    if kind < changed:
+        change_field(rand, body)
+    text = json.dumps(body).encode("ascii")
+    return change_bytes(rand, text) if kind > 0.93 else text
+
+
 def any_request(rand, journal, names):
     items = []
     for _ in range(rand.choice([0, 1, 1, 1, 2, 8, 9])):
@@ -364,11 +373,7 @@ def any_request(rand, journal, names):
         constraints["supportedCompressions"] = rand.choice([["RAW"], ["RAW", "RICE"], ["RICE"], [], ["OTHER"]])
         items.append(item | {"constraints": constraints})
     body = {"client": {"clientId": "sblist", "clientVersion": "1"}, "listUpdateRequests": items}
-    kind = rand.random()
-    if kind < 0.1:
-        change_field(rand, body)
-    text = json.dumps(body).encode("ascii")
-    return change_bytes(rand, text) if kind > 0.93 else text
+    return written(rand, body, 0.1)
 
 
 def any_hash(rand, journal):
@@ -397,11 +402,7 @@ def any_find(rand, journal, names):
     body = {"client": {"clientId": "sblist", "clientVersion": "1"}, "threatInfo": info}
     if rand.random() < 0.3:
         body["clientStates"] = [base64.b64encode(any_state(rand, journal, names[0], names)).decode("ascii")]
-    kind = rand.random()
-    if kind < 0.2:
-        change_field(rand, body)
-    text = json.dumps(body).encode("ascii")
-    return change_bytes(rand, text) if kind > 0.93 else text
+    return written(rand, body, 0.2)
 
 
 def any_question(rand, kind):

@@ -1,4 +1,6 @@
 //! The responses of the tests, and the objects that a run is made over.
+ghost use Rattle.std.specs.Prelude.{◌≡◌, length, IfOk};
+
 use http_edge::Target;
 use itoa::Buffer;
 use sb_model::{
@@ -46,7 +48,9 @@ pub fn response(alloc: Global, body: (&[u8], &[u8]), cut: usize) -> Result<Bytes
 }
 
 /// The plan of a run of so many rounds for one list.
-pub fn plan_of(alloc: Global, rounds: u32) -> Result<Plan, OutOfMemory> {
+pub fn plan_of(alloc: Global, rounds: u32) -> Result<Plan, OutOfMemory>
+    ensures { IfOk result (λ plan. length plan.names ≡ 1) }
+{
     Ok(Plan {
         names: Row::from_slice(alloc, &[MALWARE])?,
         rounds,
