@@ -41,6 +41,8 @@ LONG_CHANGES = 2_048
 LONG_HASHES = 1_024
 SERVED_CHANGES = 1_023
 CACHE_ANSWERS = 1_000_000
+FOUND_HASHES = 1_048_576
+FOUND_PREFIXES = 65_536
 USUAL_URLS = 100_000
 HOSTILE_URLS = 2_000
 HOSTILE_BYTES = 8_192
@@ -363,6 +365,18 @@ def bench_cache(runs):
     tell(f"{CACHE_ANSWERS:,} answers", f"{took * 1e3:.1f} ms", f"{took / CACHE_ANSWERS * 1e9:.0f} ns an answer")
 
 
+def bench_finds(runs):
+    """Finds by themselves, without journal, JSON and sockets: of every second prefix the list has a full hash."""
+    counts = (1, 30, 1_024)
+    kernels = ["find-list"] + [f"find-{count}" for count in counts]
+    made, *times = processor_times(kernels, FOUND_HASHES, runs, FIND_KERNELS)
+    print(f"finds over a list of {FOUND_HASHES:,} full hashes")
+    for count, found in zip(counts, times):
+        finds, took = FOUND_PREFIXES // count, found - made
+        name = f"{finds:,} of a prefix" if count == 1 else f"{finds:,} of {count:,} prefixes"
+        tell(name, f"{took * 1e3:.1f} ms", f"{took / finds * 1e6:.1f} µs a find, {took / finds / count * 1e6:.2f} µs a prefix")
+
+
 def bench_urls(title, prefix, count, runs):
     kernels = [prefix + kernel for kernel in ("urls", "canonical", "expressions")]
     texts, canonical, expressions = processor_times(kernels, count, runs)
@@ -375,6 +389,7 @@ def main():
     words = argparse.ArgumentParser(description="Measures the programs in bin/.")
     words.add_argument("--runs", type=int, default=3, help="the runs of a replay")
     words.add_argument("--kernel-runs", type=int, default=15, help="the runs of a kernel")
+    words.add_argument("--find-runs", type=int, default=5, help="the runs of a kernel of finds, each of which makes a list first")
     words = words.parse_args()
     python = platform.python_version()
     print(f"Best of {words.runs} runs of a replay and {words.kernel_runs} of a kernel. All but the")
@@ -391,6 +406,7 @@ def main():
         bench_serve(folder)
     bench_sets(words.kernel_runs)
     bench_cache(words.kernel_runs)
+    bench_finds(words.find_runs)
     bench_rice(words.kernel_runs)
     bench_messages("prefixes as they are", "raw-", words.kernel_runs)
     bench_messages("Rice coded prefixes", "rice-", words.kernel_runs)

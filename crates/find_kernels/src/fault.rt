@@ -1,3 +1,4 @@
+use list_versions::JournalFault;
 use sb_model::OutOfMemory;
 use std::alloc::{AllocError, AllocFailed};
 use std::error::Error;
@@ -10,6 +11,7 @@ pub enum KernelFault {
     Name,
     /// The count or the seed is no number.
     Number,
+    Journal(JournalFault),
     OutOfMemory,
 }
 
@@ -18,12 +20,19 @@ impl fmt::Display for KernelFault {
         match self {
             KernelFault::Name => write!(f, "no such kernel"),
             KernelFault::Number => write!(f, "the count or the seed is no number"),
+            KernelFault::Journal(fault) => write!(f, "{fault}"),
             KernelFault::OutOfMemory => write!(f, "out of memory"),
         }
     }
 }
 
 impl Error for KernelFault {}
+
+impl From<JournalFault> for KernelFault {
+    fn from(fault: JournalFault) -> KernelFault {
+        KernelFault::Journal(fault)
+    }
+}
 
 impl From<OutOfMemory> for KernelFault {
     fn from(_refused: OutOfMemory) -> KernelFault {

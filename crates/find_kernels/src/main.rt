@@ -5,6 +5,7 @@
 
 mod cache;
 mod fault;
+mod finds;
 mod hashes;
 mod requests;
 
@@ -15,7 +16,11 @@ use std::{env, io};
 
 const USAGE: &str = "usage: find_kernels KERNEL COUNT SEED
   cache-hashes   makes a cache of 4,096 pairs, and COUNT hashes
-  cache-ask      makes the cache and the hashes, and asks it for each";
+  cache-ask      makes the cache and the hashes, and asks it for each
+  find-list      makes a list of at most COUNT full hashes
+  find-1         makes the list, and answers 65,536 finds of a prefix
+  find-30        makes the list, and answers 2,184 finds of 30 prefixes
+  find-1024      makes the list, and answers 64 finds of 1,024 prefixes";
 
 fn main(rt: HostRuntime) -> io::Result<ExitCode> {
     let mut words = env::args(&rt)?;
@@ -44,6 +49,10 @@ fn run(alloc: Global, kernel: &str, count: &str, seed: &str) -> Result<u64, Kern
     match kernel {
         "cache-hashes" => cache::make_hashes(alloc, count, seed),
         "cache-ask" => cache::ask_cache(alloc, count, seed),
+        "find-list" => finds::make_list(alloc, count, seed),
+        "find-1" => finds::answer_finds(alloc, count, 1, seed),
+        "find-30" => finds::answer_finds(alloc, count, 30, seed),
+        "find-1024" => finds::answer_finds(alloc, count, 1_024, seed),
         _ => Err(KernelFault::Name),
     }
 }
