@@ -2,14 +2,14 @@
 # Serves a journal, runs a client of two rounds, and changes the journal in between. Ends with the client's status.
 set -u
 cd "$(dirname "$0")/.." || exit 1
+source try/common.sh
 
 readonly LIST=MALWARE/ANY_PLATFORM/URL
 folder=$(mktemp -d)
 server=
 trap '[ -n "$server" ] && kill "$server" 2> /dev/null; rm -rf "$folder"' EXIT
 
-# a port of loopback that nobody listens at
-while port=$((20000 + RANDOM)) && (exec 3<> "/dev/tcp/127.0.0.1/$port") 2> /dev/null; do :; done
+port=$(free_port)
 
 : > "$folder/printed"
 cp crates/sblistd/data/journal "$folder/lists"

@@ -5,6 +5,7 @@
 # A stalling client is given up after 30 seconds, and one that sends a byte a second after 60, so this takes two minutes.
 set -u
 cd "$(dirname "$0")/.." || exit 1
+source try/common.sh
 
 if ! command -v curl > /dev/null; then
   echo "try-http: curl is not installed, so nothing was tried"
@@ -20,17 +21,6 @@ trap '[ -n "$server" ] && kill "$server" 2> /dev/null; rm -rf "$folder"' EXIT
 fail() {
   echo "try-http: $1"
   exit 1
-}
-
-# a port of loopback that nobody listens at
-free_port() {
-  local port
-  while port=$((20000 + RANDOM)); do
-    if ! (exec 3<> "/dev/tcp/127.0.0.1/$port") 2> /dev/null; then
-      echo "$port"
-      return
-    fi
-  done
 }
 
 # starts a server for so many connections

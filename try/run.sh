@@ -7,6 +7,7 @@
 # next runs take up to 60: together less than three minutes.
 set -u
 cd "$(dirname "$0")/.." || exit 1
+source try/common.sh
 
 readonly LIST=MALWARE/ANY_PLATFORM/URL
 readonly CLIENTS=50
@@ -20,17 +21,6 @@ trap 'kill "${started[@]}" 2> /dev/null; rm -rf "$folder"' EXIT
 fail() {
   echo "try-run: $1"
   exit 1
-}
-
-# a port of loopback that nobody listens at
-free_port() {
-  local port
-  while port=$((20000 + RANDOM)); do
-    if ! (exec 3<> "/dev/tcp/127.0.0.1/$port") 2> /dev/null; then
-      echo "$port"
-      return
-    fi
-  done
 }
 
 # the next of the numbers that the seed gives: below its argument, into `drawn`
