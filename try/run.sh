@@ -1,7 +1,8 @@
 #!/usr/bin/env bash
 # Kills clients in mid-run. The built sblistd serves a journal that grows, with no wait between rounds, and 50 built clients run
 # beside each other over loopback, each with a store of its own. Each is killed (SIGKILL) at a seeded moment, from its start to
-# after its last save. Then the next run of each has to read its store or name why not, and to end with the server's set.
+# after its last save: every other within 75 seconds of its start, and the others soon after their first round. Then the next
+# run of each has to read its store or name why not, and to end with the server's set.
 #
 # A client waits up to 60 seconds before its first request, at random. So the clients are killed within 75 seconds, and the
 # next runs take up to 60: together less than three minutes.
@@ -11,8 +12,9 @@ source try/common.sh
 
 readonly LIST=MALWARE/ANY_PLATFORM/URL
 readonly CLIENTS=50
-readonly ROUNDS=(3 300) # of every other client, so that some are killed in mid-run, and some after their last save
-readonly LATEST=75000 # milliseconds from a client's start within which it is killed
+readonly ROUNDS=(3 1024) # of every other client
+readonly LATEST=75000 # milliseconds from the start within which a client of few rounds is killed
+readonly SOON=1500 # milliseconds from its first round within which one of many is
 readonly SEED=20
 folder=$(mktemp -d)
 started=()
@@ -64,6 +66,10 @@ client() {
   local number=$1 moment=$2 pid
   bin/sbupdate run --store "$folder/store-$number" --server "127.0.0.1:$port" --rounds "${ROUNDS[number % 2]}" "$LIST" > "$folder/first-$number" &
   pid=$!
+  if [ $((number % 2)) = 1 ]; then
+    while [ ! -s "$folder/first-$number" ] && kill -0 "$pid" 2> /dev/null; do sleep 0.05; done
+    moment=$((moment % SOON))
+  fi
   sleep "$(printf '%d.%03d' $((moment / 1000)) $((moment % 1000)))"
   kill -KILL "$pid" 2> /dev/null
   wait "$pid"
