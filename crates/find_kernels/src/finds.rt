@@ -13,7 +13,7 @@ use std::alloc::Global;
 const CHANGE_HASHES: u32 = 1_024;
 
 /// How many prefixes are asked for in all.
-const ASKED: u32 = 65_536;
+const ASKED: u32 = 1_048_576;
 
 /// The times that answers tell, in seconds.
 const SETTINGS: Settings = Settings {
@@ -27,7 +27,7 @@ pub fn make_list(alloc: Global, hashes: u32, seed: u64) -> Result<u64, KernelFau
     Ok(history(alloc, hashes, seed)?.len())
 }
 
-/// How many matches the answers to finds of so many prefixes have, whose prefixes are 65,536 in all.
+/// How many matches the answers to finds of so many prefixes have, whose prefixes are 1,048,576 in all.
 pub fn answer_finds(
     alloc: Global,
     hashes: u32,

@@ -18,9 +18,9 @@ const USAGE: &str = "usage: find_kernels KERNEL COUNT SEED
   cache-hashes   makes a cache of 4,096 pairs, and COUNT hashes
   cache-ask      makes the cache and the hashes, and asks it for each
   find-list      makes a list of at most COUNT full hashes
-  find-1         makes the list, and answers 65,536 finds of a prefix
-  find-30        makes the list, and answers 2,184 finds of 30 prefixes
-  find-1024      makes the list, and answers 64 finds of 1,024 prefixes";
+  find-1         makes the list, and answers 1,048,576 finds of a prefix
+  find-30        makes the list, and answers 34,952 finds of 30 prefixes
+  find-1024      makes the list, and answers 1,024 finds of 1,024 prefixes";
 
 fn main(rt: HostRuntime) -> io::Result<ExitCode> {
     let mut words = env::args(&rt)?;
