@@ -36,6 +36,10 @@ lines_split changes a b h =
     ap (λ cs. hash_lines cs + hash_lines (drop a (take b changes))) (sym (take-take a b changes h)) ∙ sym (lines_append (take a (take b changes)) (drop a (take b changes)))
     ∙ ap hash_lines (take-append-drop a (take b changes))
 
+pub lines_between : (changes : List Change) (a b : ℕ) → a ≤ b → b ≤ length changes → hash_lines (drop a (take b changes)) ≤ hash_lines changes
+lines_between changes a b h k =
+    omega (arith, lines_split changes a b h, lines_split changes b (length changes) k, ap hash_lines (take_all (length changes) changes (omega arith)))
+
 -- ---- where nothing was read
 
 pub points_nothing : HasPoints [] []

@@ -13,9 +13,10 @@ use Rattle.std.proofs.lemmas.List.Filters.{dedup_is}
 use Rattle.std.proofs.lemmas.List.Kept.{IsStrictlySortedBy-dedup, IsStrictlySortedBy-filter, Contains-dedup, Contains-from_dedup}
 use Rattle.std.proofs.lemmas.List.Sorted.{Contains-permutation, IsPermutation-sym}
 use Rattle.std.proofs.lemmas.Map.Text.{is_eq-slice_cmp}
-use Rattle.std.proofs.lemmas.Map.Views.{Contains-from_any, Contains-keys_from_lookup, list_any-from_Contains, lookup-from_Contains}
+use Rattle.std.proofs.lemmas.Map.Views.{Contains-from_any, Contains-from_lookup, Contains-keys_from_lookup, list_any-from_Contains, lookup-from_Contains}
+use Rattle.sb_model.specs.declared.history.Added.{Added}
 use Rattle.sb_model.specs.Prefixes.{bytes_cmp, IsRising, set_of}
-use Rattle.list_versions.specs.HashSizes.{HashSizes, size_in, rising_sizes, Sets, shown_entry}
+use Rattle.list_versions.specs.HashSizes.{HashSizes, IsMapOf, entry_at, size_in, rising_sizes, Sets, shown_entry}
 use Rattle.list_versions.proofs.Finding.{same_bytes, bytes_are_same}
 use Rattle.list_versions.proofs.Mapped.{SetLaws, set_is, same_filtered}
 use Rattle.list_versions.proofs.Membership.{In, contains_in, in_contained, in_map, from_map}
@@ -113,6 +114,29 @@ same_entries laws entries unique x = (there, back)
     back c =
         let from = from_map shown_entry x (rising_sizes entries) (in_contained x _ c) in
         contains_in x _ (subst (λ y. In y (map shown_entry entries)) from.holds (in_map shown_entry from.item entries (from_rising laws entries from.item unique from.there)))
+
+-- the entries of a map, in any order
+pub listed_is_map : SetLaws → (entries : HashSizes) → IsDistinct bytes_eq (keys_of entries) → IsMapOf (rising_sizes entries) (map entry_at entries)
+listed_is_map laws entries unique = record { same = λ hash size. (there hash size, back hash size) }
+  where
+    there : (hash : List ℕ) (size : ℕ) → Contains (map entry_at entries) (entry_at (hash, size)) → size_in (rising_sizes entries) hash ≡ Some size
+    there hash size c =
+        let from = from_map entry_at (entry_at (hash, size)) entries (in_contained _ _ c) in
+        let key : from.item.0 ≡ hash = ap (λ (entry : Added). entry.hash) from.holds in
+        let value : from.item.1 ≡ size = ap (λ (entry : Added). entry.size) from.holds in
+        size_in_rising laws entries hash
+        ∙ subst (λ (h : List ℕ). lookup (bytes_eq h) entries ≡ Some from.item.1) key (value_of entries from.item unique from.there)
+        ∙ ap Some value
+
+    back : (hash : List ℕ) (size : ℕ) → size_in (rising_sizes entries) hash ≡ Some size → Contains (map entry_at entries) (entry_at (hash, size))
+    back hash size is =
+        let found : lookup (bytes_eq hash) entries ≡ Some size = sym (size_in_rising laws entries hash) ∙ is in
+        let pair : In (hash, size) entries = in_contained (hash, size) entries (Contains-from_lookup {eq = bytes_eq} same_bytes hash size entries found) in
+        contains_in (entry_at (hash, size)) (map entry_at entries) (in_map entry_at (hash, size) entries pair)
+
+pub hashes_are_keys : (entries : HashSizes) → map (λ (entry : Added). entry.hash) (map entry_at entries) ≡ keys_of entries
+hashes_are_keys [] = refl
+hashes_are_keys (pair ∷ entries) = ap (λ (rest : List (List ℕ)). pair.0 ∷ rest) (hashes_are_keys entries)
 
 -- ---- the hashes in order
 

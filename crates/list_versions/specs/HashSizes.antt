@@ -35,3 +35,7 @@ pub record IsMapOf (sizes : HashSizes) (entries : List Added) : Type 0 where
 -- the prefix that is made of a full hash and its size
 abbrev pub shown_entry : List ℕ × ℕ → List ℕ
 shown_entry entry = shown (record { hash = entry.0; size = entry.1 })
+
+-- a full hash of a map with its size
+abbrev pub entry_at : List ℕ × ℕ → Added
+entry_at pair = record { hash = pair.0; size = pair.1 }

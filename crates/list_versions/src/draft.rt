@@ -11,7 +11,8 @@ ghost use Rattle.list_versions.specs.Split.{EndsWith};
 use crate::JournalFault;
 use crate::checkpoints::{Checkpoint, keep_point};
 use crate::heads::{Head, Header};
-use crate::lines::{read_add, read_head, read_remove};
+use crate::known::KnownName;
+use crate::lines::{read_add, read_head_among, read_remove};
 use crate::lists::{apply_each, is_declared, limit_of, size_of};
 use crate::live::Live;
 use crate::split::next_line;
@@ -31,6 +32,8 @@ pub(crate) struct Listed {
     pub name: ListName,
     pub size: u8,
     pub live: Live,
+    /// The same name, with its text.
+    pub known: KnownName,
 }
 
 /// A history that is being read, of which the records so far have ended.
@@ -302,10 +305,14 @@ impl Draft {
         if self.lists.len() >= MOST_LISTS {
             return Err(JournalFault::TooMany(line));
         }
+        let Ok(known) = KnownName::new(alloc, name) else {
+            return Err(JournalFault::OutOfMemory);
+        };
         let listed = Listed {
             name,
             size,
             live: Live::new(alloc),
+            known,
         };
         let Ok(()) = self.lists.push(listed) else {
             return Err(JournalFault::OutOfMemory);
@@ -390,7 +397,7 @@ impl Draft {
             Ok(None) => return Ok(None),
             Err(_) => return Err(JournalFault::Line(line)),
         };
-        match read_head(text) {
+        match read_head_among(&self.lists, text) {
             None => Err(JournalFault::Line(line)),
             Some(Head::List(name, size)) => match self.declare(alloc, name, size) {
                 Ok(()) => Ok(Some(rest)),

@@ -1,12 +1,18 @@
-ghost use Rattle.std.specs.Prelude.{◌≡◌, ◌+◌, ◌^◌, ◌<◌, [], Some, None, OnOk, OnErr};
+ghost use Rattle.std.specs.Prelude.{◌≡◌, ◌+◌, ◌^◌, ◌<◌, List, [], map, All, Some, None, IfOk, OnOk, OnErr};
+ghost use Rattle.std.specs.List.{IsDistinct};
 ghost use Rattle.std.specs.Map.{keys_of};
+ghost use Rattle.std.specs.Str.{bytes_eq};
+ghost use Rattle.sb_model.specs.declared.history.Added.{Added as Entry};
+ghost use Rattle.sb_model.specs.History.{prefix_of};
 ghost use Rattle.sb_model.specs.Prefixes.{IsRising, set_of};
-ghost use Rattle.list_versions.specs.HashSizes.{Sets, line_size, rising_sizes};
+ghost use Rattle.list_versions.specs.HashSizes.{IsMapOf, Sets, line_size, rising_sizes};
+ghost use Rattle.list_versions.specs.Live.{IsPublishable};
 
 use crate::hash_key::HashKey;
+use crate::listing::{entries_of, prefixes_of};
 use hash_prefixes::FullHash;
-use prefix_set::sets_go_by_members;
-use sb_model::{OutOfMemory, Steps};
+use prefix_set::{PrefixSet, sets_go_by_members};
+use sb_model::{Added, OutOfMemory, Steps};
 use std::alloc::Global;
 use std::collections::HashMap;
 use std::marker::Model;
@@ -90,5 +96,22 @@ impl Folding {
         }
         self.remove(&hash.bytes);
         Ok(())
+    }
+
+    /// The full hashes with their sizes, each once, in no order.
+    pub fn entries(&self, alloc: Global) -> Result<Vec<Added>, OutOfMemory>
+        ensures map { IfOk result (λ entries. IsMapOf self.now entries.items) }
+        ensures once { IfOk result
+            (λ entries. IsDistinct bytes_eq (map (λ entry. entry.hash) entries.items)) }
+    {
+        entries_of(alloc, self)
+    }
+
+    /// The set of the prefixes that are published of the full hashes.
+    pub fn prefixes(&self, alloc: Global) -> Result<PrefixSet, OutOfMemory>
+        ensures { IfOk result (λ set. (entries : List Entry) → IsMapOf self.now entries
+            → All IsPublishable entries → set ≡ set_of (map prefix_of entries)) }
+    {
+        prefixes_of(alloc, self)
     }
 }

@@ -4,9 +4,11 @@ ghost use Rattle.sha2.specs.Sha256.{sha256};
 ghost use Rattle.sb_outside.specs.Outside.{Rose};
 ghost use Rattle.sb_model.specs.Prefixes.{concatenation};
 ghost use Rattle.sb_model.specs.Names.{same_name};
-ghost use Rattle.sb_model.specs.History.{IsWellFormed, declares, version_count, prefixes_at, full_hashes_at};
+ghost use Rattle.sb_model.specs.History.{IsWellFormed, declares, version_count, sizes_at, prefixes_at, full_hashes_at};
 ghost use Rattle.sb_model.specs.Prefixes.{set_of};
 ghost use Rattle.list_versions.specs.Journal.{Kept, declared_size_of, read_on, after_bytes, at_record};
+ghost use Rattle.list_versions.specs.HashSizes.{IsMapOf};
+ghost use Rattle.list_versions.specs.Live.{IsPublishable};
 ghost use Rattle.list_versions.specs.Limits.{WithinLimits, most_changes};
 ghost use Rattle.list_versions.specs.Draft.{history_of, kept_of_draft, before_record, IsDraft};
 ghost use Rattle.list_versions.specs.Loaded.{Gives, JournalOutcome, FurtherFault, IsNewest};
@@ -15,11 +17,12 @@ ghost use Rattle.list_versions.specs.Pieces.{ReadsAll, StopsAt};
 use crate::JournalFault;
 use crate::draft::Draft;
 use crate::growing::{More, read_more};
+use crate::hash_sizes::Folding;
 use crate::listing::{hashes_begun, hashes_of, prefixes_of};
 use crate::lists::{same, size_of};
 use crate::lookup::{hashes_with, live_of};
 use crate::newest::Newest;
-use crate::older::{folded, folding_at};
+use crate::older::{fold_on, folded, folding_at};
 use crate::pieces::{buffer_of, read_first};
 use crate::renewing::{Before, take_kept};
 use hash_prefixes::{FullHash, Prefix};
@@ -281,6 +284,41 @@ impl History {
         }
         let folding = folding_at(alloc, &self.draft, list, version)?;
         Ok(Some(prefixes_of(alloc, &folding)?))
+    }
+
+    /// The full hashes of a list at a version, with their sizes. `fold_on` makes those of a later
+    /// version of them.
+    pub fn folding(
+        &self,
+        alloc: Global,
+        list: ListName,
+        version: u64,
+    ) -> Result<Folding, OutOfMemory>
+        requires { version ≤ version_count self.now.versions }
+        ensures map { IfOk result (λ folding. IsMapOf folding (sizes_at self.now.versions list version)) }
+        ensures publishable { OnOk result (All IsPublishable (sizes_at self.now.versions list version)) }
+    {
+        let folding = folding_at(alloc, &self.draft, list, version as usize)?;
+        Ok(folding)
+    }
+
+    /// Folds the changes between two versions: the full hashes of a list at the one become those at
+    /// the other. Nothing is said of them after an `Err`.
+    pub fn fold_on(
+        &self,
+        folding: &mut Folding,
+        list: ListName,
+        from: u64,
+        to: u64,
+    ) -> Result<(), OutOfMemory>
+        requires order { from ≤ to }
+        requires within { to ≤ version_count self.now.versions }
+        ensures map { OnOk result (IsMapOf folding.old (sizes_at self.now.versions list from)
+            → IsMapOf folding.new (sizes_at self.now.versions list to)) }
+        ensures publishable { OnOk result (All IsPublishable (sizes_at self.now.versions list to)) }
+    {
+        fold_on(folding, &self.draft, list, from as usize, to as usize)?;
+        Ok(())
     }
 
     /// The full hashes of a declared list at a version that begin with a prefix, rising.

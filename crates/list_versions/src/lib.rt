@@ -23,6 +23,7 @@ mod hash_sizes;
 mod heads;
 mod hex_digits;
 mod history;
+mod known;
 mod laws;
 mod lines;
 mod listing;

@@ -8,8 +8,10 @@ ghost use Rattle.std.specs.Char.{is_ascii_digit};
 ghost use Rattle.std.specs.List.{list_all};
 ghost use Rattle.list_versions.specs.Lines.{IsAdded, IsHead, is_space, words_of, is_numeral as is_numeral_text, within, number_of, size_of, bytes_of, hash_of, form_of, header_of, header_of_words, head_of, head_of_words, list_head as list_head_of, change_head as change_head_of, added_of, added_of_words, removed_of};
 
+use crate::draft::Listed;
 use crate::heads::{Head, Header};
 use crate::hex_digits::read_hash;
+use crate::known::read_name;
 use memchr::memchr;
 use sb_model::{Added, read_list_name};
 
@@ -181,13 +183,11 @@ fn list_head(name: &[u8], size: &[u8]) -> Option<Head>
     Some(Head::List(name, size))
 }
 
-fn change_head(name: &[u8], adds: &[u8], removes: &[u8]) -> Option<Head>
+fn change_head(lists: &[Listed], name: &[u8], adds: &[u8], removes: &[u8]) -> Option<Head>
     ensures well { IfSome result IsHead }
     ensures value { result ≡ change_head_of (result_ok (name_of name.now)) (number_of 0 1024 adds.now) (number_of 0 1024 removes.now) }
 {
-    let Ok(name) = read_list_name(name) else {
-        return None;
-    };
+    let name = read_name(lists, name)?;
     let adds = number(adds, 0, 1024)?;
     let removes = number(removes, 0, 1024)?;
     if adds + removes == 0 || adds + removes > 1024 {
@@ -201,10 +201,18 @@ pub fn read_head(line: &[u8]) -> Option<Head>
     ensures value { result ≡ head_of line.now }
     ensures well { IfSome result IsHead }
 {
+    read_head_among(&[], line)
+}
+
+/// Reads the first line of a record, after some lists were declared.
+pub(crate) fn read_head_among(lists: &[Listed], line: &[u8]) -> Option<Head>
+    ensures value { result ≡ head_of line.now }
+    ensures well { IfSome result IsHead }
+{
     match words(line) {
         Some((word, name, size, None)) if word == b"list".as_slice() => list_head(name, size),
         Some((word, name, adds, Some(removes))) if word == b"change".as_slice() => {
-            change_head(name, adds, removes)
+            change_head(lists, name, adds, removes)
         }
         _ => None,
     }

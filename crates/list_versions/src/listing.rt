@@ -5,7 +5,7 @@ ghost use Rattle.std.specs.Str.{bytes_eq};
 ghost use Rattle.sb_model.specs.History.{prefix_of};
 ghost use Rattle.sb_model.specs.Prefixes.{set_of};
 ghost use Rattle.sb_model.specs.declared.history.Added.{Added as Entry};
-ghost use Rattle.list_versions.specs.HashSizes.{IsMapOf, shown_entry};
+ghost use Rattle.list_versions.specs.HashSizes.{IsMapOf, entry_at, shown_entry};
 ghost use Rattle.list_versions.specs.Live.{IsPublishable};
 ghost use Rattle.list_versions.specs.Lookup.{begins};
 
@@ -113,6 +113,32 @@ pub(crate) fn hashes_begun(
     let hashes = keys_begun(alloc, folding.sizes(), prefix)?;
     let row = rising_row(alloc, hashes)?;
     Ok(row)
+}
+
+// The full hashes with their sizes, in the order of the map.
+fn entries_in(alloc: Global, sizes: &HashMap<HashKey, u8>) -> Result<Vec<Added>, OutOfMemory>
+    ensures value { IfOk result (λ entries. entries.items ≡ map entry_at sizes.now.entries) }
+    ensures unique { OnOk result (IsDistinct bytes_eq (keys_of sizes.now.entries)) }
+{
+    let mut entries = Vec::with_capacity(alloc, sizes.len())?;
+    'hashes: for (key, size) in sizes.iter() {
+        entries.push(Added {
+            hash: key.bytes,
+            size: *size,
+        })?;
+    }
+    Ok(entries)
+}
+
+/// The full hashes with their sizes, each once.
+pub(crate) fn entries_of(alloc: Global, folding: &Folding) -> Result<Vec<Added>, OutOfMemory>
+    ensures map { IfOk result (λ entries. IsMapOf folding.now entries.items) }
+    ensures once { IfOk result
+        (λ entries. IsDistinct bytes_eq (map (λ entry. entry.hash) entries.items)) }
+{
+    sets_go_by_members();
+    let entries = entries_in(alloc, folding.sizes())?;
+    Ok(entries)
 }
 
 // The prefixes that are published, in the order of the map.

@@ -181,6 +181,48 @@ fn folded_anew<L: Ledger>(
     folded(alloc, draft, list, version, &mut steps)
 }
 
+// Folds the changes between two versions, counted from zero.
+fn fold_anew<L: Ledger>(
+    blank: Blank,
+    folding: &mut Folding,
+    draft: &Draft,
+    list: ListName,
+    from: usize,
+    to: usize,
+) -> Result<(), OutOfMemory>
+    requires name { blank.name ≡ L.name }
+    requires parts { blank.parts ≡ L.parts }
+    requires some { 0 < blank.parts }
+    requires stem { IsStem draft.now }
+    requires order { from ≤ to }
+    requires within { to ≤ length draft.now.changes.items }
+    ensures { OnOk result (IsMapOf folding.old (sizes_at (history_of draft.now) list from)
+        → IsMapOf folding.new (sizes_at (history_of draft.now) list to)) }
+{
+    let mut steps = Steps::<L>::new(blank);
+    let changes = &draft.changes.as_slice()[..to];
+    fold_changes(folding, list, &changes[from..], &mut steps)?;
+    Ok(())
+}
+
+/// Folds the changes between two versions: the full hashes of a list at the one become those at the
+/// other.
+pub(crate) fn fold_on(
+    folding: &mut Folding,
+    draft: &Draft,
+    list: ListName,
+    from: usize,
+    to: usize,
+) -> Result<(), OutOfMemory>
+    requires stem { IsStem draft.now }
+    requires order { from ≤ to }
+    requires within { to ≤ length draft.now.changes.items }
+    ensures { OnOk result (IsMapOf folding.old (sizes_at (history_of draft.now) list from)
+        → IsMapOf folding.new (sizes_at (history_of draft.now) list to)) }
+{
+    fold_anew::<Brand>(Blank::new(1), folding, draft, list, from, to)
+}
+
 /// The full hashes of a list at a version, with their sizes.
 pub(crate) fn folding_at(
     alloc: Global,

@@ -6,8 +6,8 @@ use sb_model::{OutOfMemory, Row};
 use std::alloc::Global;
 use std::process::Abort;
 
-// Whether the members of a set are these.
-fn has(set: &PrefixSet, members: &[&[u8]]) -> bool {
+/// Whether the members of a set are these.
+pub(crate) fn has(set: &PrefixSet, members: &[&[u8]]) -> bool {
     set.iter().eq(members.iter().copied())
 }
 

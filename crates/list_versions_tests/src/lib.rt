@@ -4,6 +4,8 @@
 #[cfg(test)]
 mod checkpoints;
 #[cfg(test)]
+mod folding;
+#[cfg(test)]
 mod histories;
 #[cfg(test)]
 mod journals;

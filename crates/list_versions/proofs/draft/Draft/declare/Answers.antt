@@ -21,10 +21,10 @@ returns-then-len-ge-MOST_LISTS-clause-fault c =
 pub returns-clause-draft : goal.returns-clause-draft
 returns-clause-draft c =
     let named = sym (any_declared c.args.name c.args.self.now.lists.items) ∙ ap (list_any (λ (list : Listed). same_name list.name c.args.name)) (sym c.deref.ensures.value) ∙ sym c.is_declared.ensures ∙ c.if-is_declared.false in
-    draft_declared c.args.self.now _ (record { name = c.args.name; size = c.args.size; live = c.new.result }) c.requires.draft c.in-Ok.ensures.items refl refl refl (omega (arith, c.len.ensures, c.if-len-ge-MOST_LISTS.false)) named c.requires.size c.new.ensures.holds
+    draft_declared c.args.self.now _ (record { name = c.args.name; size = c.args.size; live = c.new-2.result; known = c.in-Ok.known }) c.requires.draft c.in-Ok-push.ensures.items refl refl refl (omega (arith, c.len.ensures, c.if-len-ge-MOST_LISTS.false)) named c.requires.size c.new-2.ensures.holds
 
 pub returns-clause-ok : goal.returns-clause-ok
 returns-clause-ok c =
     let named = sym (any_declared c.args.name c.args.self.now.lists.items) ∙ ap (list_any (λ (list : Listed). same_name list.name c.args.name)) (sym c.deref.ensures.value) ∙ sym c.is_declared.ensures ∙ c.if-is_declared.false in
     list_taken c.args.self.now c.args.name c.args.size (declared_of c.push.new.self.items) named (omega (arith, c.len.ensures, c.if-len-ge-MOST_LISTS.false, length-map {B = ListName × ℕ} c.args.self.now.lists.items (λ (l : Listed). (l.name, l.size))))
-    (ap declared_of c.in-Ok.ensures.items ∙ declared_more c.args.self.now.lists.items (record { name = c.args.name; size = c.args.size; live = c.new.result }))
+    (ap declared_of c.in-Ok-push.ensures.items ∙ declared_more c.args.self.now.lists.items (record { name = c.args.name; size = c.args.size; live = c.new-2.result; known = c.in-Ok.known }))

@@ -19,31 +19,31 @@ returns-in-None-clause-fault c =
 pub returns-in-Ok-clause-moves : goal.returns-in-Ok-clause-moves
 returns-in-Ok-clause-moves c =
     let line = rw c.in-Ok-Some.field-0-is at c.in-Ok-Some.ensures.whole in
-    let is = ap Some (sym c.in-Some-List.field-0-is) ∙ sym c.in-Some-List.is ∙ c.read_head.ensures.value in
+    let is = ap Some (sym c.in-Some-List.field-0-is) ∙ sym c.in-Some-List.is ∙ c.read_head_among.ensures.value in
     record_list c.args.self.now c.args.bytes.now c.in-Ok-Some.halves.0.now c.in-Ok-Some.halves.1.now c.in-Some-List.name c.in-Some-List.size (Ok (at_record (kept_of_draft c.declare.new.self []))) line is c.in-Ok.ensures.ok
 
 pub returns-in-Err-declare-clause-fault : goal.returns-in-Err-declare-clause-fault
 returns-in-Err-declare-clause-fault c =
     let line = rw c.in-Ok-Some.field-0-is at c.in-Ok-Some.ensures.whole in
-    let is = ap Some (sym c.in-Some-List.field-0-is) ∙ sym c.in-Some-List.is ∙ c.read_head.ensures.value in
+    let is = ap Some (sym c.in-Some-List.field-0-is) ∙ sym c.in-Some-List.is ∙ c.read_head_among.ensures.value in
     map_fault (λ fails. record_list c.args.self.now c.args.bytes.now c.in-Ok-Some.halves.0.now c.in-Ok-Some.halves.1.now c.in-Some-List.name c.in-Some-List.size (Err c.in-Err-declare.fault) line is fails) c.in-Err-declare.ensures.fault
 
 pub returns-in-Ok-Some-read_change-clause-moves : goal.returns-in-Ok-Some-read_change-clause-moves
 returns-in-Ok-Some-read_change-clause-moves c =
     let line = rw c.in-Ok-Some.field-0-is at c.in-Ok-Some.ensures.whole in
-    let is = ap Some (sym c.in-Some-Change.field-0-is) ∙ sym c.in-Some-Change.is ∙ c.read_head.ensures.value in
+    let is = ap Some (sym c.in-Some-Change.field-0-is) ∙ sym c.in-Some-Change.is ∙ c.read_head_among.ensures.value in
     change_moves c.args.self.now c.read_change.new.self c.args.bytes.now c.in-Ok-Some.halves.0.now c.in-Ok-Some.halves.1.now c.in-Ok-Some-read_change.last.now c.in-Some-Change.list c.in-Some-Change.to_add c.in-Some-Change.to_remove 132096 line is (rw c.in-Ok-Some-read_change.field-0-is at c.in-Ok-Some-read_change.ensures.moves)
 
 pub returns-in-Ok-None-read_change-clause-waits : goal.returns-in-Ok-None-read_change-clause-waits
 returns-in-Ok-None-read_change-clause-waits c =
     let line = rw c.in-Ok-Some.field-0-is at c.in-Ok-Some.ensures.whole in
-    let is = ap Some (sym c.in-Some-Change.field-0-is) ∙ sym c.in-Some-Change.is ∙ c.read_head.ensures.value in
+    let is = ap Some (sym c.in-Some-Change.field-0-is) ∙ sym c.in-Some-Change.is ∙ c.read_head_among.ensures.value in
     change_waits c.args.self.now c.args.bytes.now c.in-Ok-Some.halves.0.now c.in-Ok-Some.halves.1.now c.in-Some-Change.list c.in-Some-Change.to_add c.in-Some-Change.to_remove line is (rw c.in-Ok-None-read_change.field-0-is at c.in-Ok-None-read_change.ensures.waits)
 
 pub returns-in-Err-read_change-clause-fault : goal.returns-in-Err-read_change-clause-fault
 returns-in-Err-read_change-clause-fault c =
     let line = rw c.in-Ok-Some.field-0-is at c.in-Ok-Some.ensures.whole in
-    let is = ap Some (sym c.in-Some-Change.field-0-is) ∙ sym c.in-Some-Change.is ∙ c.read_head.ensures.value in
+    let is = ap Some (sym c.in-Some-Change.field-0-is) ∙ sym c.in-Some-Change.is ∙ c.read_head_among.ensures.value in
     map_fault (λ fails. change_fails c.args.self.now c.args.bytes.now c.in-Ok-Some.halves.0.now c.in-Ok-Some.halves.1.now c.in-Some-Change.list c.in-Some-Change.to_add c.in-Some-Change.to_remove c.in-Err-read_change.fault line is fails) c.in-Err-read_change.ensures.fault
 
 pub returns-in-Ok-clause-back : goal.returns-in-Ok-clause-back
