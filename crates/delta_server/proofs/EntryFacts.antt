@@ -11,7 +11,7 @@ use Rattle.sb_model.specs.History.{prefix_of, without_hash, with_added}
 use Rattle.delta_server.specs.Counts.{has_prefix, holders_of, Gains, prefix_at, AreApart}
 use Rattle.delta_server.proofs.SetCounts.{equal_bytes, same_bytes, other_bytes}
 
-flip_other : (a b : List ℕ) → bytes_eq a b ≡ false → bytes_eq b a ≡ false
+pub flip_other : (a b : List ℕ) → bytes_eq a b ≡ false → bytes_eq b a ≡ false
 flip_other a b other = other_bytes b a (λ e. false≢true (sym other ∙ same_bytes a b (sym e)))
 
 -- ---- without a hash

@@ -4,6 +4,7 @@ pub mod EntryFacts
 pub mod FindFacts
 pub mod Membership
 pub mod NumberFacts
+pub mod SameFacts
 pub mod SetCounts
 pub mod SetFacts
 pub mod TargetFacts

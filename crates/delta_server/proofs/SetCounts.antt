@@ -183,3 +183,13 @@ difference_by_shared held set shared stay known =
     let second : kept held set + length (added_members held set) ≡ length set =
     length-filter_both (has_member held) (λ (x : List ℕ). not (has_member held x)) (λ x. refl) set in
     omega (arith, first, second, stay, known)
+
+-- a set keeps all of its own members
+all_kept : (set members : List (List ℕ)) → ((x : List ℕ) → In x members → In x set) → kept set members ≡ length members
+all_kept set [] own = refl
+all_kept set (m ∷ ms) own =
+    ap (λ (b : Bool). length (cond b (m ∷ filter (has_member set) ms) (filter (has_member set) ms))) (in_has set m (own m (inl refl)))
+    ∙ ap suc (all_kept set ms (λ x h. own x (inr h)))
+
+pub kept_whole : (set : List (List ℕ)) → kept set set ≡ length set
+kept_whole set = all_kept set set (λ x h. h)

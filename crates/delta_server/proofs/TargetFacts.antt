@@ -3,7 +3,6 @@ use Rattle.std.proofs.Common.{◌≡◌, ℕ, zero, suc, ◌+◌, ◌-◌, ◌<�
 use Rattle.std.specs.Prelude.{◌==◌, ◌&&◌, ◌||◌, nat_le, filter, fold, if◌then◌else◌}
 use Rattle.std.proofs.lemmas.Bool.{eq-eqb, eqb-true, le-leb}
 use Rattle.std.specs.Option.{IfSome, unwrap_or}
-use Rattle.std.proofs.lemmas.List.{take_all}
 use Rattle.sb_model.specs.declared.history.Added.{Added}
 use Rattle.sb_model.specs.declared.history.Change.{Change}
 use Rattle.sb_model.specs.declared.names.ListName.{ListName}
@@ -119,6 +118,12 @@ module _ (history : History) (list : ListName) (held max_update max_database : �
 
 -- ---- the target of one who holds a version, or none
 
+-- nobody is brought back
+pub goes_on : (history : History) (list : ListName) (from : Option ℕ) (max_update max_database : ℕ)
+    → IfSome from (λ version. version ≤ version_count history) → IfSome from (λ held. held ≤ target_version history list from max_update max_database)
+goes_on history list None max_update max_database within = tt
+goes_on history list (Some held) max_update max_database within = omega (arith, target_some history list held max_update max_database within)
+
 pub target_is : (history : History) (list : ListName) (from : Option ℕ) (max_update max_database first taken : ℕ) (held : List (List ℕ))
     → IfSome from (λ version. version ≤ version_count history) → first ≡ unwrap_or from 0 → held ≡ held_set list from history.changes
     → taken ≡ changes_taken list held (entries_after list [] history.changes first) (drop first history.changes) max_update max_database
@@ -136,10 +141,11 @@ target_is history list (Some version) max_update max_database first taken held w
     ∙ ap (λ (h : List (List ℕ)). changes_taken list h (entries_after list [] history.changes version) (drop version history.changes) max_update max_database) own)
     ∙ sym (target_some history list version max_update max_database within)
 
--- what passing a whole front leads to
-pub front_passed : (list : ListName) (changes : List Change) (first : ℕ) (front : List Change) → front ≡ take first changes
-    → entries_after list [] front (length front) ≡ entries_after list [] changes first
-front_passed list changes first front is = ap (fold (after_change list) []) (take_all (length front) front (omega arith) ∙ is)
+-- the set of a held version, and none where none is held
+pub held_is : (list : ListName) (from : Option ℕ) (changes : List Change) (first : ℕ) → first ≡ unwrap_or from 0
+    → held_set list from changes ≡ published (entries_after list [] changes first)
+held_is list None changes first is = ap (λ (n : ℕ). published (entries_after list [] changes n)) (sym is)
+held_is list (Some version) changes first is = ap (λ (n : ℕ). published (entries_after list [] changes n)) (sym is)
 
 pub walk_is : (list : ListName) (held own : List (List ℕ)) (entries : List Added) (changes recorded rest : List Change) (first max_update max_database : ℕ) → recorded ≡ changes
     → held ≡ own → entries ≡ entries_after list [] changes first → rest ≡ drop first changes

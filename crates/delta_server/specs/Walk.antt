@@ -1,5 +1,5 @@
 -- The versions that a walk over changes comes by, and which of them a client may be brought to.
-use Rattle.std.specs.Prelude.{ℕ, Bool, ◌&&◌, List, [], length, take, map, fold, All, Option, Some, None}
+use Rattle.std.specs.Prelude.{ℕ, ◌↔◌, Contains, Bool, ◌&&◌, List, [], length, take, map, fold, All, Option, Some, None}
 use Rattle.sb_model.specs.declared.history.Added.{Added}
 use Rattle.sb_model.specs.declared.history.Change.{Change}
 use Rattle.sb_model.specs.declared.names.ListName.{ListName}
@@ -33,3 +33,7 @@ HasSizes change = All (λ added. IsPrefixSize added.size) change.adds
 abbrev pub held_set : ListName → Option ℕ → List Change → List (List ℕ)
 held_set list None changes = []
 held_set list (Some version) changes = published (entries_after list [] changes version)
+
+-- two lists have the same members
+abbrev pub HaveSame : List Added → List Added → Type 0
+HaveSame first second = (entry : Added) → Contains first entry ↔ Contains second entry

@@ -1,4 +1,4 @@
-ghost use Rattle.std.specs.Prelude.{◌≡◌, ◌<◌, ◌^◌, List, [], ◌∷◌, length, nat_eq, IfOk, OnOk};
+ghost use Rattle.std.specs.Prelude.{◌≡◌, ◌<◌, ◌^◌, List, [], ◌∷◌, length, take, nat_eq, IfOk, OnOk};
 ghost use Rattle.std.specs.Cmp.{partial_equiv_from_equiv};
 ghost use Rattle.std.specs.Cmp.Lexicographic.{pointwise, nat_list_eq_equiv};
 ghost use Rattle.std.proofs.Common.{ap};
@@ -14,8 +14,8 @@ use std::collections::HashMap;
 use std::hash::{Hash, Hasher};
 use std::marker::Model;
 
-/// A full hash as the key of a map, whose bytes are hashed in one write. Contracts see it as its
-/// bytes.
+/// A full hash as the key of a map, of which the first eight bytes are hashed: no more than 16 of the
+/// full hashes of a version share their first four. Contracts see it as its bytes.
 #[derive(Drop)]
 pub(crate) struct HashKey {
     bytes: [u8; 32],
@@ -44,12 +44,12 @@ impl Eq for HashKey {
 }
 
 impl Hash for HashKey {
-    ghost hash_input = { λ key. key ∷ [] };
+    ghost hash_input = { λ key. take 8 key ∷ [] };
 
-    ghost respects_eq = { λ x y same. ap (λ bytes. bytes ∷ []) ((bytes_eq-Decides x y).0 same) };
+    ghost respects_eq = { λ x y same. ap (λ bytes. take 8 bytes ∷ []) ((bytes_eq-Decides x y).0 same) };
 
     fn hash<H: Hasher>(&self, state: &mut H) {
-        state.write(&self.bytes);
+        state.write(&self.bytes[..8]);
     }
 }
 
@@ -61,12 +61,12 @@ pub(crate) struct Hashes {
 }
 
 impl Hashes {
-    pub(crate) fn new(alloc: Global) -> Hashes
-        ensures { Knows result [] }
+    // No full hashes, with room for some.
+    pub(crate) fn with_capacity(alloc: Global, count: usize) -> Result<Hashes, OutOfMemory>
+        ensures { IfOk result (λ hashes. Knows hashes []) }
     {
-        Hashes {
-            prefixes: HashMap::new(alloc),
-        }
+        let prefixes = HashMap::with_capacity(alloc, count)?;
+        Ok(Hashes { prefixes })
     }
 
     // Takes a full hash out, and gives its prefix where it was there.

@@ -58,14 +58,34 @@ pub(crate) struct Holders<'a> {
 }
 
 impl<'a> Holders<'a> {
-    pub(crate) fn new(alloc: Global, held: &'a PrefixSet) -> Holders<'a>
-        ensures held { result.held.now ≡ held.now }
-        ensures counts { Counts result [] }
+    // No full hashes, with room for the prefixes of some.
+    pub(crate) fn with_capacity(
+        alloc: Global,
+        held: &'a PrefixSet,
+        count: usize,
+    ) -> Result<Holders<'a>, OutOfMemory>
+        ensures held { IfOk result (λ holders. holders.held.now ≡ held.now) }
+        ensures counts { IfOk result (λ holders. Counts holders []) }
     {
+        let counts = HashMap::with_capacity(alloc, count)?;
+        Ok(Holders {
+            held,
+            counts,
+            shared: 0,
+        })
+    }
+
+    /// The same counts beside another held set, whose prefixes are those of the full hashes.
+    pub(crate) fn beside<'b>(self, held: &'b PrefixSet) -> Holders<'b>
+        ensures counts { (entries : List Entry) → held.now ≡ published entries
+            → Counts self.entry entries → Counts result entries }
+        ensures held { result.held.now ≡ held.now }
+    {
+        sets_go_by_members();
         Holders {
             held,
-            counts: HashMap::new(alloc),
-            shared: 0,
+            counts: self.counts,
+            shared: u64::from(held.len()),
         }
     }
 

@@ -5,12 +5,11 @@ ghost use Rattle.update_messages.specs.Answer.{version_named, update_to, update_
 ghost use Rattle.delta_server.specs.Served.{IsServed};
 ghost use Rattle.delta_server.specs.Tokens.{server_naming};
 
-use crate::served::{Served, prefixes_at, served_list};
+use crate::served::{Served, held_at, later_prefixes, prefixes_at, served_list};
 use crate::target::{Limits, target};
 use crate::tokens::{held_version, state_token};
 use crate::updates::{Sent, full_update, partial_update, unchanged_update};
 use list_versions::History;
-use prefix_set::PrefixSet;
 use sb_model::{OutOfMemory, Row};
 use std::alloc::Global;
 use update_messages::{ListRequest, ListUpdate};
@@ -38,7 +37,7 @@ fn whole_answer(
         (target_version history.now.versions asked.now.name None asked.now.max_update asked.now.max_database)) }
 {
     let list = asked.name;
-    let nothing = PrefixSet::empty(alloc);
+    let nothing = held_at(alloc, history, list, 0)?;
     let version = target(
         alloc,
         history,
@@ -85,14 +84,14 @@ fn partial_answer(
         let token = state_token(history.epoch(), list, held);
         return unchanged_update(alloc, asked, served.digest, token);
     }
-    let old = prefixes_at(alloc, history, list, held)?;
+    let mut before = held_at(alloc, history, list, held)?;
     let version = target(
         alloc,
         history,
         list,
         served,
         Some(held),
-        &old,
+        &before,
         limits_of(asked),
     )?;
     let token = state_token(history.epoch(), list, version);
@@ -102,16 +101,17 @@ fn partial_answer(
             digest: served.digest,
             token,
         };
-        return partial_update(alloc, asked, served.size, &old, &newest);
+        return partial_update(alloc, asked, served.size, &before.set, &newest);
     }
-    let set = prefixes_at(alloc, history, list, version)?;
+    let folding = &mut before.folding;
+    let set = later_prefixes(alloc, history, list, folding, held, version)?;
     let digest = set.digest();
     let older = Sent {
         set: &set,
         digest,
         token,
     };
-    partial_update(alloc, asked, served.size, &old, &older)
+    partial_update(alloc, asked, served.size, &before.set, &older)
 }
 
 // The version that the asked state names, where it names one.

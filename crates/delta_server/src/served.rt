@@ -1,8 +1,9 @@
 ghost use Rattle.std.specs.Prelude.{◌≡◌, ◌≤◌, true, false, IfOk, IfSome, IfNone};
-ghost use Rattle.sb_model.specs.History.{declares, version_count, prefixes_at};
+ghost use Rattle.sb_model.specs.History.{declares, version_count, sizes_at, prefixes_at};
+ghost use Rattle.list_versions.specs.HashSizes.{IsMapOf};
 ghost use Rattle.delta_server.specs.Served.{IsServed};
 
-use list_versions::History;
+use list_versions::{Folding, History};
 use prefix_set::PrefixSet;
 use sb_model::{ListName, OutOfMemory};
 use std::alloc::Global;
@@ -47,5 +48,47 @@ pub(crate) fn prefixes_at(
     let Some(set) = history.prefixes(alloc, list, version)? else {
         unreachable!()
     };
+    Ok(set)
+}
+
+/// The full hashes of a list at a version that a client holds, and their prefixes.
+#[derive(Drop)]
+pub(crate) struct Held {
+    pub(crate) folding: Folding,
+    pub(crate) set: PrefixSet,
+}
+
+/// A version of a list that a client holds.
+pub(crate) fn held_at(
+    alloc: Global,
+    history: &History,
+    list: ListName,
+    version: u64,
+) -> Result<Held, OutOfMemory>
+    requires { version ≤ version_count history.now.versions }
+    ensures folding { IfOk result (λ held. IsMapOf held.folding (sizes_at history.now.versions list version)) }
+    ensures set { IfOk result (λ held. held.set ≡ prefixes_at history.now.versions list version) }
+{
+    let folding = history.folding(alloc, list, version)?;
+    let set = folding.prefixes(alloc)?;
+    Ok(Held { folding, set })
+}
+
+/// The prefixes of a list at a version, where its full hashes at an earlier one were folded.
+pub(crate) fn later_prefixes(
+    alloc: Global,
+    history: &History,
+    list: ListName,
+    folding: &mut Folding,
+    from: u64,
+    to: u64,
+) -> Result<PrefixSet, OutOfMemory>
+    requires folding { IsMapOf folding.old (sizes_at history.now.versions list from) }
+    requires order { from ≤ to }
+    requires within { to ≤ version_count history.now.versions }
+    ensures { IfOk result (λ set. set ≡ prefixes_at history.now.versions list to) }
+{
+    history.fold_on(folding, list, from, to)?;
+    let set = folding.prefixes(alloc)?;
     Ok(set)
 }

@@ -1,14 +1,16 @@
 ghost use Rattle.std.specs.Prelude.{◌≡◌, ℕ, ◌≤◌, List, true, IfOk, IfSome, IsTrue};
-ghost use Rattle.sb_model.specs.History.{version_count};
+ghost use Rattle.std.specs.Option.{unwrap_or};
+ghost use Rattle.sb_model.specs.History.{version_count, sizes_at, prefixes_at};
 ghost use Rattle.sb_model.specs.Target.{target_version};
+ghost use Rattle.list_versions.specs.HashSizes.{IsMapOf};
 ghost use Rattle.delta_server.specs.Served.{IsServed};
-ghost use Rattle.delta_server.specs.Walk.{may_take, held_set};
+ghost use Rattle.delta_server.specs.Walk.{may_take};
 
-use crate::served::Served;
+use crate::served::{Held, Served};
 use crate::version::is_within;
 use crate::walk::target_of;
 use list_versions::History;
-use prefix_set::PrefixSet;
+use prefix_set::{PrefixSet, sets_go_by_members};
 use sb_model::{ListName, OutOfMemory, targets_are_the_greatest};
 use std::alloc::Global;
 
@@ -30,8 +32,8 @@ fn may_surely_take(held: &PrefixSet, newer: &PrefixSet, limits: Limits) -> bool
     is_within(limits.update, most) && is_within(limits.database, u64::from(newer.len()))
 }
 
-/// The version of a list that a client is brought to, who holds a version of it or none, and the
-/// set of the version that it holds, or the empty set. It walks through the changes only where the
+/// The version of a list that a client is brought to, who holds a version of it or none: what was
+/// folded of the version that it holds, or of version 0. It walks through the changes only where the
 /// limits may keep the client from the newest version.
 pub(crate) fn target(
     alloc: Global,
@@ -39,26 +41,31 @@ pub(crate) fn target(
     list: ListName,
     served: &Served<'_>,
     from: Option<u64>,
-    held: &PrefixSet,
+    before: &Held,
     limits: Limits,
 ) -> Result<u64, OutOfMemory>
     requires served { IsServed served.now history.now.versions list }
     requires within { IfSome from (λ version. version ≤ version_count history.now.versions) }
-    requires held { held.now ≡ held_set list from history.now.versions.changes }
+    requires folding { IsMapOf before.now.folding (sizes_at history.now.versions list (unwrap_or from 0)) }
+    requires held { before.now.set ≡ prefixes_at history.now.versions list (unwrap_or from 0) }
     ensures target { IfOk result (λ version. version
         ≡ target_version history.now.versions list from limits.update limits.database) }
     ensures within { IfOk result (λ version. version ≤ version_count history.now.versions) }
+    ensures onward { IfOk result (λ version. IfSome from (λ held. held ≤ version)) }
 {
+    sets_go_by_members();
     targets_are_the_greatest();
-    if may_surely_take(held, served.set, limits) {
+    if may_surely_take(&before.set, served.set, limits) {
         return Ok(history.len());
     }
     let _ = history.len();
+    let entries = before.folding.entries(alloc)?;
     target_of(
         alloc,
         list,
         from,
-        held,
+        &before.set,
+        &entries,
         history.changes(),
         limits.update,
         limits.database,

@@ -36,14 +36,18 @@ fn concerns(change: &Change, list: ListName) -> bool
 }
 
 impl<'a> Version<'a> {
-    fn new(alloc: Global, held: &'a PrefixSet) -> Version<'a>
-        ensures stands { Stands result [] }
-        ensures held { result.holders.held.now ≡ held.now }
+    // No full hashes, with room for some.
+    fn with_capacity(
+        alloc: Global,
+        held: &'a PrefixSet,
+        count: usize,
+    ) -> Result<Version<'a>, OutOfMemory>
+        ensures stands { IfOk result (λ version. Stands version []) }
+        ensures held { IfOk result (λ version. version.holders.held.now ≡ held.now) }
     {
-        Version {
-            hashes: Hashes::new(alloc),
-            holders: Holders::new(alloc, held),
-        }
+        let hashes = Hashes::with_capacity(alloc, count)?;
+        let holders = Holders::with_capacity(alloc, held, count)?;
+        Ok(Version { hashes, holders })
     }
 
     // Takes a full hash out.
@@ -106,9 +110,21 @@ impl<'a> Version<'a> {
         ensures stands { IfOk result (λ version. Stands version entries.now) }
         ensures held { IfOk result (λ version. version.holders.held.now ≡ held.now) }
     {
-        let mut version = Version::new(alloc, held);
+        let mut version = Version::with_capacity(alloc, held, entries.len())?;
         version.add_each(entries)?;
         Ok(version)
+    }
+
+    /// The same version beside another held set, which is its own.
+    pub(crate) fn beside<'b>(self, held: &'b PrefixSet) -> Version<'b>
+        ensures stands { (entries : List Entry) → held.now ≡ published entries
+            → Stands self.entry entries → Stands result entries }
+        ensures held { result.holders.held.now ≡ held.now }
+    {
+        Version {
+            hashes: self.hashes,
+            holders: self.holders.beside(held),
+        }
     }
 
     /// Goes on to the version after a change.

@@ -1,33 +1,17 @@
 ghost use Rattle.std.specs.Prelude.{◌≡◌, ℕ, ◌+◌, ◌^◌, ◌<◌, ◌≤◌, List, [], length, drop, All, IfOk, OnOk, IfSome, if◌then◌else◌};
+ghost use Rattle.std.specs.Option.{unwrap_or};
 ghost use Rattle.sb_model.specs.declared.history.Added.{Added as Entry};
 ghost use Rattle.sb_model.specs.declared.history.Change.{Change as Recorded};
 ghost use Rattle.sb_model.specs.History.{History, IsPrefixSize};
 ghost use Rattle.sb_model.specs.Target.{target_version};
 ghost use Rattle.delta_server.specs.Counts.{AreApart};
 ghost use Rattle.delta_server.specs.Version.{Stands};
-ghost use Rattle.delta_server.specs.Walk.{HasSizes, entries_after, may_take, changes_taken, held_set, published};
+ghost use Rattle.delta_server.specs.Walk.{HasSizes, HaveSame, entries_after, may_take, changes_taken, published};
 
 use crate::version::Version;
-use prefix_set::PrefixSet;
+use prefix_set::{PrefixSet, sets_go_by_members};
 use sb_model::{Added, Change, ListName, OutOfMemory};
 use std::alloc::Global;
-
-// Goes on through some changes.
-fn pass_each(
-    version: &mut Version<'_>,
-    list: ListName,
-    changes: &[Change],
-) -> Result<(), OutOfMemory>
-    requires { All HasSizes changes.now }
-    ensures ok { OnOk result ((entries : List Entry) → Stands version.old entries
-        → Stands version.new (entries_after list entries changes.now (length changes.now))) }
-    ensures held { version.new.holders.held.now ≡ version.old.holders.held.now }
-{
-    for change in changes {
-        version.change(list, change)?;
-    }
-    Ok(())
-}
 
 // How many changes are taken once one more was passed: that one and those before it, where the
 // holder of the held set may be brought to the version after it.
@@ -92,26 +76,33 @@ pub fn changes_taken(
     taken_from(&mut version, list, changes, max_update, max_database)
 }
 
-/// The version that a client is brought to, who holds a version of the list or none, and the set of
-/// the version that it holds, or the empty set. It goes through the changes once.
+/// The version that a client is brought to, who holds a version of the list or none: the set of the
+/// version that it holds and its full hashes, or the empty set and none. It goes through the changes
+/// after that version once.
 pub fn target_of(
     alloc: Global,
     list: ListName,
     from: Option<u64>,
     held: &PrefixSet,
+    entries: &[Added],
     changes: &[Change],
     max_update: u32,
     max_database: u32,
 ) -> Result<u64, OutOfMemory>
     requires within { IfSome from (λ version. version ≤ length changes.now) }
-    requires held { held.now ≡ held_set list from changes.now }
+    requires held { held.now ≡ published entries.now }
+    requires apart { AreApart entries.now }
+    requires sizes { All (λ added. IsPrefixSize added.size) entries.now }
+    requires same { HaveSame entries.now (entries_after list [] changes.now (unwrap_or from 0)) }
     requires added { All HasSizes changes.now }
     ensures { IfOk result (λ version. (history : History) → history.changes ≡ changes.now
         → version ≡ target_version history list from max_update max_database) }
 {
+    sets_go_by_members();
     let first = from.unwrap_or(0) as usize;
-    let mut version = Version::start(alloc, held, &[])?;
-    pass_each(&mut version, list, &changes[..first])?;
+    let nothing = PrefixSet::empty(alloc);
+    let alone = Version::start(alloc, &nothing, entries)?;
+    let mut version = alone.beside(held);
     let taken = taken_from(
         &mut version,
         list,

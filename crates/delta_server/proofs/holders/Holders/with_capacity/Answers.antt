@@ -1,12 +1,12 @@
 use Rattle.std.proofs.Common.{refl, ap, List}
 use Rattle.delta_server.specs.Counts.{found_in}
 use Rattle.delta_server.proofs.CountFacts.{nothing_held}
-use Rattle.delta_server.proofs.holders.Holders.new.Goals as goal
+use Rattle.delta_server.proofs.holders.Holders.with_capacity.Goals as goal
 
 pub returns-clause-counts : goal.returns-clause-counts
 returns-clause-counts c = record {
-  holders = λ prefix. ap (λ (es : List _). found_in es prefix) c.new.ensures.empty;
-  members = c.new.ensures.len;
+  holders = λ prefix. ap (λ (es : List _). found_in es prefix) c.in_ok-counts.ensures.empty;
+  members = c.in_ok-counts.ensures.len;
   stay = nothing_held c.args.held.now;
   known = refl;
 }
