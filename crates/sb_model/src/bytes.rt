@@ -1,9 +1,10 @@
-ghost use Rattle.std.specs.Prelude.{◌≡◌, ℕ, ◌<◌, ◌≤◌, ◌↔◌, List, [], ◌∷◌, ◌++◌, length, take, nat_eq, slice_index, IsTrue, IfOk, OnOk, OnErr};
+ghost use Rattle.std.specs.Prelude.{◌≡◌, ℕ, ◌<◌, ◌≤◌, ◌↔◌, List, [], ◌∷◌, ◌++◌, length, take, decimal, nat_eq, slice_index, IsTrue, IfOk, OnOk, OnErr};
 ghost use Rattle.std.specs.Cmp.{partial_equiv_from_equiv};
 ghost use Rattle.std.specs.Cmp.Lexicographic.{pointwise, nat_list_eq_equiv};
 ghost use Rattle.std.specs.Slice.Iter.{iter_rest};
 
 use crate::{OutOfMemory, TryCopy};
+use itoa::Buffer;
 use std::alloc::Global;
 use std::marker::Model;
 use std::slice;
@@ -112,6 +113,15 @@ impl Bytes {
     {
         self.items.extend_from_slice(bytes)?;
         Ok(())
+    }
+
+    /// Appends a number in decimal digits, without zeros before them.
+    pub fn append_decimal(&mut self, number: u64) -> Result<(), OutOfMemory>
+        ensures ok { OnOk result (self.new ≡ self.old ++ decimal number) }
+        ensures err { OnErr result (self.new ≡ self.old) }
+    {
+        let mut buffer = Buffer::new();
+        self.append(buffer.format(number).as_bytes())
     }
 
     /// Keeps the first `count` bytes, or all where there are no more.

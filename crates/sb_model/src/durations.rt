@@ -178,8 +178,8 @@ pub fn write_duration(alloc: Global, duration: Duration) -> Result<Bytes, OutOfM
     ensures value { IfOk result (λ text. text ≡ duration_text duration) }
     ensures read_again { IfOk result (λ text. duration_of text ≡ Ok duration) }
 {
-    let mut buffer = Buffer::new();
-    let mut text = Bytes::from_slice(alloc, buffer.format(duration.seconds()).as_bytes())?;
+    let mut text = Bytes::new(alloc);
+    text.append_decimal(duration.seconds())?;
     push_nanos(&mut text, duration.nanos())?;
     text.push(b's')?;
     Ok(text)
