@@ -1,47 +1,57 @@
 # Builds the programs, and tries, compares and measures them.
 #
-# The toolchain builds a program only once it is proved, so the first build proves the program and
-# what it stands on; a later one proves what has changed since. The code is optimised (LLVM, -O3).
+# The toolchain builds a program only once it is proved, so the first build proves the programs and what they stand on; a
+# later one proves what has changed since. The code is optimised (LLVM, -O3).
 
 SHELL := /bin/bash
 LIST := MALWARE/ANY_PLATFORM/URL
-PROGRAMS := sbupdate sbcheck sblistd kernels find_kernels
-SOURCES := crates.txt HANDLES $(shell find crates \( -name out -o -name must-fail \) -prune -o -type f -print)
+PROGRAMS := sbupdate sbcheck sblistd kernels
+BUILT := $(wildcard bin/sbupdate bin/sblistd)
 
-.PHONY: all test demo compare try-http try-run bench clean
-.DELETE_ON_ERROR:
+.PHONY: all test check gate wrong-bodies demo compare try-http try-run bench clean
 
-all: $(PROGRAMS:%=bin/%)
-
-# `rt run` runs what it has built, here as its example does but with nothing to read. What the program answers then
-# does not count, as `sblistd` finds no journal: it was built, or it was not.
-bin/%: $(SOURCES)
-	rm -f crates/$*/out/$*
-	cd crates/$* && rt run -- $$(< args) < /dev/null > /dev/null || test -x out/$*
-	mkdir -p bin
-	cp crates/$*/out/$* $@
+all:
+	python3 tools/build.py $(PROGRAMS)
 
 test:
-	rt ci
+	.ci/run
+
+# The repository's own checks alone, without a proof.
+check:
+	tools/check.sh
+
+# The gate, and what each crate cost of it.
+gate:
+	python3 tools/gate.py
+
+# Tries the wrong bodies that the gate leaves alone: those of the crates in NAMES, or all.
+wrong-bodies:
+	python3 tools/wrong_bodies.py try $(NAMES)
 
 # The recording has an update with a wrong checksum, the same update with the right one, a later one whose
-# prefixes come in no order, and a partial one. The first is refused, so the replay ends with status 5. Then a server
-# and a client of it run: up to 66 seconds.
-demo: bin/sbupdate bin/sblistd
+# prefixes come in no order, and a partial one. The first is refused, so the replay ends with status 5. Where the programs
+# are built, a server and a client of it run too: up to 66 seconds.
+demo:
+ifneq ($(words $(BUILT)),2)
+	@echo "bin/ has no programs yet: this runs the same code compiled without its proofs. make proves and builds it."
+	@cd crates/sbupdate && rt try -- replay $(LIST) < ../../demo/recording.jsonl; status=$$?; \
+	  echo "status $$status"; test $$status -eq 5
+else
 	@bin/sbupdate replay $(LIST) < demo/recording.jsonl; status=$$?; \
 	  echo "status $$status"; test $$status -eq 5
 	@bash demo/run.sh
+endif
 
 # A second program of the same rules, in Python, has to print what sbupdate, sbcheck and sblistd print.
-compare: bin/sbupdate bin/sbcheck bin/sblistd
+compare: all
 	python3 compare/compare.py
 
 # Drives sblistd over loopback with curl.
-try-http: bin/sblistd
+try-http: all
 	bash try/http.sh
 
 # Kills fifty clients in mid-run, and sees that the next run of each comes to the server's set.
-try-run: bin/sblistd bin/sbupdate
+try-run: all
 	bash try/run.sh
 
 bench: all

@@ -26,7 +26,6 @@ REPOSITORY = os.path.dirname(os.path.dirname(os.path.abspath(__file__)))
 SBUPDATE = os.path.join(REPOSITORY, "bin", "sbupdate")
 SBLISTD = os.path.join(REPOSITORY, "bin", "sblistd")
 KERNELS = os.path.join(REPOSITORY, "bin", "kernels")
-FIND_KERNELS = os.path.join(REPOSITORY, "bin", "find_kernels")
 
 LIST = "MALWARE/ANY_PLATFORM/URL"
 OTHER_LIST = "SOCIAL_ENGINEERING/ANY_PLATFORM/URL"
@@ -186,15 +185,15 @@ def bench_replay(title, path, runs):
         tell(f"yardstick, sorted as {name}", f"{wanted * 1e3:.1f} ms", ratio)
 
 
-def processor_times(kernels, count, runs, program=KERNELS):
-    """The processor time of each kernel of a program.
+def processor_times(kernels, count, runs):
+    """The processor time of each kernel.
 
     They take turns, so that what else runs disturbs them alike.
     """
     best = [float("inf")] * len(kernels)
     for _ in range(runs):
         for place, kernel in enumerate(kernels):
-            _, took = run([program, kernel, str(count), "1"])
+            _, took = run([KERNELS, kernel, str(count), "1"])
             best[place] = min(best[place], took)
     return best
 
@@ -359,7 +358,7 @@ def bench_sets(runs):
 
 def bench_cache(runs):
     """Questions to a full cache. Each pair has two matches, and is asked for one of them and for another hash in turn."""
-    hashes, ask = processor_times(("cache-hashes", "cache-ask"), CACHE_ANSWERS, runs, FIND_KERNELS)
+    hashes, ask = processor_times(("cache-hashes", "cache-ask"), CACHE_ANSWERS, runs)
     print("kept answers, 4,096 pairs with two matches each")
     took = ask - hashes
     tell(f"{CACHE_ANSWERS:,} answers", f"{took * 1e3:.1f} ms", f"{took / CACHE_ANSWERS * 1e9:.0f} ns an answer")
@@ -369,7 +368,7 @@ def bench_finds(runs):
     """Finds by themselves, without journal, JSON and sockets: of every second prefix the list has a full hash."""
     counts = (1, 30, 1_024)
     kernels = ["find-list"] + [f"find-{count}" for count in counts]
-    made, *times = processor_times(kernels, FOUND_HASHES, runs, FIND_KERNELS)
+    made, *times = processor_times(kernels, FOUND_HASHES, runs)
     print(f"finds over a list of {FOUND_HASHES:,} full hashes")
     for count, found in zip(counts, times):
         finds, took = FOUND_PREFIXES // count, found - made

@@ -1,3 +1,4 @@
+use list_versions::JournalFault;
 use prefix_set::ApplyFault;
 use rice_coding::RiceFault;
 use sb_model::OutOfMemory;
@@ -18,6 +19,7 @@ pub enum KernelFault {
     Rice(RiceFault),
     Set(ApplyFault),
     Url(UrlFault),
+    Journal(JournalFault),
     /// A response was not read as it was written.
     Message,
     OutOfMemory,
@@ -32,6 +34,7 @@ impl fmt::Display for KernelFault {
             KernelFault::Rice(fault) => write!(f, "{fault}"),
             KernelFault::Set(fault) => write!(f, "{fault}"),
             KernelFault::Url(fault) => write!(f, "{fault}"),
+            KernelFault::Journal(fault) => write!(f, "{fault}"),
             KernelFault::Message => write!(f, "the response was not read"),
             KernelFault::OutOfMemory => write!(f, "out of memory"),
         }
@@ -49,6 +52,12 @@ impl From<RiceFault> for KernelFault {
 impl From<UrlFault> for KernelFault {
     fn from(fault: UrlFault) -> KernelFault {
         KernelFault::Url(fault)
+    }
+}
+
+impl From<JournalFault> for KernelFault {
+    fn from(fault: JournalFault) -> KernelFault {
+        KernelFault::Journal(fault)
     }
 }
 

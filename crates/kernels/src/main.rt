@@ -3,8 +3,12 @@
 //! that only makes its data.
 #![tactic(auto)]
 
+mod cache;
 mod fault;
+mod finds;
+mod hashes;
 mod messages;
+mod requests;
 mod rice;
 mod sets;
 mod url;
@@ -41,7 +45,13 @@ const USAGE: &str = "usage: kernels KERNEL COUNT SEED
   expressions           makes the URLs, their canonical forms and the expressions of those
   hostile-urls          makes COUNT URLs of 8,192 bytes that are long to work on
   hostile-canonical     makes those URLs, and their canonical forms
-  hostile-expressions   makes those URLs, their canonical forms and the expressions of those";
+  hostile-expressions   makes those URLs, their canonical forms and the expressions of those
+  cache-hashes          makes a cache of 4,096 pairs, and COUNT hashes
+  cache-ask             makes the cache and the hashes, and asks it for each
+  find-list             makes a list of at most COUNT full hashes
+  find-1                makes the list, and answers 1,048,576 finds of a prefix
+  find-30               makes the list, and answers 34,952 finds of 30 prefixes
+  find-1024             makes the list, and answers 1,024 finds of 1,024 prefixes";
 
 fn main(rt: HostRuntime) -> io::Result<ExitCode> {
     let mut words = env::args(&rt)?;
@@ -106,7 +116,7 @@ fn run_on_messages(alloc: Global, kernel: &str, count: u32, seed: u64) -> Result
     work_on_messages(alloc, coding, work, count, seed)
 }
 
-/// The checksum of a kernel that works on URLs.
+/// The checksum of a kernel that works on URLs, or of another.
 fn run_on_urls(alloc: Global, kernel: &str, count: u32, seed: u64) -> Result<u64, KernelFault> {
     let (texts, work) = match kernel {
         "urls" => (Texts::Usual, Work::Make),
@@ -115,7 +125,20 @@ fn run_on_urls(alloc: Global, kernel: &str, count: u32, seed: u64) -> Result<u64
         "hostile-urls" => (Texts::Hostile, Work::Make),
         "hostile-canonical" => (Texts::Hostile, Work::Canonical),
         "hostile-expressions" => (Texts::Hostile, Work::Expressions),
-        _ => return Err(KernelFault::Name),
+        _ => return run_on_finds(alloc, kernel, count, seed),
     };
     work_on_urls(alloc, texts, work, count, seed)
+}
+
+/// The checksum of a kernel of finds of full hashes.
+fn run_on_finds(alloc: Global, kernel: &str, count: u32, seed: u64) -> Result<u64, KernelFault> {
+    match kernel {
+        "cache-hashes" => cache::make_hashes(alloc, count, seed),
+        "cache-ask" => cache::ask_cache(alloc, count, seed),
+        "find-list" => finds::make_list(alloc, count, seed),
+        "find-1" => finds::answer_finds(alloc, count, 1, seed),
+        "find-30" => finds::answer_finds(alloc, count, 30, seed),
+        "find-1024" => finds::answer_finds(alloc, count, 1_024, seed),
+        _ => Err(KernelFault::Name),
+    }
 }
