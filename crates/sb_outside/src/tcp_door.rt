@@ -2,7 +2,7 @@ ghost use Rattle.std.specs.Prelude.{◌≡◌, ◌≢◌, ◌≤◌, None, Ok, t
 ghost use Rattle.sb_outside.specs.Outside.{Rose, raised};
 ghost use Rattle.sb_outside.specs.Tcp.{TcpListening};
 
-use crate::{Door, Failed, TcpLimits, TcpWire};
+use crate::{Door, Failed, TcpLimits, TcpWire, Why};
 use std::io::ErrorKind;
 use std::marker::Model;
 use std::net::{Net, SocketAddr, TcpListener, TcpStream};
@@ -18,6 +18,7 @@ pub struct TcpDoor<R> {
     limits: TcpLimits,
     taken: u64,
     faults: u64,
+    why: Option<Why>,
 }
 
 impl<R> Model for TcpDoor<R> {
@@ -36,13 +37,17 @@ impl<R: Net<Stream = TcpStream, Listener = TcpListener> + Drop> TcpDoor<R> {
         ensures taken { result.taken ≡ 0 }
         ensures faults { result.faults ≡ 0 }
     {
-        let listener = TcpListener::bind(&rt, address).ok();
+        let (listener, why) = match TcpListener::bind(&rt, address) {
+            Ok(listener) => (Some(listener), None),
+            Err(e) => (None, Some(Why::system("cannot be had", e))),
+        };
         TcpDoor {
             rt,
             listener,
             limits,
             taken: 0,
             faults: 0,
+            why,
         }
     }
 }
@@ -58,6 +63,7 @@ impl<R: Drop> TcpDoor<R> {
             limits: TcpLimits::STANDARD,
             taken: 0,
             faults: 0,
+            why: None,
         }
     }
 
@@ -79,6 +85,11 @@ impl<R: Drop> TcpDoor<R> {
         ensures { result ≡ self.now.faults }
     {
         self.faults
+    }
+
+    /// Why it is unusable, or why the last call failed.
+    pub fn why(&self) -> Option<Why> {
+        self.why
     }
 }
 
@@ -111,15 +122,24 @@ fn accept(rt: &impl time::Clock, listener: &TcpListener) -> io::Result<(TcpStrea
 }
 
 impl<R: time::Clock + Clone + Drop> TcpDoor<R> {
-    /// The next connection as a wire.
-    fn take_next(&self) -> Option<TcpWire<R>>
-        ensures number { IfSome result (λ wire. wire ≡ record { number = self.now.taken; read_faults = 0; write_faults = 0 }) }
-        ensures unusable { self.now.is_usable ≡ false → result ≡ None }
+    /// A connection as a wire.
+    fn wire(&self, stream: TcpStream, begun: Instant) -> Result<TcpWire<R>, Why>
+        ensures { IfOk result (λ wire. wire ≡ record { number = self.now.taken; read_faults = 0; write_faults = 0 }) }
     {
-        let listener = self.listener.as_ref()?;
-        let (stream, begun) = accept(&self.rt, listener).ok()?;
-        let rt = self.rt.clone().ok()?;
-        Some(TcpWire::new(rt, stream, begun, self.limits, self.taken))
+        match self.rt.clone() {
+            Ok(rt) => Ok(TcpWire::new(rt, stream, begun, self.limits, self.taken)),
+            Err(_) => Err(Why::refusal("takes no connections: out of memory")),
+        }
+    }
+
+    /// The next connection as a wire.
+    fn take_next(&self, listener: &TcpListener) -> Result<TcpWire<R>, Why>
+        ensures { IfOk result (λ wire. wire ≡ record { number = self.now.taken; read_faults = 0; write_faults = 0 }) }
+    {
+        match accept(&self.rt, listener) {
+            Ok((stream, begun)) => self.wire(stream, begun),
+            Err(e) => Err(Why::system("takes no connections", e)),
+        }
     }
 }
 
@@ -144,16 +164,17 @@ impl<R: time::Clock + Clone + Drop> Door for TcpDoor<R> {
         ensures failed { OnErr result (Rose self.old.faults self.new.faults) }
         ensures no_faults { IfOk result (λ next. IfSome next (λ wire. (wire.read_faults ≡ 0) × (wire.write_faults ≡ 0))) }
     {
-        match self.take_next() {
-            Some(wire) => {
-                self.taken = self.taken.saturating_add(1);
-                Ok(Some(wire))
-            }
-            None => {
-                self.faults = self.faults.saturating_add(1);
-                Err(Failed)
+        if let Some(listener) = &self.listener {
+            match self.take_next(listener) {
+                Ok(wire) => {
+                    self.taken = self.taken.saturating_add(1);
+                    return Ok(Some(wire));
+                }
+                Err(why) => self.why = Some(why),
             }
         }
+        self.faults = self.faults.saturating_add(1);
+        Err(Failed)
     }
 
     /// It says to the other side that nothing more comes, and reads on within bounds before it closes the

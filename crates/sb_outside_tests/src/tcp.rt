@@ -140,6 +140,13 @@ fn a_port_that_is_taken_cannot_be_had(rt: HostRuntime) {
     assert!(rt; !second.is_usable());
     assert!(rt; next(&mut second).is_err());
     assert!(rt; second.faults() == 1);
+    assert!(rt;
+        says(
+            &rt,
+            second.why(),
+            "cannot be had: Address already in use (os error 98)"
+        )
+    );
 }
 
 #[test]
