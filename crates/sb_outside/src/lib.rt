@@ -5,7 +5,7 @@
 
 pub use clocks::Clock;
 pub use descriptors::hold_descriptors;
-pub use doors::{Connection, Door};
+pub use doors::{Arrival, Connection, Door};
 pub use draws::Dice;
 pub use file_keeper::{FileKeeper, KeptForm};
 pub use gates::{Gate, OpenGate, Point};

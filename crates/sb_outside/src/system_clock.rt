@@ -68,6 +68,8 @@ impl<R: time::Clock> Clock for SystemClock<R> {
 
     ghost answers = { λ _. None };
 
+    ghost waits = { λ _. None };
+
     fn now(&mut self) -> Moment {
         self.look();
         Moment(self.last)

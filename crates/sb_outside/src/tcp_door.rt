@@ -1,13 +1,19 @@
 ghost use Rattle.std.specs.Prelude.{◌≡◌, ◌≢◌, ◌≤◌, None, Ok, true, false, is_some, IsErr, IfSome, IfOk, OnOk, OnErr};
 ghost use Rattle.sb_outside.specs.Outside.{Rose, raised};
+ghost use Rattle.sb_outside.specs.Connections.{connected};
 ghost use Rattle.sb_outside.specs.Tcp.{TcpListening};
 
-use crate::{Door, Failed, TcpLimits, TcpWire, Why};
+use crate::system_clock::system_millis;
+use crate::{Arrival, Door, Failed, TcpLimits, TcpWire, Why};
+use sb_model::Moment;
 use std::io::ErrorKind;
 use std::marker::Model;
 use std::net::{Net, SocketAddr, TcpListener, TcpStream};
-use std::time::Instant;
-use std::{io, time};
+use std::time::{Duration, Instant};
+use std::{io, thread, time};
+
+/// How long it sleeps between two looks for a connection before a moment, in milliseconds.
+const LONGEST_SLEEP: u64 = 10;
 
 /// A door at a TCP port. It waits for connections without a limit, and each of them has its own limits.
 /// Contracts see it as whether it has a port, how many connections were taken, and its count of faults.
@@ -121,6 +127,46 @@ fn accept(rt: &impl time::Clock, listener: &TcpListener) -> io::Result<(TcpStrea
     Err(io::Error::from(ErrorKind::Interrupted))
 }
 
+/// The next connection, and when it came, or `None` where the moment came first by the system's clock. The listener does
+/// not wait.
+fn accept_before(
+    rt: &impl time::Clock,
+    listener: &TcpListener,
+    moment: Moment,
+) -> io::Result<Option<(TcpStream, Instant)>> {
+    for _ in 0..u64::MAX {
+        match listener.accept() {
+            Ok((stream, _)) => {
+                let _ = stream.set_nodelay(true);
+                return Ok(Some((stream, Instant::now(rt)?)));
+            }
+            Err(e) if e.kind() == ErrorKind::WouldBlock => {
+                let now = system_millis(rt).ok_or(io::Error::from(ErrorKind::Unsupported))?;
+                if now >= moment.0 {
+                    return Ok(None);
+                }
+                let left = (moment.0 - now).min(LONGEST_SLEEP);
+                thread::sleep(rt, Duration::from_millis(left));
+            }
+            Err(e) if is_of_one_connection(&e) => {}
+            Err(e) => return Err(e),
+        }
+    }
+    Err(io::Error::from(ErrorKind::Interrupted))
+}
+
+/// The same of a listener that waits, and that waits again afterwards.
+fn wait_before(
+    rt: &impl time::Clock,
+    listener: &TcpListener,
+    moment: Moment,
+) -> io::Result<Option<(TcpStream, Instant)>> {
+    listener.set_nonblocking(true)?;
+    let accepted = accept_before(rt, listener, moment);
+    listener.set_nonblocking(false)?;
+    accepted
+}
+
 impl<R: time::Clock + Clone + Drop> TcpDoor<R> {
     /// A connection as a wire.
     fn wire(&self, stream: TcpStream, begun: Instant) -> Result<TcpWire<R>, Why>
@@ -138,6 +184,26 @@ impl<R: time::Clock + Clone + Drop> TcpDoor<R> {
     {
         match accept(&self.rt, listener) {
             Ok((stream, begun)) => self.wire(stream, begun),
+            Err(e) => Err(Why::system("takes no connections", e)),
+        }
+    }
+
+    /// The next connection as a wire, or that the moment came first.
+    fn take_before(
+        &self,
+        listener: &TcpListener,
+        moment: Moment,
+    ) -> Result<Arrival<TcpWire<R>>, Why>
+        ensures wire { IfOk result (λ arrival. IfSome (connected arrival)
+            (λ wire. wire ≡ record { number = self.now.taken; read_faults = 0; write_faults = 0 })) }
+        ensures some { result ≢ Ok Arrival.NoMore }
+    {
+        match wait_before(&self.rt, listener, moment) {
+            Ok(Some((stream, begun))) => match self.wire(stream, begun) {
+                Ok(wire) => Ok(Arrival::Connected(wire)),
+                Err(why) => Err(why),
+            },
+            Ok(None) => Ok(Arrival::TimedOut),
             Err(e) => Err(Why::system("takes no connections", e)),
         }
     }
@@ -170,6 +236,34 @@ impl<R: time::Clock + Clone + Drop> Door for TcpDoor<R> {
                     self.taken = self.taken.saturating_add(1);
                     return Ok(Some(wire));
                 }
+                Err(why) => self.why = Some(why),
+            }
+        }
+        self.faults = self.faults.saturating_add(1);
+        Err(Failed)
+    }
+
+    /// It looks for a connection some hundred times a second. Its clock is the system's; where that cannot be read, the
+    /// call fails.
+    fn next_before(&mut self, moment: Moment) -> Result<Arrival<TcpWire<R>>, Failed>
+        ensures some { result ≢ Ok Arrival.NoMore }
+        ensures unusable { self.old.is_usable ≡ false → IsErr result }
+        ensures usable { self.new.is_usable ≡ self.old.is_usable }
+        ensures numbered { IfOk result (λ arrival. IfSome (connected arrival) (λ wire. wire.number ≡ self.old.taken)) }
+
+        ensures kept { OnOk result (self.new.faults ≡ self.old.faults) }
+        ensures counted { self.old.faults ≤ self.new.faults }
+        ensures failed { OnErr result (Rose self.old.faults self.new.faults) }
+        ensures no_faults { IfOk result (λ arrival. IfSome (connected arrival)
+            (λ wire. (wire.read_faults ≡ 0) × (wire.write_faults ≡ 0))) }
+    {
+        if let Some(listener) = &self.listener {
+            match self.take_before(listener, moment) {
+                Ok(Arrival::Connected(wire)) => {
+                    self.taken = self.taken.saturating_add(1);
+                    return Ok(Arrival::Connected(wire));
+                }
+                Ok(arrival) => return Ok(arrival),
                 Err(why) => self.why = Some(why),
             }
         }

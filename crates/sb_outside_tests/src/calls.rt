@@ -1,7 +1,7 @@
 //! The calls of each trait, of whose answers a test knows only what it asserts. So a test is proved quickly.
 use sb_model::{Bytes, Moment};
 use sb_outside::{
-    Clock, Dice, Door, Failed, KeepFault, Keeper, Kind, Link, Sink, Source, Why, write_all,
+    Arrival, Clock, Dice, Door, Failed, KeepFault, Keeper, Kind, Link, Sink, Source, Why, write_all,
 };
 use std::alloc::Global;
 
@@ -78,4 +78,8 @@ pub(crate) fn says(rt: &HostRuntime, why: Option<Why>, text: &str) -> bool {
         Ok(said) => said.as_str() == text,
         Err(_) => false,
     }
+}
+
+pub(crate) fn next_before<D: Door>(door: &mut D, moment: u64) -> Result<Arrival<D::Wire>, Failed> {
+    door.next_before(Moment(moment))
 }

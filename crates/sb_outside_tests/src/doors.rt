@@ -8,11 +8,12 @@ fn wire_of(alloc: Global, sends: &[u8]) -> Result<MemoryWire, OutOfMemory> {
     MemoryWire::new(alloc, sends, 8, Row::new(alloc), Row::new(alloc))
 }
 
-/// A door with one connection.
+/// A door with one connection, at which the moment comes first at the third call.
 fn door_of(alloc: Global) -> Result<MemoryDoor, OutOfMemory> {
     let mut coming = Row::new(alloc);
     coming.push(wire_of(alloc, b"one")?)?;
-    MemoryDoor::new(alloc, coming, 2, Row::from_slice(alloc, &[2])?)
+    let door = MemoryDoor::new(alloc, coming, 2, Row::from_slice(alloc, &[2])?)?;
+    Ok(door.with_late(Row::from_slice(alloc, &[3])?))
 }
 
 fn entry(door: &MemoryDoor, number: usize) -> Option<&Connection> {
@@ -46,4 +47,13 @@ fn a_connection_is_logged_when_it_comes_back(rt: HostRuntime) {
     done(&mut door, wire);
     assert!(rt; logs(&door, 0, b"one", b"bye"));
     assert!(rt; flags(&door, 0) == Some((true, false, false)));
+}
+
+#[test]
+fn a_moment_comes_before_a_connection(rt: HostRuntime) {
+    let mut door = door_of(rt.alloc()).expect(&rt, "it failed");
+    assert!(rt; matches!(next_before(&mut door, 5), Ok(Arrival::Connected(_))));
+    assert!(rt; next_before(&mut door, 5).is_err());
+    assert!(rt; matches!(next_before(&mut door, 5), Ok(Arrival::TimedOut)));
+    assert!(rt; matches!(next_before(&mut door, 5), Ok(Arrival::NoMore)));
 }

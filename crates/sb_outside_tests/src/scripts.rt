@@ -20,6 +20,7 @@ fn a_clock_does_not_go_back(rt: HostRuntime) {
     assert!(rt; now(&mut clock) == 9);
     let answers = [Moment(5), Moment(5), Moment(7), Moment(9)];
     assert!(rt; clock.answers() == Some(answers.as_slice()));
+    assert!(rt; clock.waits() == Some([Moment(7)].as_slice()));
 }
 
 fn dice_of(alloc: Global, words: &[u32], room: usize) -> Result<ScriptDice, OutOfMemory> {
