@@ -36,11 +36,12 @@ demo: bin/sbupdate bin/sblistd
 compare: bin/sbupdate bin/sbcheck bin/sblistd
 	python3 compare/compare.py
 
-# Drives sblistd over loopback with curl.
-try-http: bin/sblistd
+# Drives sblistd over loopback with curl, and shows what the programs say of what they cannot use.
+try-http: bin/sblistd bin/sbupdate
 	bash try/http.sh
 
-# Kills fifty clients in mid-run, and sees that the next run of each comes to the server's set.
+# Kills fifty clients in mid-run, and sees that the next run of each comes to the server's set; then pipes, closed
+# descriptors, and stores that are held or taken.
 try-run: bin/sblistd bin/sbupdate
 	bash try/run.sh
 
