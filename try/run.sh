@@ -6,8 +6,8 @@
 #
 # A client waits up to 60 seconds before its first request, at random. So the clients are killed within 75 seconds, and the
 # next runs take up to 60. Then what is not one of the gate's tests: pipes in the place of files, closed descriptors, two clients
-# with one store, a file that appears at the path of a store, and when a store is flushed, which takes up to 60 seconds more:
-# together less than four minutes.
+# with one store, a file that appears at the path of a store, and when a store is flushed, which takes up to two minutes more:
+# together less than five minutes.
 set -u
 cd "$(dirname "$0")/.." || exit 1
 source try/common.sh
