@@ -46,11 +46,12 @@ endif
 compare: all
 	python3 compare/compare.py
 
-# Drives sblistd over loopback with curl.
+# Drives sblistd over loopback with curl, and shows what the programs say of what they cannot use.
 try-http: all
 	bash try/http.sh
 
-# Kills fifty clients in mid-run, and sees that the next run of each comes to the server's set.
+# Kills fifty clients in mid-run, and sees that the next run of each comes to the server's set; then pipes, closed
+# descriptors, and stores that are held or taken.
 try-run: all
 	bash try/run.sh
 

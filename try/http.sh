@@ -121,3 +121,67 @@ done
 [ "$answered" = "$MANY" ] || fail "$answered of $MANY connections were answered"
 ended
 echo "$MANY connections one after another, in $((SECONDS - start)) seconds"
+
+# ---- what the programs say on standard error before they end
+
+# the line that stands on standard error, and nothing beside it
+told() {
+  [ "$(wc -l < "$folder/said")" = 1 ] && grep -qF -- "$2" "$folder/said" || fail "$1: it said: $(< "$folder/said")"
+  echo "$1: $(sed "s#$folder/##" "$folder/said")"
+}
+
+# runs a program that ends with a status and says a line
+ends() {
+  local step=$1 wanted=$2 line=$3 status
+  shift 3
+  timeout 20 "$@" < /dev/null 2> "$folder/said"
+  status=$?
+  [ "$status" = "$wanted" ] || fail "$step: status $status in place of $wanted"
+  told "$step" "$line"
+}
+
+# a server that answers a fetch, and whose journal is changed before the next
+changed() {
+  local step=$1 line=$2 status
+  shift 2
+  cp "$folder/first" "$folder/journal"
+  serve 9 2> "$folder/said"
+  expect "a fetch before the journal $step" 200 --data "$request" "$url"
+  "$@"
+  curl --silent --max-time 10 --output "$folder/body" --data "$request" "$url"
+  wait "$server"
+  status=$?
+  server=
+  [ "$status" = 2 ] || fail "the journal $step: status $status in place of 2"
+  told "the journal $step" "$line"
+}
+
+cp "$folder/journal" "$folder/first"
+{ cat "$folder/first"; sed 1,2d "$folder/first"; } > "$folder/longer"
+sed 's/31323334/41424344/' "$folder/longer" > "$folder/another"
+port=$(free_port)
+listen=(--listen "127.0.0.1:$port" --connections 1)
+ends "no journal" 2 "cannot be opened: No such file or directory" bin/sblistd serve --journal "$folder/absent" "${listen[@]}"
+ends "a folder as journal" 2 "is no regular file" bin/sblistd serve --journal "$folder" "${listen[@]}"
+changed "is cut" "is shorter than what was read of it" truncate --size=-1 "$folder/journal"
+changed "is replaced" "was replaced by another file" mv "$folder/longer" "$folder/journal"
+changed "is copied over" "has other text where it was read" cp "$folder/another" "$folder/journal"
+cp "$folder/first" "$folder/journal"
+serve 1
+sleep 1
+ends "a port in use" 9 "cannot be had: Address already in use" \
+  bin/sblistd serve --journal "$folder/absent" --listen "127.0.0.1:$port" --connections 1
+expect "a fetch from the one that has it" 200 --data "$request" "$url"
+ended
+ends "an address of another machine" 9 "cannot be had: Cannot assign requested address" \
+  bin/sblistd serve --journal "$folder/journal" --listen 192.0.2.1:8080 --connections 1
+answer=(bin/sblistd answer --journal "$folder/journal" --kind fetch)
+printf '%s' "$request" > "$folder/request"
+ends "a closed output" 3 "standard output cannot be written: Bad file descriptor" \
+  bash -c 'exec "${@:2}" < "$1" >&-' - "$folder/request" "${answer[@]}"
+ends "a full output" 3 "standard output cannot be written: No space left on device" \
+  bash -c 'exec "${@:2}" < "$1" > /dev/full' - "$folder/request" "${answer[@]}"
+ends "a journal as store" 4 "does not begin as one" \
+  bin/sbupdate run --store "$folder/journal" --server 127.0.0.1:1 --rounds 1 "$LIST"
+cmp "$folder/first" "$folder/journal" || fail "the journal was changed"
+[ ! -e "$folder/journal.lock" ] || fail "the journal has a lock"

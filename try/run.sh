@@ -5,7 +5,9 @@
 # run of each has to read its store or name why not, and to end with the server's set.
 #
 # A client waits up to 60 seconds before its first request, at random. So the clients are killed within 75 seconds, and the
-# next runs take up to 60: together less than three minutes.
+# next runs take up to 60. Then what is not one of the gate's tests: pipes in the place of files, closed descriptors, two clients
+# with one store, a file that appears at the path of a store, and when a store is flushed, which takes up to two minutes more:
+# together less than five minutes.
 set -u
 cd "$(dirname "$0")/.." || exit 1
 source try/common.sh
@@ -154,3 +156,61 @@ echo "the next runs, within $took seconds: $read read a store, $named named why 
 echo "  $cut stores were cut by hand; each store that was read is the server's list at the version of its token"
 echo "all $CLIENTS end with the server's newest set:"
 echo "  $wanted"
+
+# ---- pipes, and descriptors that are closed at the start
+
+# runs a program that ends with a status and says a line, and waits for nothing
+ends() {
+  local step=$1 wanted=$2 line=$3 status
+  shift 3
+  timeout 20 "$@" > "$folder/out" 2> "$folder/said"
+  status=$?
+  [ "$status" = "$wanted" ] || fail "$step: status $status in place of $wanted"
+  grep -qF -- "$line" "$folder/said" || fail "$step: it said: $(< "$folder/said")"
+  echo "$step: ${line:-as ever}"
+}
+
+mkfifo "$folder/pipe"
+answer=(bin/sblistd answer --journal "$folder/journal" --kind fetch)
+run=(bin/sbupdate run --server "127.0.0.1:$port" --rounds 1)
+request='{"listUpdateRequests":[{"threatType":"MALWARE","platformType":"ANY_PLATFORM","threatEntryType":"URL"}]}'
+printf '%s' "$request" > "$folder/request"
+ends "a pipe as journal" 2 "is no regular file" bin/sblistd answer --journal "$folder/pipe" --kind fetch
+ends "a pipe as store" 4 "is no regular file" "${run[@]}" --store "$folder/pipe" "$LIST"
+ends "a closed input" 2 "standard input cannot be read: Bad file descriptor" bash -c 'exec "$@" <&-' - "${answer[@]}"
+ends "a closed output" 3 "standard output cannot be written: Bad file descriptor" \
+  bash -c 'exec "${@:2}" < "$1" >&-' - "$folder/request" "${answer[@]}"
+ends "a closed standard error" 0 "" bash -c 'exec "${@:2}" < "$1" 2>&-' - "$folder/request" "${answer[@]}"
+ends "all closed" 2 "" bash -c 'exec "$@" <&- >&- 2>&-' - "${answer[@]}"
+
+# ---- two clients with one store, and a file that appears at its path
+
+"${run[@]}" --store "$folder/one" "$LIST" > "$folder/first-one" 2> "$folder/said-one" &
+first=$!
+started+=("$first")
+sleep 1
+ends "a second client with one store" 4 "is held by another program" "${run[@]}" --store "$folder/one" "$LIST"
+"${run[@]}" --store "$folder/late" "$LIST" > "$folder/first-late" 2> "$folder/said-late" &
+late=$!
+started+=("$late")
+sleep 1
+cp "$folder/journal" "$folder/late"
+wait "$first" || fail "the first client with one store ended with status $?: $(< "$folder/said-one")"
+wait "$late"
+status=$?
+[ "$status" = 4 ] || fail "a journal that appears at the path of a store: status $status in place of 4"
+grep -qF "does not begin as one" "$folder/said-late" || fail "a journal that appears: it said: $(< "$folder/said-late")"
+cmp "$folder/journal" "$folder/late" || fail "a journal that appeared at the path of a store was replaced"
+echo "a journal that appears at the path of a store stays"
+
+# ---- a store is flushed before and after it is renamed
+
+if ! command -v strace > /dev/null; then
+  echo "try-run: strace is not installed, so when a store is flushed was not seen"
+  exit 0
+fi
+strace -f -o "$folder/trace" -e trace=fsync,rename,renameat,renameat2 "${run[@]}" --store "$folder/traced" "$LIST" > "$folder/out" ||
+  fail "the client under strace ended with status $?"
+calls=$(grep -oE '(fsync|rename)' "$folder/trace" | tr '\n' ' ')
+[ "$calls" = "fsync rename fsync " ] || fail "a store is replaced by $calls"
+echo "a store is flushed, renamed, and its folder is flushed"

@@ -7,7 +7,7 @@
 pub use fault::StoreFault;
 pub use laws::cut_stores_are_not_read;
 pub use printing::push_store_cause;
-pub use reading::read_store;
+pub use reading::{LONGEST_STORE, STORE_MAGIC, read_store};
 pub use selecting::select;
 pub use writing::write_store;
 

@@ -20,7 +20,12 @@ const DIGEST_BYTES: usize = 32;
 const MIN_BYTES: usize = 38;
 
 /// What a store begins with.
-const MAGIC: &[u8; 4] = b"SBST";
+pub const STORE_MAGIC: &[u8; 4] = b"SBST";
+
+/// How many bytes a store has at most: eight lists, each with 8,388,608 bytes of 1,048,576 prefixes and their lengths, the
+/// longest token, its length, a name, a mark and a count; the first four bytes, the format, the number of lists, and the
+/// digest.
+pub const LONGEST_STORE: u64 = 75_530_358;
 
 // The format of a text that may be a store.
 fn format_in(bytes: &[u8]) -> Result<Format, StoreFault>
@@ -32,7 +37,7 @@ fn format_in(bytes: &[u8]) -> Result<Format, StoreFault>
     if bytes.len() < MIN_BYTES {
         return Err(StoreFault::Shape(bytes.len() as u64));
     }
-    if &bytes[..4] != MAGIC.as_slice() {
+    if &bytes[..4] != STORE_MAGIC.as_slice() {
         return Err(StoreFault::Shape(0));
     }
     let number = bytes[4];

@@ -5,6 +5,8 @@ use sb_model::Text;
 pub struct Targets {
     /// The path of the store.
     pub store: Option<Text>,
+    /// Whether the command replaces the store.
+    pub replaces: bool,
     /// The address of the server.
     pub server: Option<Text>,
 }

@@ -5,3 +5,4 @@ pub mod Logs
 pub mod Torn
 pub mod WirePieces
 pub mod PlayedSteps
+pub mod Tails

@@ -1,13 +1,21 @@
 -- The log of a door: a list of connections, in the order in which they came.
-use Rattle.std.specs.Prelude.{◌≡◌, ℕ, ◌<◌, ◌≤◌, ◌↔◌, List, [], ◌∷◌, ◌++◌, length, drop, Option, Some, false, IfSome, IsTrue, slice_set}
+use Rattle.std.specs.Prelude.{◌≡◌, ℕ, ◌<◌, ◌≤◌, ◌↔◌, List, [], ◌∷◌, ◌++◌, length, drop, Option, Some, None, false, IfSome, IsTrue, slice_set}
 use Rattle.std.specs.List.{concat}
 use Rattle.std.specs.Option.{option_map}
 use Rattle.sb_outside.specs.Outside.{IfTold}
+use Rattle.sb_outside.specs.declared.doors.Arrival.{Arrival}
+use Rattle.sb_outside.specs.declared.doors.Arrival.TheVariants.{Connected, NoMore, TimedOut}
 use Rattle.sb_outside.specs.declared.doors.Connection.{Connection}
 
 -- a connection of which nothing is known yet
 abbrev pub open_connection : Connection
 open_connection = record { given = []; ended = false; written = []; read_fault = false; write_fault = false }
+
+-- the wire of an arrival, where it is one
+abbrev pub connected : {W : Type 0} → Arrival W → Option W
+connected (Connected wire) = Some wire
+connected NoMore = None
+connected TimedOut = None
 
 -- The first of the connections that were to come is taken: these are its pieces.
 pub record TakesFirst (before after : Option (List (List (List ℕ)))) (start left : Option (List (List ℕ))) : Type 0 where

@@ -12,3 +12,4 @@ pub mod Wires
 pub mod Plays
 pub mod Standard
 pub mod Tcp
+pub mod Tails

@@ -8,7 +8,9 @@ pub record ClockInMemory : Type 0 where
   -- the last answer in milliseconds, and 0 before the first
   pub last : ℕ
   pub answers : Option (List Moment)
-  -- how many answers it lists at most
+  -- the moments that it was to wait for
+  pub waits : Option (List Moment)
+  -- how many answers it lists at most, and how many moments
   pub room : ℕ
 
 -- the next answer: the next reading, but none below the last answer, which stands after the readings

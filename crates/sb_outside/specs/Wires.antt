@@ -39,5 +39,7 @@ pub record DoorInMemory : Type 0 where
   pub room : ℕ
   -- the numbers of the calls that fail, counted from 1
   pub failing : List ℕ
+  -- and of those of `next_before` at which the moment comes first
+  pub late : List ℕ
   pub calls : ℕ
   pub faults : ℕ

@@ -1,10 +1,10 @@
 ghost use Rattle.std.specs.Prelude.{◌≡◌, ℕ, ◌≤◌, List, [], length, Option, None, Some, IfSome, IfOk, OnOk, OnErr};
 ghost use Rattle.sb_outside.specs.Outside.{Rose, IfTold, with_entry};
-ghost use Rattle.sb_outside.specs.Connections.{open_connection, TakesFirst, Returns};
+ghost use Rattle.sb_outside.specs.Connections.{open_connection, connected, TakesFirst, Returns};
 ghost use Rattle.sb_outside.specs.declared.doors.Connection.{Connection};
 
 use crate::{Failed, Wire};
-use sb_model::Bytes;
+use sb_model::{Bytes, Moment};
 
 /// An entry of a door's log: one connection.
 #[derive(Debug, Drop)]
@@ -19,6 +19,17 @@ pub struct Connection {
     pub read_fault: bool,
     /// Whether a write failed.
     pub write_fault: bool,
+}
+
+/// What came at a door at which one waits for so long.
+#[derive(Debug, Drop)]
+pub enum Arrival<W> {
+    /// A connection.
+    Connected(W),
+    /// There are no more connections.
+    NoMore,
+    /// The moment came before a connection did.
+    TimedOut,
 }
 
 /// Where connections come in.
@@ -56,6 +67,32 @@ pub trait Door {
         ensures none { (result ≡ Ok None) → IfTold (coming self.old) (Some []) }
         ensures none_log { (result ≡ Ok None) → log self.new ≡ log self.old }
         ensures none_coming { (result ≡ Ok None) → coming self.new ≡ coming self.old }
+        ensures err_log { OnErr result (log self.new ≡ log self.old) }
+        ensures err_coming { OnErr result (coming self.new ≡ coming self.old) };
+
+    /// The next connection, or that there are no more, or that this moment came first by the door's own clock. It may
+    /// wait until then. A connection that waits to be taken is taken, also after that moment.
+    fn next_before(&mut self, moment: Moment) -> Result<Arrival<Self::Wire>, Failed>
+        ensures kept { OnOk result (faults self.new ≡ faults self.old) }
+        ensures counted { faults self.old ≤ faults self.new }
+        ensures failed { OnErr result (Rose (faults self.old) (faults self.new)) }
+
+        // The wire is as one that `next` gives.
+        ensures number { IfOk result (λ arrival. IfSome (connected arrival) (λ wire.
+            IfSome (log self.old) (λ entries. Self.Wire.number wire ≡ length entries))) }
+        ensures no_faults { IfOk result (λ arrival. IfSome (connected arrival) (λ wire.
+            (Self.Wire.Source.faults wire ≡ 0) × (Self.Wire.Sink.faults wire ≡ 0))) }
+        ensures nothing_written { IfOk result (λ arrival. IfSome (connected arrival) (λ wire.
+            IfTold (Self.Wire.contents wire) (Some []))) }
+        ensures first { IfOk result (λ arrival. IfSome (connected arrival) (λ wire.
+            TakesFirst (coming self.old) (coming self.new) (Self.Wire.start wire) (Self.Wire.left wire))) }
+        ensures opened { IfOk result (λ arrival. IfSome (connected arrival) (λ wire.
+            IfTold (log self.new) (with_entry (log self.old) open_connection))) }
+
+        // Nothing changes where there are no more, where the moment came, and after an `Err`.
+        ensures none { IfOk result (λ arrival. arrival ≡ Arrival.NoMore → IfTold (coming self.old) (Some [])) }
+        ensures same_log { IfOk result (λ arrival. connected arrival ≡ None → log self.new ≡ log self.old) }
+        ensures same_coming { IfOk result (λ arrival. connected arrival ≡ None → coming self.new ≡ coming self.old) }
         ensures err_log { OnErr result (log self.new ≡ log self.old) }
         ensures err_coming { OnErr result (coming self.new ≡ coming self.old) };
 

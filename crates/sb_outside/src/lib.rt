@@ -4,10 +4,12 @@
 #![tactic(auto)]
 
 pub use clocks::Clock;
-pub use doors::{Connection, Door};
+pub use descriptors::hold_descriptors;
+pub use doors::{Arrival, Connection, Door};
 pub use draws::Dice;
-pub use file_keeper::FileKeeper;
+pub use file_keeper::{FileKeeper, KeptForm};
 pub use gates::{Gate, OpenGate, Point};
+pub use journal_file::JournalFile;
 pub use keepers::{KeepFault, Keeper};
 pub use links::{Kind, Link, Session};
 pub use memory_door::MemoryDoor;
@@ -28,15 +30,18 @@ pub use tcp_limits::TcpLimits;
 pub use tcp_link::TcpLink;
 pub use tcp_wire::TcpWire;
 pub use traits::{Failed, Sink, Source, write_all};
+pub use why::Why;
 pub use wires::Wire;
 pub use writing::{FULL_BUFFER, flush, flush_if_full};
 
 mod clocks;
+mod descriptors;
 mod doors;
 mod draws;
 mod entries;
 mod file_keeper;
 mod gates;
+mod journal_file;
 mod keepers;
 mod links;
 mod memory_door;
@@ -46,6 +51,7 @@ mod memory_source;
 mod memory_wire;
 mod played_session;
 mod reading;
+mod regular_files;
 mod script_clock;
 mod script_dice;
 mod script_link;
@@ -58,5 +64,6 @@ mod tcp_limits;
 mod tcp_link;
 mod tcp_wire;
 mod traits;
+mod why;
 mod wires;
 mod writing;

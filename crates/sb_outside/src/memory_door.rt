@@ -1,24 +1,26 @@
 ghost use Rattle.std.specs.Prelude.{◌≡◌, ℕ, ◌≤◌, ◌↔◌, List, [], ◌∷◌, map, length, Option, Some, None, IsErr, IfSome, IfOk, OnOk, OnErr, Contains};
 ghost use Rattle.std.specs.Option.{option_map};
 ghost use Rattle.sb_outside.specs.Outside.{Rose, IfTold, raised, with_entry};
-ghost use Rattle.sb_outside.specs.Connections.{open_connection, TakesFirst, Returns};
+ghost use Rattle.sb_outside.specs.Connections.{open_connection, connected, TakesFirst, Returns};
 ghost use Rattle.sb_outside.specs.Logs.{logged};
 ghost use Rattle.sb_outside.specs.Wires.{DoorInMemory, pieces_of, fresh};
 
 use crate::entries::Log;
-use crate::{Connection, Door, Failed, MemoryWire};
-use sb_model::{Bytes, OutOfMemory, Row};
+use crate::{Arrival, Connection, Door, Failed, MemoryWire};
+use sb_model::{Bytes, Moment, OutOfMemory, Row};
 use std::alloc::Global;
 use std::collections::VecDeque;
 use std::marker::Model;
 
-/// A door at which the connections of a list come, one after the other. It does not wait.
+/// A door at which the connections of a list come, one after the other. It does not wait, and its script says at which
+/// calls the moment comes before a connection.
 #[derive(Drop)]
 pub struct MemoryDoor {
     alloc: Global,
     coming: VecDeque<MemoryWire>,
     log: Log<Connection>,
     failing: Row<u64>,
+    late: Row<u64>,
     calls: u64,
     faults: u64,
 }
@@ -33,6 +35,7 @@ impl Model for MemoryDoor {
       log = s.log.0;
       room = s.log.1;
       failing = s.failing;
+      late = s.late;
       calls = s.calls;
       faults = s.faults;
     } };
@@ -40,8 +43,8 @@ impl Model for MemoryDoor {
 
 impl MemoryDoor {
     /// A door with these connections, which logs at most `room` of them. Each begins anew when it is
-    /// taken, whatever was done with it before. The calls of `next` with the numbers of the second list
-    /// fail, counted from 1. No later call takes memory.
+    /// taken, whatever was done with it before. The calls of `next` and `next_before` with the numbers of the second
+    /// list fail, counted from 1. No later call takes memory.
     pub fn new(
         alloc: Global,
         coming: Row<MemoryWire>,
@@ -53,6 +56,7 @@ impl MemoryDoor {
           log = Some [];
           room = room;
           failing = failing;
+          late = [];
           calls = 0;
           faults = 0;
         }) }
@@ -62,9 +66,19 @@ impl MemoryDoor {
             coming: VecDeque::from(coming.into_vec()),
             log: Log::new(alloc, room)?,
             failing,
+            late: Row::new(alloc),
             calls: 0,
             faults: 0,
         })
+    }
+
+    /// The same door, at which the moment comes before a connection at the calls of `next_before` with these numbers. The
+    /// calls of `next` are counted too.
+    pub fn with_late(mut self, late: Row<u64>) -> Self
+        ensures { result ≡ record self { late = late } }
+    {
+        self.late = late;
+        self
     }
 
     /// The connections that were taken, or `None` where there were more than the door has room for.
@@ -154,6 +168,63 @@ impl Door for MemoryDoor {
         let number = self.log.len();
         self.log.push(open_connection(self.alloc));
         Ok(Some(wire.begin(number)))
+    }
+
+    fn next_before(&mut self, _moment: Moment) -> Result<Arrival<MemoryWire>, Failed>
+        ensures listed { IsErr result ↔ Contains self.old.failing (raised self.old.calls) }
+        ensures late { OnOk result ((result ≡ Ok Arrival.TimedOut) ↔ Contains self.old.late (raised self.old.calls)) }
+        ensures connected { IfOk result (λ arrival. IfSome (connected arrival) (λ wire.
+            self.new ≡ record self.old {
+              coming = self.new.coming;
+              log = logged self.old.room self.old.log open_connection;
+              calls = raised self.old.calls;
+            })) }
+        ensures wire { IfOk result (λ arrival. IfSome (connected arrival) (λ wire. (first : _) × (number : ℕ)
+            × (self.old.coming ≡ first ∷ self.new.coming) × (wire ≡ fresh number first))) }
+        ensures no_more { IfOk result (λ arrival. arrival ≡ Arrival.NoMore → self.old.coming ≡ []) }
+        ensures same { IfOk result (λ arrival. connected arrival ≡ None →
+            self.new ≡ record self.old { calls = raised self.old.calls }) }
+        ensures refused { OnErr result (self.new
+            ≡ record self.old { calls = raised self.old.calls; faults = raised self.old.faults }) }
+
+        ensures kept { OnOk result (self.new.faults ≡ self.old.faults) }
+        ensures counted { self.old.faults ≤ self.new.faults }
+        ensures failed { OnErr result (Rose self.old.faults self.new.faults) }
+        ensures number { IfOk result (λ arrival. IfSome (connected arrival) (λ wire.
+            IfSome self.old.log (λ entries. wire.number ≡ length entries))) }
+        ensures no_faults { IfOk result (λ arrival. IfSome (connected arrival) (λ wire.
+            (wire.read_faults ≡ 0) × (wire.write_faults ≡ 0))) }
+        ensures nothing_written { IfOk result (λ arrival. IfSome (connected arrival) (λ wire.
+            IfTold (Some wire.written) (Some []))) }
+        ensures first { IfOk result (λ arrival. IfSome (connected arrival) (λ wire.
+            TakesFirst (Some (map (λ wire. pieces_of wire.sends) self.old.coming))
+            (Some (map (λ wire. pieces_of wire.sends) self.new.coming)) (Some (pieces_of wire.sends)) (Some wire.left))) }
+        ensures opened { IfOk result (λ arrival. IfSome (connected arrival) (λ wire.
+            IfTold self.new.log (with_entry self.old.log open_connection))) }
+        ensures none { IfOk result (λ arrival. arrival ≡ Arrival.NoMore
+            → IfTold (Some (map (λ wire. pieces_of wire.sends) self.old.coming)) (Some [])) }
+        ensures same_log { IfOk result (λ arrival. connected arrival ≡ None → self.new.log ≡ self.old.log) }
+        ensures same_coming { IfOk result (λ arrival. connected arrival ≡ None
+            → Some (map (λ wire. pieces_of wire.sends) self.new.coming)
+            ≡ Some (map (λ wire. pieces_of wire.sends) self.old.coming)) }
+        ensures err_log { OnErr result (self.new.log ≡ self.old.log) }
+        ensures err_coming { OnErr result (Some (map (λ wire. pieces_of wire.sends) self.new.coming)
+            ≡ Some (map (λ wire. pieces_of wire.sends) self.old.coming)) }
+    {
+        self.calls = self.calls.saturating_add(1);
+        if self.failing.as_slice().contains(&self.calls) {
+            self.faults = self.faults.saturating_add(1);
+            return Err(Failed);
+        }
+        if self.late.as_slice().contains(&self.calls) {
+            return Ok(Arrival::TimedOut);
+        }
+        let Some(wire) = self.coming.pop_front() else {
+            return Ok(Arrival::NoMore);
+        };
+        let number = self.log.len();
+        self.log.push(open_connection(self.alloc));
+        Ok(Arrival::Connected(wire.begin(number)))
     }
 
     fn done(&mut self, wire: MemoryWire)

@@ -18,9 +18,11 @@ pub struct ScriptClock {
     coming: VecDeque<Moment>,
     last: u64,
     answers: Log<Moment>,
+    waits: Log<Moment>,
 }
 
 impl Model for ScriptClock {
+    ghost use Rattle.std.specs.Prelude.{◌≡◌};
     ghost use Rattle.sb_outside.specs.Scripts.{ClockInMemory};
 
     ghost Value = { ClockInMemory };
@@ -29,20 +31,24 @@ impl Model for ScriptClock {
       coming = s.coming.items;
       last = s.last;
       answers = s.answers.0;
+      waits = s.waits.0;
       room = s.answers.1;
     } };
+
+    ghost invariant = { λ s. s.waits.1 ≡ s.answers.1 };
 }
 
 impl ScriptClock {
-    /// A clock with these readings, which lists at most `room` answers.
+    /// A clock with these readings, which lists at most `room` answers, and as many moments that it was to wait for.
     pub fn new(alloc: Global, readings: Row<Moment>, room: usize) -> Result<Self, OutOfMemory>
         ensures { IfOk result (λ clock.
-            clock ≡ record { coming = readings; last = 0; answers = Some []; room = room }) }
+            clock ≡ record { coming = readings; last = 0; answers = Some []; waits = Some []; room = room }) }
     {
         Ok(ScriptClock {
             coming: VecDeque::from(readings.into_vec()),
             last: 0,
             answers: Log::new(alloc, room)?,
+            waits: Log::new(alloc, room)?,
         })
     }
 
@@ -51,6 +57,13 @@ impl ScriptClock {
         ensures { option_map (λ answers. answers.now) result ≡ self.now.answers }
     {
         self.answers.entries()
+    }
+
+    /// The moments that it was to wait for, or `None` where there were more than the clock has room for.
+    pub fn waits(&self) -> Option<&[Moment]>
+        ensures { option_map (λ waits. waits.now) result ≡ self.now.waits }
+    {
+        self.waits.entries()
     }
 }
 
@@ -69,6 +82,8 @@ impl Clock for ScriptClock {
     ghost last = { λ s. s.last };
 
     ghost answers = { λ s. s.answers };
+
+    ghost waits = { λ s. s.waits };
 
     #[tactic(auto, using(crate::proofs::Logs::told_logged))]
     fn now(&mut self) -> Moment
@@ -95,16 +110,19 @@ impl Clock for ScriptClock {
         ensures after { self.new ≡ record self.old {
           last = result.0;
           answers = logged self.old.room self.old.answers result;
+          waits = logged self.old.room self.old.waits moment;
         } }
 
         ensures reached { moment.0 ≤ result.0 }
         ensures rises { self.old.last ≤ result.0 }
         ensures kept { self.new.last ≡ result.0 }
         ensures told { IfTold self.new.answers (with_entry self.old.answers result) }
+        ensures waited { IfTold self.new.waits (with_entry self.old.waits moment) }
     {
         self.last = self.last.max(moment.0);
         let answer = Moment(self.last);
         self.answers.push(answer);
+        self.waits.push(moment);
         answer
     }
 }

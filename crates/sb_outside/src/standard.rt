@@ -3,8 +3,9 @@ ghost use Rattle.std.specs.Io.KnownBytes.{Keeps, ReadConsumes, WriteAppends};
 ghost use Rattle.sb_outside.specs.Outside.{Rose, GivesFront, AnswersEnd, no_sink, no_source, appended};
 ghost use Rattle.sb_outside.specs.Standard.{known_of};
 
-use crate::{Failed, Sink, Source};
-use std::io::{ErrorKind, Read, Write};
+use crate::{Failed, Sink, Source, Why};
+use std::io;
+use std::io::{Error, ErrorKind, Read, Write};
 use std::marker::Model;
 
 /// A source over any reader of the standard library. It tells nothing of what is left. Contracts see it as
@@ -13,6 +14,7 @@ use std::marker::Model;
 pub struct StdSource<R> {
     reader: Option<R>,
     faults: u64,
+    why: Option<Why>,
 }
 
 impl<R> Model for StdSource<R> {
@@ -28,6 +30,7 @@ impl<R> StdSource<R> {
         StdSource {
             reader: Some(reader),
             faults: 0,
+            why: None,
         }
     }
 
@@ -38,6 +41,7 @@ impl<R> StdSource<R> {
         StdSource {
             reader: None,
             faults: 0,
+            why: None,
         }
     }
 
@@ -47,10 +51,15 @@ impl<R> StdSource<R> {
     {
         self.faults
     }
+
+    /// Why the last of them did.
+    pub fn why(&self) -> Option<Why> {
+        self.why
+    }
 }
 
 /// One read. If it is interrupted, it is made again.
-fn read_again<R: Read>(reader: &mut R, buffer: &mut [u8]) -> Result<usize, Failed>
+pub(crate) fn read_again<R: Read>(reader: &mut R, buffer: &mut [u8]) -> io::Result<usize>
     ensures within { IfOk result (λ n. n ≤ length buffer.new) }
     ensures known { ReadConsumes (R.remaining reader.old) (R.remaining reader.new) result buffer.new }
 {
@@ -58,10 +67,10 @@ fn read_again<R: Read>(reader: &mut R, buffer: &mut [u8]) -> Result<usize, Faile
         match reader.read(buffer) {
             Ok(n) => return Ok(n),
             Err(e) if e.kind() == ErrorKind::Interrupted => {}
-            Err(_) => break,
+            Err(error) => return Err(error),
         }
     }
-    Err(Failed)
+    Err(Error::from(ErrorKind::Interrupted))
 }
 
 impl<R: Read> Source for StdSource<R> {
@@ -83,10 +92,11 @@ impl<R: Read> Source for StdSource<R> {
         ensures bytes { IfOk result (λ n. 0 < n → GivesFront (take n buffer.new) None None) }
         ensures end { IfOk result (λ n. n ≡ 0 → 0 < length buffer.new → AnswersEnd None None) }
     {
-        if let Some(reader) = &mut self.reader
-            && let Ok(n) = read_again(reader, buffer)
-        {
-            return Ok(n);
+        if let Some(reader) = &mut self.reader {
+            match read_again(reader, buffer) {
+                Ok(n) => return Ok(n),
+                Err(e) => self.why = Some(Why::system("cannot be read", e)),
+            }
         }
         self.faults = self.faults.saturating_add(1);
         Err(Failed)
@@ -99,6 +109,7 @@ impl<R: Read> Source for StdSource<R> {
 pub struct StdSink<W> {
     writer: Option<W>,
     faults: u64,
+    why: Option<Why>,
 }
 
 impl<W> Model for StdSink<W> {
@@ -114,6 +125,7 @@ impl<W> StdSink<W> {
         StdSink {
             writer: Some(writer),
             faults: 0,
+            why: None,
         }
     }
 
@@ -124,6 +136,7 @@ impl<W> StdSink<W> {
         StdSink {
             writer: None,
             faults: 0,
+            why: None,
         }
     }
 
@@ -132,6 +145,11 @@ impl<W> StdSink<W> {
         ensures { result ≡ self.now.1 }
     {
         self.faults
+    }
+
+    /// Why the last of them did.
+    pub fn why(&self) -> Option<Why> {
+        self.why
     }
 }
 
@@ -145,10 +163,11 @@ impl<W: Write> StdSink<W> {
         ensures counted { self.old.1 ≤ self.new.1 }
         ensures failed { OnErr result (Rose self.old.1 self.new.1) }
     {
-        if let Some(writer) = &mut self.writer
-            && writer.flush().is_ok()
-        {
-            return Ok(());
+        if let Some(writer) = &mut self.writer {
+            match writer.flush() {
+                Ok(()) => return Ok(()),
+                Err(e) => self.why = Some(Why::system("cannot be written", e)),
+            }
         }
         self.faults = self.faults.saturating_add(1);
         Err(Failed)
@@ -156,20 +175,20 @@ impl<W: Write> StdSink<W> {
 }
 
 /// One write. If it is interrupted, it is made again. One that takes no byte of a piece that has some fails.
-fn write_again<W: Write>(writer: &mut W, piece: &[u8]) -> Result<usize, Failed>
+fn write_again<W: Write>(writer: &mut W, piece: &[u8]) -> io::Result<usize>
     ensures within { IfOk result (λ n. n ≤ length piece.now) }
     ensures some { IfOk result (λ n. n ≡ 0 → piece.now ≡ []) }
     ensures known { WriteAppends (W.contents writer.old) (W.contents writer.new) result piece.now }
 {
     for _ in 0..u64::MAX {
         match writer.write(piece) {
-            Ok(0) if !piece.is_empty() => return Err(Failed),
+            Ok(0) if !piece.is_empty() => return Err(Error::from(ErrorKind::WriteZero)),
             Ok(n) => return Ok(n),
             Err(e) if e.kind() == ErrorKind::Interrupted => {}
-            Err(_) => return Err(Failed),
+            Err(e) => return Err(e),
         }
     }
-    Err(Failed)
+    Err(Error::from(ErrorKind::Interrupted))
 }
 
 impl<W: Write> Sink for StdSink<W> {
@@ -192,10 +211,11 @@ impl<W: Write> Sink for StdSink<W> {
         ensures failed { OnErr result (Rose self.old.1 self.new.1) }
         ensures bytes { IfOk result (λ n. None ≡ appended None (take n piece.now)) }
     {
-        if let Some(writer) = &mut self.writer
-            && let Ok(n) = write_again(writer, piece)
-        {
-            return Ok(n);
+        if let Some(writer) = &mut self.writer {
+            match write_again(writer, piece) {
+                Ok(n) => return Ok(n),
+                Err(e) => self.why = Some(Why::system("cannot be written", e)),
+            }
         }
         self.faults = self.faults.saturating_add(1);
         Err(Failed)

@@ -1,5 +1,4 @@
-ghost use Rattle.std.specs.Prelude.{◌≡◌, ℕ, ◌≤◌, None, max, IfSome};
-ghost use Rattle.std.specs.Option.{option_map_or};
+ghost use Rattle.std.specs.Prelude.{◌≡◌, ℕ, ◌≤◌, None, min};
 
 use crate::Clock;
 use sb_model::Moment;
@@ -40,9 +39,13 @@ pub(crate) fn system_millis(rt: &impl time::Clock) -> Option<u64> {
     u64::try_from(since.as_millis()).ok()
 }
 
-/// Sleeps for some milliseconds, but no longer than the longest sleep.
-fn sleep_for(rt: &impl time::Clock, millis: u64) {
-    thread::sleep(rt, Duration::from_millis(millis.min(LONGEST_SLEEP)));
+/// Sleeps for some milliseconds, but no longer than the longest sleep, and says for how many.
+fn sleep_for(rt: &impl time::Clock, millis: u64) -> u64
+    ensures { result ≡ min millis LONGEST_SLEEP }
+{
+    let slept = millis.min(LONGEST_SLEEP);
+    thread::sleep(rt, Duration::from_millis(slept));
+    slept
 }
 
 impl<R: time::Clock> SystemClock<R> {
@@ -65,22 +68,23 @@ impl<R: time::Clock> Clock for SystemClock<R> {
 
     ghost answers = { λ _. None };
 
+    ghost waits = { λ _. None };
+
     fn now(&mut self) -> Moment {
         self.look();
         Moment(self.last)
     }
 
-    /// It sleeps until then. Where the system's clock cannot be read, it sleeps as long as that would be
-    /// after the last answer, but a minute at most.
+    /// It sleeps until then. Where the system's clock cannot be read, what it slept goes to the last answer.
     fn wait_until(&mut self, moment: Moment) -> Moment {
         for _ in 0..u64::MAX {
             let can_be_read = self.look();
             if self.last >= moment.0 {
                 return Moment(self.last);
             }
-            sleep_for(&self.rt, moment.0 - self.last);
+            let slept = sleep_for(&self.rt, moment.0 - self.last);
             if !can_be_read {
-                break;
+                self.last += slept;
             }
         }
         self.last = self.last.max(moment.0);

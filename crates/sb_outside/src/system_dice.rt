@@ -4,6 +4,7 @@ ghost use Rattle.sb_outside.specs.Standard.{next_number, word_of};
 use crate::Dice;
 use crate::system_clock::system_millis;
 use std::marker::Model;
+use std::random::RandomSource;
 use std::time;
 
 /// Dice that count on from a seed: each number is 6364136223846793005 times the one before plus
@@ -20,17 +21,21 @@ impl Model for SystemDice {
     ghost view = { λ s. s.number };
 }
 
-impl SystemDice {
-    /// Dice whose seed is what the system's clock says, in milliseconds since 1970. It is 0 where the clock
-    /// cannot be read.
-    pub fn new(rt: &impl time::Clock) -> Self {
-        SystemDice::from_seed(system_millis(rt).unwrap_or(0))
-    }
+/// A seed that the system draws, or `None` where it draws none.
+fn drawn_seed(rt: &impl RandomSource) -> Option<u64> {
+    let mut bytes = [0; 8];
+    rt.fill_bytes(&mut bytes).ok()?;
+    Some(u64::from_le_bytes(bytes))
+}
 
-    /// Dice with this seed, which is the number before the first.
-    pub fn from_seed(seed: u64) -> Self
-        ensures { result ≡ seed }
-    {
+impl SystemDice {
+    /// Dice whose seed the system draws. Where it draws none, the seed is what the system's clock says, in milliseconds
+    /// since 1970, and 0 where the clock cannot be read.
+    pub fn new<R: RandomSource + time::Clock>(rt: &R) -> Self {
+        let seed = match drawn_seed(rt) {
+            Some(seed) => seed,
+            None => system_millis(rt).unwrap_or(0),
+        };
         SystemDice { number: seed }
     }
 }

@@ -1,13 +1,19 @@
 ghost use Rattle.std.specs.Prelude.{◌≡◌, ◌≢◌, ◌≤◌, None, Ok, true, false, is_some, IsErr, IfSome, IfOk, OnOk, OnErr};
 ghost use Rattle.sb_outside.specs.Outside.{Rose, raised};
+ghost use Rattle.sb_outside.specs.Connections.{connected};
 ghost use Rattle.sb_outside.specs.Tcp.{TcpListening};
 
-use crate::{Door, Failed, TcpLimits, TcpWire};
+use crate::system_clock::system_millis;
+use crate::{Arrival, Door, Failed, TcpLimits, TcpWire, Why};
+use sb_model::Moment;
 use std::io::ErrorKind;
 use std::marker::Model;
 use std::net::{Net, SocketAddr, TcpListener, TcpStream};
-use std::time::Instant;
-use std::{io, time};
+use std::time::{Duration, Instant};
+use std::{io, thread, time};
+
+/// How long it sleeps between two looks for a connection before a moment, in milliseconds.
+const LONGEST_SLEEP: u64 = 10;
 
 /// A door at a TCP port. It waits for connections without a limit, and each of them has its own limits.
 /// Contracts see it as whether it has a port, how many connections were taken, and its count of faults.
@@ -18,6 +24,7 @@ pub struct TcpDoor<R> {
     limits: TcpLimits,
     taken: u64,
     faults: u64,
+    why: Option<Why>,
 }
 
 impl<R> Model for TcpDoor<R> {
@@ -36,13 +43,17 @@ impl<R: Net<Stream = TcpStream, Listener = TcpListener> + Drop> TcpDoor<R> {
         ensures taken { result.taken ≡ 0 }
         ensures faults { result.faults ≡ 0 }
     {
-        let listener = TcpListener::bind(&rt, address).ok();
+        let (listener, why) = match TcpListener::bind(&rt, address) {
+            Ok(listener) => (Some(listener), None),
+            Err(e) => (None, Some(Why::system("cannot be had", e))),
+        };
         TcpDoor {
             rt,
             listener,
             limits,
             taken: 0,
             faults: 0,
+            why,
         }
     }
 }
@@ -58,6 +69,7 @@ impl<R: Drop> TcpDoor<R> {
             limits: TcpLimits::STANDARD,
             taken: 0,
             faults: 0,
+            why: None,
         }
     }
 
@@ -79,6 +91,11 @@ impl<R: Drop> TcpDoor<R> {
         ensures { result ≡ self.now.faults }
     {
         self.faults
+    }
+
+    /// Why it is unusable, or why the last call failed.
+    pub fn why(&self) -> Option<Why> {
+        self.why
     }
 }
 
@@ -110,16 +127,85 @@ fn accept(rt: &impl time::Clock, listener: &TcpListener) -> io::Result<(TcpStrea
     Err(io::Error::from(ErrorKind::Interrupted))
 }
 
+/// The next connection, and when it came, or `None` where the moment came first by the system's clock. The listener does
+/// not wait.
+fn accept_before(
+    rt: &impl time::Clock,
+    listener: &TcpListener,
+    moment: Moment,
+) -> io::Result<Option<(TcpStream, Instant)>> {
+    for _ in 0..u64::MAX {
+        match listener.accept() {
+            Ok((stream, _)) => {
+                let _ = stream.set_nodelay(true);
+                return Ok(Some((stream, Instant::now(rt)?)));
+            }
+            Err(e) if e.kind() == ErrorKind::WouldBlock => {
+                let now = system_millis(rt).ok_or(io::Error::from(ErrorKind::Unsupported))?;
+                if now >= moment.0 {
+                    return Ok(None);
+                }
+                let left = (moment.0 - now).min(LONGEST_SLEEP);
+                thread::sleep(rt, Duration::from_millis(left));
+            }
+            Err(e) if is_of_one_connection(&e) => {}
+            Err(e) => return Err(e),
+        }
+    }
+    Err(io::Error::from(ErrorKind::Interrupted))
+}
+
+/// The same of a listener that waits, and that waits again afterwards.
+fn wait_before(
+    rt: &impl time::Clock,
+    listener: &TcpListener,
+    moment: Moment,
+) -> io::Result<Option<(TcpStream, Instant)>> {
+    listener.set_nonblocking(true)?;
+    let accepted = accept_before(rt, listener, moment);
+    listener.set_nonblocking(false)?;
+    accepted
+}
+
 impl<R: time::Clock + Clone + Drop> TcpDoor<R> {
-    /// The next connection as a wire.
-    fn take_next(&self) -> Option<TcpWire<R>>
-        ensures number { IfSome result (λ wire. wire ≡ record { number = self.now.taken; read_faults = 0; write_faults = 0 }) }
-        ensures unusable { self.now.is_usable ≡ false → result ≡ None }
+    /// A connection as a wire.
+    fn wire(&self, stream: TcpStream, begun: Instant) -> Result<TcpWire<R>, Why>
+        ensures { IfOk result (λ wire. wire ≡ record { number = self.now.taken; read_faults = 0; write_faults = 0 }) }
     {
-        let listener = self.listener.as_ref()?;
-        let (stream, begun) = accept(&self.rt, listener).ok()?;
-        let rt = self.rt.clone().ok()?;
-        Some(TcpWire::new(rt, stream, begun, self.limits, self.taken))
+        match self.rt.clone() {
+            Ok(rt) => Ok(TcpWire::new(rt, stream, begun, self.limits, self.taken)),
+            Err(_) => Err(Why::refusal("takes no connections: out of memory")),
+        }
+    }
+
+    /// The next connection as a wire.
+    fn take_next(&self, listener: &TcpListener) -> Result<TcpWire<R>, Why>
+        ensures { IfOk result (λ wire. wire ≡ record { number = self.now.taken; read_faults = 0; write_faults = 0 }) }
+    {
+        match accept(&self.rt, listener) {
+            Ok((stream, begun)) => self.wire(stream, begun),
+            Err(e) => Err(Why::system("takes no connections", e)),
+        }
+    }
+
+    /// The next connection as a wire, or that the moment came first.
+    fn take_before(
+        &self,
+        listener: &TcpListener,
+        moment: Moment,
+    ) -> Result<Arrival<TcpWire<R>>, Why>
+        ensures wire { IfOk result (λ arrival. IfSome (connected arrival)
+            (λ wire. wire ≡ record { number = self.now.taken; read_faults = 0; write_faults = 0 })) }
+        ensures some { result ≢ Ok Arrival.NoMore }
+    {
+        match wait_before(&self.rt, listener, moment) {
+            Ok(Some((stream, begun))) => match self.wire(stream, begun) {
+                Ok(wire) => Ok(Arrival::Connected(wire)),
+                Err(why) => Err(why),
+            },
+            Ok(None) => Ok(Arrival::TimedOut),
+            Err(e) => Err(Why::system("takes no connections", e)),
+        }
     }
 }
 
@@ -144,16 +230,45 @@ impl<R: time::Clock + Clone + Drop> Door for TcpDoor<R> {
         ensures failed { OnErr result (Rose self.old.faults self.new.faults) }
         ensures no_faults { IfOk result (λ next. IfSome next (λ wire. (wire.read_faults ≡ 0) × (wire.write_faults ≡ 0))) }
     {
-        match self.take_next() {
-            Some(wire) => {
-                self.taken = self.taken.saturating_add(1);
-                Ok(Some(wire))
-            }
-            None => {
-                self.faults = self.faults.saturating_add(1);
-                Err(Failed)
+        if let Some(listener) = &self.listener {
+            match self.take_next(listener) {
+                Ok(wire) => {
+                    self.taken = self.taken.saturating_add(1);
+                    return Ok(Some(wire));
+                }
+                Err(why) => self.why = Some(why),
             }
         }
+        self.faults = self.faults.saturating_add(1);
+        Err(Failed)
+    }
+
+    /// It looks for a connection some hundred times a second. Its clock is the system's; where that cannot be read, the
+    /// call fails.
+    fn next_before(&mut self, moment: Moment) -> Result<Arrival<TcpWire<R>>, Failed>
+        ensures some { result ≢ Ok Arrival.NoMore }
+        ensures unusable { self.old.is_usable ≡ false → IsErr result }
+        ensures usable { self.new.is_usable ≡ self.old.is_usable }
+        ensures numbered { IfOk result (λ arrival. IfSome (connected arrival) (λ wire. wire.number ≡ self.old.taken)) }
+
+        ensures kept { OnOk result (self.new.faults ≡ self.old.faults) }
+        ensures counted { self.old.faults ≤ self.new.faults }
+        ensures failed { OnErr result (Rose self.old.faults self.new.faults) }
+        ensures no_faults { IfOk result (λ arrival. IfSome (connected arrival)
+            (λ wire. (wire.read_faults ≡ 0) × (wire.write_faults ≡ 0))) }
+    {
+        if let Some(listener) = &self.listener {
+            match self.take_before(listener, moment) {
+                Ok(Arrival::Connected(wire)) => {
+                    self.taken = self.taken.saturating_add(1);
+                    return Ok(Arrival::Connected(wire));
+                }
+                Ok(arrival) => return Ok(arrival),
+                Err(why) => self.why = Some(why),
+            }
+        }
+        self.faults = self.faults.saturating_add(1);
+        Err(Failed)
     }
 
     /// It says to the other side that nothing more comes, and reads on within bounds before it closes the

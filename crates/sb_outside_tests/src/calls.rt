@@ -1,7 +1,7 @@
 //! The calls of each trait, of whose answers a test knows only what it asserts. So a test is proved quickly.
 use sb_model::{Bytes, Moment};
 use sb_outside::{
-    Clock, Dice, Door, Failed, KeepFault, Keeper, Kind, Link, Sink, Source, write_all,
+    Arrival, Clock, Dice, Door, Failed, KeepFault, Keeper, Kind, Link, Sink, Source, Why, write_all,
 };
 use std::alloc::Global;
 
@@ -67,4 +67,19 @@ pub(crate) fn is_text(text: Option<&Bytes>, bytes: &[u8]) -> bool {
         Some(text) => text.as_slice() == bytes,
         None => false,
     }
+}
+
+/// Whether an object says this of why it failed.
+pub(crate) fn says(rt: &HostRuntime, why: Option<Why>, text: &str) -> bool {
+    let Some(why) = why else {
+        return false;
+    };
+    match format!(in rt.alloc(); "{why}") {
+        Ok(said) => said.as_str() == text,
+        Err(_) => false,
+    }
+}
+
+pub(crate) fn next_before<D: Door>(door: &mut D, moment: u64) -> Result<Arrival<D::Wire>, Failed> {
+    door.next_before(Moment(moment))
 }

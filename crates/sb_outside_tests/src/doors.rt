@@ -3,23 +3,17 @@ use sb_model::{Bytes, OutOfMemory, Row};
 use sb_outside::*;
 use std::alloc::Global;
 
-fn wire_of(alloc: Global, sends: &[u8], failing_writes: &[u64]) -> Result<MemoryWire, OutOfMemory> {
-    let failing = Row::from_slice(alloc, failing_writes)?;
-    MemoryWire::new(
-        alloc,
-        Bytes::from_slice(alloc, sends)?,
-        8,
-        Row::new(alloc),
-        failing,
-    )
+fn wire_of(alloc: Global, sends: &[u8]) -> Result<MemoryWire, OutOfMemory> {
+    let sends = Bytes::from_slice(alloc, sends)?;
+    MemoryWire::new(alloc, sends, 8, Row::new(alloc), Row::new(alloc))
 }
 
-/// A door with two connections, whose second call of `next` fails.
-fn door_of(alloc: Global, room: usize) -> Result<MemoryDoor, OutOfMemory> {
+/// A door with one connection, at which the moment comes first at the third call.
+fn door_of(alloc: Global) -> Result<MemoryDoor, OutOfMemory> {
     let mut coming = Row::new(alloc);
-    coming.push(wire_of(alloc, b"one", &[])?)?;
-    coming.push(wire_of(alloc, b"second", &[2])?.with_step(4))?;
-    MemoryDoor::new(alloc, coming, room, Row::from_slice(alloc, &[2])?)
+    coming.push(wire_of(alloc, b"one")?)?;
+    let door = MemoryDoor::new(alloc, coming, 2, Row::from_slice(alloc, &[2])?)?;
+    Ok(door.with_late(Row::from_slice(alloc, &[3])?))
 }
 
 fn entry(door: &MemoryDoor, number: usize) -> Option<&Connection> {
@@ -41,18 +35,8 @@ fn flags(door: &MemoryDoor, number: usize) -> Option<(bool, bool, bool)> {
 }
 
 #[test]
-fn connections_come_one_after_the_other(rt: HostRuntime) {
-    let mut door = door_of(rt.alloc(), 2).expect(&rt, "it failed");
-    assert!(rt; next(&mut door).expect(&rt, "it failed").is_some());
-    assert!(rt; next(&mut door).is_err());
-    assert!(rt; next(&mut door).expect(&rt, "it failed").is_some());
-    assert!(rt; next(&mut door).expect(&rt, "it failed").is_none());
-    assert!(rt; door.faults() == 1);
-}
-
-#[test]
 fn a_connection_is_logged_when_it_comes_back(rt: HostRuntime) {
-    let mut door = door_of(rt.alloc(), 2).expect(&rt, "it failed");
+    let mut door = door_of(rt.alloc()).expect(&rt, "it failed");
     let mut wire = next(&mut door)
         .expect(&rt, "it failed")
         .expect(&rt, "no connection came");
@@ -66,31 +50,10 @@ fn a_connection_is_logged_when_it_comes_back(rt: HostRuntime) {
 }
 
 #[test]
-fn connections_come_back_in_any_order(rt: HostRuntime) {
-    let mut door = door_of(rt.alloc(), 2).expect(&rt, "it failed");
-    let first = next(&mut door)
-        .expect(&rt, "it failed")
-        .expect(&rt, "no connection came");
-    assert!(rt; next(&mut door).is_err());
-    let mut second = next(&mut door)
-        .expect(&rt, "it failed")
-        .expect(&rt, "no connection came");
-    assert!(rt; read(&mut second, &mut [0; 16]) == Ok(4));
-    assert!(rt; write_whole(&mut second, b"abcd") == Ok(()));
-    assert!(rt; write_whole(&mut second, b"e") == Err(Failed));
-    done(&mut door, second);
-    done(&mut door, first);
-    assert!(rt; logs(&door, 0, b"", b""));
-    assert!(rt; logs(&door, 1, b"seco", b"abcd"));
-    assert!(rt; flags(&door, 1) == Some((false, false, true)));
-}
-
-#[test]
-fn a_door_logs_as_many_connections_as_have_room(rt: HostRuntime) {
-    let mut door = door_of(rt.alloc(), 1).expect(&rt, "it failed");
-    assert!(rt; next(&mut door).expect(&rt, "it failed").is_some());
-    assert!(rt; next(&mut door).is_err());
-    assert!(rt; door.log().is_some());
-    assert!(rt; next(&mut door).expect(&rt, "it failed").is_some());
-    assert!(rt; door.log().is_none());
+fn a_moment_comes_before_a_connection(rt: HostRuntime) {
+    let mut door = door_of(rt.alloc()).expect(&rt, "it failed");
+    assert!(rt; matches!(next_before(&mut door, 5), Ok(Arrival::Connected(_))));
+    assert!(rt; next_before(&mut door, 5).is_err());
+    assert!(rt; matches!(next_before(&mut door, 5), Ok(Arrival::TimedOut)));
+    assert!(rt; matches!(next_before(&mut door, 5), Ok(Arrival::NoMore)));
 }

@@ -6,6 +6,12 @@ mod calls;
 #[cfg(test)]
 mod doors;
 #[cfg(test)]
+mod files;
+#[cfg(test)]
+mod journals;
+#[cfg(test)]
+mod keepers;
+#[cfg(test)]
 mod links;
 #[cfg(test)]
 mod scripts;

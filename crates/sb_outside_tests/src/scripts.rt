@@ -20,15 +20,7 @@ fn a_clock_does_not_go_back(rt: HostRuntime) {
     assert!(rt; now(&mut clock) == 9);
     let answers = [Moment(5), Moment(5), Moment(7), Moment(9)];
     assert!(rt; clock.answers() == Some(answers.as_slice()));
-}
-
-#[test]
-fn a_clock_stands_after_its_readings(rt: HostRuntime) {
-    let mut clock = clock_of(rt.alloc(), &[5], 2).expect(&rt, "it failed");
-    assert!(rt; wait_until(&mut clock, 4) == 4);
-    assert!(rt; now(&mut clock) == 5);
-    assert!(rt; now(&mut clock) == 5);
-    assert!(rt; clock.answers() == None);
+    assert!(rt; clock.waits() == Some([Moment(7)].as_slice()));
 }
 
 fn dice_of(alloc: Global, words: &[u32], room: usize) -> Result<ScriptDice, OutOfMemory> {
@@ -46,15 +38,14 @@ fn dice_stand_after_their_words(rt: HostRuntime) {
     assert!(rt; dice.given() == None);
 }
 
-fn keeper_of(alloc: Global, failing: &[KeepFailure]) -> Result<MemoryKeeper, OutOfMemory> {
+fn keeper_of(alloc: Global) -> Result<MemoryKeeper, OutOfMemory> {
     let kept = Bytes::from_slice(alloc, b"old")?;
-    let failing = Row::from_slice(alloc, failing)?;
-    Ok(MemoryKeeper::new(alloc, Some(kept), failing))
+    Ok(MemoryKeeper::new(alloc, Some(kept), Row::new(alloc)))
 }
 
 #[test]
 fn a_keeper_keeps_what_it_is_handed(rt: HostRuntime) {
-    let mut keeper = keeper_of(rt.alloc(), &[]).expect(&rt, "it failed");
+    let mut keeper = keeper_of(rt.alloc()).expect(&rt, "it failed");
     assert!(rt; replace(&mut keeper, b"new") == Ok(()));
     let loaded = load(&mut keeper, rt.alloc()).expect(&rt, "it failed");
     assert!(rt; is_text(loaded.as_ref(), b"new"));
@@ -62,37 +53,6 @@ fn a_keeper_keeps_what_it_is_handed(rt: HostRuntime) {
 }
 
 #[test]
-fn a_keeper_may_be_left_with_a_front(rt: HostRuntime) {
-    let failing = [KeepFailure {
-        call: 2,
-        remains: Remains::Front(2),
-    }];
-    let mut keeper = keeper_of(rt.alloc(), &failing).expect(&rt, "it failed");
-    load(&mut keeper, rt.alloc()).expect(&rt, "it failed");
-    assert!(rt; replace(&mut keeper, b"new") == Err(KeepFault::Failed));
-    assert!(rt; is_text(keeper.kept(), b"ne"));
-    assert!(rt; keeper.handed().len() == 1);
-    assert!(rt; keeper.faults() == 1);
-}
-
-#[test]
-fn a_keeper_may_be_left_with_the_old_text(rt: HostRuntime) {
-    let failing = [KeepFailure {
-        call: 1,
-        remains: Remains::Old,
-    }];
-    let mut keeper = keeper_of(rt.alloc(), &failing).expect(&rt, "it failed");
-    assert!(rt; replace(&mut keeper, b"new") == Err(KeepFault::Failed));
-    assert!(rt; is_text(keeper.kept(), b"old"));
-}
-
-#[test]
-fn an_empty_keeper_keeps_nothing(rt: HostRuntime) {
-    let mut keeper = MemoryKeeper::new(rt.alloc(), None, Row::new(rt.alloc()));
-    assert!(rt;
-        load(&mut keeper, rt.alloc())
-            .expect(&rt, "it failed")
-            .is_none()
-    );
+fn an_open_gate_lets_pass(_rt: HostRuntime) {
     OpenGate.pass(Point::Round(1));
 }

@@ -1,100 +1,136 @@
 use crate::calls::*;
-use sb_model::Moment;
 use sb_outside::*;
+use std::cell::Cell;
 use std::io::ErrorKind;
+use std::random::RandomSource;
 use std::time::{Duration, Instant};
-use std::{fs, io, time};
-
-#[test]
-fn a_file_keeps_the_last_text(rt: HostRuntime) {
-    let mut keeper = FileKeeper::new(&rt, rt.alloc(), "sb_outside_kept.bin").expect(
-        &rt,
-        "it failed",
-    );
-    assert!(rt;
-        load(&mut keeper, rt.alloc())
-            .expect(&rt, "it failed")
-            .is_none()
-    );
-    assert!(rt; replace(&mut keeper, b"a long first text") == Ok(()));
-    assert!(rt; replace(&mut keeper, b"second") == Ok(()));
-    let text = load(&mut keeper, rt.alloc()).expect(&rt, "it failed");
-    assert!(rt; is_text(text.as_ref(), b"second"));
-    assert!(rt; keeper.faults() == 0);
-    assert!(rt; fs::metadata(&rt, "sb_outside_kept.bin.new").is_err());
-    fs::remove_file(&rt, "sb_outside_kept.bin").expect(&rt, "it failed");
-}
-
-#[test]
-fn a_text_that_cannot_be_written_is_a_fault(rt: HostRuntime) {
-    let mut keeper = FileKeeper::new(&rt, rt.alloc(), "no_such_folder/kept.bin").expect(
-        &rt,
-        "it failed",
-    );
-    assert!(rt;
-        load(&mut keeper, rt.alloc())
-            .expect(&rt, "it failed")
-            .is_none()
-    );
-    assert!(rt; replace(&mut keeper, b"text") == Err(KeepFault::Failed));
-    assert!(rt; keeper.faults() == 1);
-}
-
-#[test]
-fn a_folder_is_no_file_to_load(rt: HostRuntime) {
-    let mut keeper = FileKeeper::new(&rt, rt.alloc(), ".").expect(&rt, "it failed");
-    let loaded = load(&mut keeper, rt.alloc());
-    assert!(rt; loaded.err() == Some(KeepFault::Failed));
-}
-
-#[test]
-fn a_keeper_with_no_path_fails(rt: HostRuntime) {
-    let mut keeper = FileKeeper::unusable(&rt);
-    let loaded = load(&mut keeper, rt.alloc());
-    assert!(rt; loaded.err() == Some(KeepFault::Failed));
-    assert!(rt; replace(&mut keeper, b"text") == Err(KeepFault::Failed));
-    assert!(rt; keeper.faults() == 2);
-}
+use std::{io, time};
 
 #[test]
 fn the_clock_is_past_the_year_2024_and_waits(rt: HostRuntime) {
     let mut clock = SystemClock::new(&rt);
-    let now = clock.now();
-    assert!(rt; now.0 > 1_704_067_200_000);
+    let now = now(&mut clock);
+    assert!(rt; now > 1_704_067_200_000);
     let begun = Instant::now(&rt).expect(&rt, "it failed");
-    let reached = clock.wait_until(Moment(now.0.saturating_add(30)));
-    assert!(rt; reached.0 >= now.0.saturating_add(30));
+    assert!(rt; wait_until(&mut clock, now.saturating_add(30)) >= now.saturating_add(30));
     assert!(rt; begun.elapsed(&rt).expect(&rt, "it failed") >= Duration::from_millis(20));
 }
 
-/// A clock that cannot be read.
-struct NoClock;
+/// A clock in memory that goes on by what is slept.
+#[derive(Drop)]
+struct Sleeping {
+    can_be_read: bool,
+    millis: Cell<u64>,
+    sleeps: Cell<u64>,
+}
 
-impl time::Clock for NoClock {
+impl Sleeping {
+    fn new(can_be_read: bool) -> Sleeping {
+        Sleeping {
+            can_be_read,
+            millis: Cell::new(0),
+            sleeps: Cell::new(0),
+        }
+    }
+}
+
+impl time::Clock for Sleeping {
     fn monotonic(&self) -> io::Result<Duration> {
         Err(io::Error::from(ErrorKind::Unsupported))
     }
 
     fn since_1970(&self) -> io::Result<Duration> {
-        Err(io::Error::from(ErrorKind::Unsupported))
+        if self.can_be_read {
+            Ok(Duration::from_millis(self.millis.get()))
+        } else {
+            Err(io::Error::from(ErrorKind::Unsupported))
+        }
+    }
+
+    fn sleep(&self, duration: Duration) {
+        let slept = duration.as_millis() as u64;
+        self.millis.set(self.millis.get().saturating_add(slept));
+        self.sleeps.set(self.sleeps.get().saturating_add(1));
+    }
+}
+
+/// Whether a wait from 0 to a moment is slept out, in so many sleeps.
+fn sleeps_out(can_be_read: bool, moment: u64, sleeps: u64) -> bool {
+    let system = Sleeping::new(can_be_read);
+    let mut clock = SystemClock::new(&system);
+    let reached = wait_until(&mut clock, moment);
+    reached == moment && system.millis.get() == moment && system.sleeps.get() == sleeps
+}
+
+#[test]
+fn long_waits_are_slept_out(rt: HostRuntime) {
+    for can_be_read in [true, false] {
+        assert!(rt; sleeps_out(can_be_read, 7, 1), "{can_be_read}");
+        assert!(rt; sleeps_out(can_be_read, 61_000, 2), "{can_be_read}");
+        assert!(rt; sleeps_out(can_be_read, 7_200_000, 120), "{can_be_read}");
     }
 }
 
 #[test]
 fn a_clock_that_cannot_be_read_stands(rt: HostRuntime) {
-    let mut clock = SystemClock::new(&NoClock);
+    let system = Sleeping::new(false);
+    let mut clock = SystemClock::new(&system);
     assert!(rt; now(&mut clock) == 0);
     assert!(rt; wait_until(&mut clock, 7) == 7);
     assert!(rt; now(&mut clock) == 7);
+}
+
+/// A source of bytes in memory, with a clock: the first byte of the seed, or none, and what the clock says.
+struct Seeds {
+    first: Option<u8>,
+    millis: u64,
+}
+
+impl RandomSource for Seeds {
+    fn fill_bytes(&self, buffer: &mut [u8]) -> io::Result<()> {
+        let Some(first) = self.first else {
+            return Err(io::Error::from(ErrorKind::Unsupported));
+        };
+        for byte in buffer.iter_mut() {
+            *byte = 0;
+        }
+        if let Some(byte) = buffer.first_mut() {
+            *byte = first;
+        }
+        Ok(())
+    }
+}
+
+impl time::Clock for Seeds {
+    fn monotonic(&self) -> io::Result<Duration> {
+        Err(io::Error::from(ErrorKind::Unsupported))
+    }
+
+    fn since_1970(&self) -> io::Result<Duration> {
+        Ok(Duration::from_millis(self.millis))
+    }
 }
 
 /// The first words are the upper halves of 7806831264735756412 and 9396908728118811419, which were computed
 /// elsewhere.
 #[test]
 fn dice_count_on_from_their_seed(rt: HostRuntime) {
-    let mut dice = SystemDice::from_seed(1);
+    let mut dice = SystemDice::new(&Seeds {
+        first: Some(1),
+        millis: 0,
+    });
     assert!(rt; word(&mut dice) == 1_817_669_548);
     assert!(rt; word(&mut dice) == 2_187_888_307);
-    let mut by_the_clock = SystemDice::new(&NoClock);
-    assert!(rt; word(&mut by_the_clock) == 335_903_614);
+    let mut by_the_clock = SystemDice::new(&Seeds {
+        first: None,
+        millis: 1,
+    });
+    assert!(rt; word(&mut by_the_clock) == 1_817_669_548);
+}
+
+#[test]
+fn dice_that_are_made_at_once_differ(rt: HostRuntime) {
+    let mut first = SystemDice::new(&rt);
+    let mut second = SystemDice::new(&rt);
+    assert!(rt; word(&mut first) != word(&mut second));
 }

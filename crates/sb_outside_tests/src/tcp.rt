@@ -140,6 +140,48 @@ fn a_port_that_is_taken_cannot_be_had(rt: HostRuntime) {
     assert!(rt; !second.is_usable());
     assert!(rt; next(&mut second).is_err());
     assert!(rt; second.faults() == 1);
+    assert!(rt;
+        says(
+            &rt,
+            second.why(),
+            "cannot be had: Address already in use (os error 98)"
+        )
+    );
+}
+
+/// What a door answers before a moment.
+fn arrival(door: &mut LocalDoor<'_>, moment: u64) -> &'static str {
+    match next_before(door, moment) {
+        Ok(Arrival::Connected(_)) => "connected",
+        Ok(Arrival::NoMore) => "no more",
+        Ok(Arrival::TimedOut) => "timed out",
+        Err(Failed) => "failed",
+    }
+}
+
+#[test]
+fn a_door_tires_of_waiting(rt: HostRuntime) {
+    let mut door = door(&rt, LIMITS);
+    let mut clock = SystemClock::new(&rt);
+    let moment = now(&mut clock).saturating_add(30);
+    assert!(rt; arrival(&mut door, moment) == "timed out");
+    assert!(rt; now(&mut clock) >= moment);
+    let mut link = session(&rt, &door, LIMITS).expect(&rt, "it failed");
+    assert!(rt; send(&mut link, b"ping") == Ok(()));
+    assert!(rt; arrival(&mut door, 0) == "connected");
+    assert!(rt; arrival(&mut door, 0) == "timed out");
+    assert!(rt; door.faults() == 0);
+}
+
+#[test]
+fn a_door_that_tired_of_waiting_waits_again(rt: HostRuntime) {
+    let mut door = door(&rt, LIMITS);
+    assert!(rt; arrival(&mut door, 0) == "timed out");
+    let mut link = session(&rt, &door, LIMITS).expect(&rt, "it failed");
+    assert!(rt; send(&mut link, b"ping") == Ok(()));
+    let mut wire = taken(&mut door).expect(&rt, "it failed");
+    assert!(rt; read(&mut wire, &mut [0; 8]) == Ok(4));
+    done(&mut door, wire);
 }
 
 #[test]

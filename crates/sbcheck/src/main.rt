@@ -2,7 +2,10 @@
 #![tactic(auto)]
 
 use sb_client::run_client;
-use sb_outside::{FileKeeper, OpenGate, StdSink, StdSource, SystemClock, SystemDice, TcpLink};
+use sb_outside::{
+    FileKeeper, OpenGate, StdSink, StdSource, SystemClock, SystemDice, TcpLink, Why,
+    hold_descriptors,
+};
 use std::alloc::Global;
 use std::io::ErrorKind;
 use std::process::ExitCode;
@@ -18,7 +21,15 @@ fn words_of(rt: &HostRuntime, alloc: Global) -> io::Result<Vec<String>> {
     Ok(words)
 }
 
+/// Says why an object failed, where that is known.
+fn tell(rt: &HostRuntime, object: &str, why: Option<Why>) {
+    if let Some(why) = why {
+        let _ = eprintln!(rt; "sbcheck: {object} {why}");
+    }
+}
+
 fn main(rt: HostRuntime) -> ExitCode {
+    hold_descriptors(&rt);
     let alloc = rt.alloc();
     let words = match words_of(&rt, alloc) {
         Ok(words) => words,
@@ -32,8 +43,8 @@ fn main(rt: HostRuntime) -> ExitCode {
     let mut keep = FileKeeper::unusable(&rt);
     let mut link = TcpLink::unusable(&rt);
     let mut clock = SystemClock::new(&rt);
-    let mut dice = SystemDice::from_seed(0);
-    ExitCode::from(run_client(
+    let mut dice = SystemDice::new(&rt);
+    let status = run_client(
         alloc,
         words.as_slice(),
         &mut input,
@@ -43,5 +54,11 @@ fn main(rt: HostRuntime) -> ExitCode {
         &mut clock,
         &mut dice,
         &OpenGate,
-    ))
+    );
+    match status {
+        2 => tell(&rt, "standard input", input.why()),
+        3 => tell(&rt, "standard output", out.why()),
+        _ => {}
+    }
+    ExitCode::from(status)
 }

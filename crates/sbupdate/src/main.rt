@@ -1,10 +1,12 @@
 //! Keeps a client's threat lists up to date.
 #![tactic(auto)]
 
-use sb_client::{run_client, targets};
+use client_store::{LONGEST_STORE, STORE_MAGIC};
+use sb_client::{Targets, run_client, targets};
 use sb_model::{OutOfMemory, Text};
 use sb_outside::{
-    FileKeeper, OpenGate, StdSink, StdSource, SystemClock, SystemDice, TcpLimits, TcpLink,
+    FileKeeper, KeptForm, OpenGate, StdSink, StdSource, SystemClock, SystemDice, TcpLimits,
+    TcpLink, Why, hold_descriptors,
 };
 use std::alloc::Global;
 use std::io::ErrorKind;
@@ -21,14 +23,18 @@ fn words_of(rt: &HostRuntime, alloc: Global) -> io::Result<Vec<String>> {
     Ok(words)
 }
 
-/// The keeper of the store at a path. Without one each call fails.
-fn keeper_at<'a>(
+/// The keeper of the store. Without a path each call fails.
+fn keeper_of<'a>(
     rt: &'a HostRuntime,
     alloc: Global,
-    path: &Option<Text>,
+    targets: &Targets,
 ) -> Result<FileKeeper<&'a HostRuntime>, OutOfMemory> {
-    match path {
-        Some(path) => FileKeeper::new(rt, alloc, path.as_str()),
+    let form = KeptForm {
+        longest: LONGEST_STORE,
+        front: *STORE_MAGIC,
+    };
+    match &targets.store {
+        Some(path) => FileKeeper::new(rt, alloc, path.as_str(), form, targets.replaces),
         None => Ok(FileKeeper::unusable(rt)),
     }
 }
@@ -45,21 +51,43 @@ fn link_to<'a>(
     }
 }
 
+/// Says why an object failed, where that is known.
+fn tell(rt: &HostRuntime, object: &str, why: Option<Why>) {
+    if let Some(why) = why {
+        let _ = eprintln!(rt; "sbupdate: {object} {why}");
+    }
+}
+
+/// Says why the store failed, where that is known.
+fn tell_store(rt: &HostRuntime, path: &Option<Text>, why: Option<Why>) {
+    if let (Some(path), Some(why)) = (path, why) {
+        let _ = eprintln!(rt; "sbupdate: the store {} {why}", path.as_str());
+    }
+}
+
 /// Runs the command that the words are.
 fn run(rt: &HostRuntime, alloc: Global, words: &[String]) -> Result<u8, OutOfMemory> {
     let targets = targets(alloc, words)?;
-    let mut keep = keeper_at(rt, alloc, &targets.store)?;
+    let mut keep = keeper_of(rt, alloc, &targets)?;
     let mut link = link_to(rt, alloc, &targets.server)?;
     let mut input = StdSource::new(rt.stdin());
     let mut out = StdSink::new(rt.stdout());
     let mut clock = SystemClock::new(rt);
     let mut dice = SystemDice::new(rt);
-    Ok(run_client(
+    let status = run_client(
         alloc, words, &mut input, &mut out, &mut keep, &mut link, &mut clock, &mut dice, &OpenGate,
-    ))
+    );
+    match status {
+        2 => tell(rt, "standard input", input.why()),
+        3 => tell(rt, "standard output", out.why()),
+        4 => tell_store(rt, &targets.store, keep.why()),
+        _ => {}
+    }
+    Ok(status)
 }
 
 fn main(rt: HostRuntime) -> ExitCode {
+    hold_descriptors(&rt);
     let alloc = rt.alloc();
     let words = match words_of(&rt, alloc) {
         Ok(words) => words,
