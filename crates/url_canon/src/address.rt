@@ -1,11 +1,10 @@
-ghost use Rattle.std.specs.Prelude.{◌≡◌, ℕ, List, Some, ◌↔◌, ◌+◌, ◌*◌, ◌^◌, ◌≤◌, ◌<◌, ◌++◌, min, option_map, OnOk, IfSome, decimal};
+ghost use Rattle.std.specs.Prelude.{◌≡◌, ℕ, List, Some, ◌↔◌, ◌+◌, ◌*◌, ◌^◌, ◌≤◌, ◌<◌, ◌++◌, min, option_map, OnOk, IfSome};
 ghost use Rattle.std.specs.List.{slice_split};
 ghost use Rattle.url_canon.specs.Address.{IsAddressOf, number_in, number_of, address_in, address_of, address_text};
 ghost use Rattle.url_canon.specs.Words.{is_dot};
 
 use crate::split::split_at_byte;
 use crate::unescape::hex_value;
-use itoa::Buffer;
 use sb_model::{Bytes, OutOfMemory};
 
 /// One more than the greatest IPv4 address.
@@ -87,27 +86,19 @@ pub fn address_of(name: &[u8]) -> Option<u64>
     address_in(4, name)
 }
 
-/// Appends a number in decimal digits.
-fn append_decimal(out: &mut Bytes, number: u64) -> Result<(), OutOfMemory>
-    ensures { OnOk result (out.new ≡ out.old ++ decimal number) }
-{
-    let mut buffer = Buffer::new();
-    out.append(buffer.format(number).as_bytes())
-}
-
 /// Appends an address as four decimals, separated by dots.
 #[tactic(auto, unfolding(crate::specs::Address::address_text))]
 pub fn append_address(out: &mut Bytes, address: u64) -> Result<(), OutOfMemory>
     requires { address < 2 ^ 32 }
     ensures { OnOk result (out.new ≡ out.old ++ address_text address) }
 {
-    append_decimal(out, address / 0x100_0000)?;
+    out.append_decimal(address / 0x100_0000)?;
     out.push(b'.')?;
-    append_decimal(out, address / 0x1_0000 % 256)?;
+    out.append_decimal(address / 0x1_0000 % 256)?;
     out.push(b'.')?;
-    append_decimal(out, address / 256 % 256)?;
+    out.append_decimal(address / 256 % 256)?;
     out.push(b'.')?;
-    append_decimal(out, address % 256)
+    out.append_decimal(address % 256)
 }
 
 /// The address of a name is that of the four bytes that the numbers of its parts stand for, and no
