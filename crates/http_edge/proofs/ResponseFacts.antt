@@ -8,8 +8,8 @@ use Rattle.http_edge.specs.Heads.{BeginsResponse, IsRefusedResponse, IsOpenRespo
 use Rattle.http_edge.specs.Outcomes.{HasResponse, HasSuccess, HasWhole, HasBody, framing_of, IsFault, BytesOutcome, LacksRest, HasLongBody, HasWrongChunk, IsRightDigest}
 use Rattle.http_edge.specs.Chunks.{IsWholeBody}
 use Rattle.http_edge.specs.ChunkSteps.{IsFaultOfBody, IsFaultOfChunks}
-use Rattle.http_edge.specs.Hearing.{IsResponsePartsOf, IsResponseStep, IsJudged, IsFaultOfHead, HeardOutcome}
-use Rattle.http_edge.specs.declared.hearing.HearFault.TheVariants.{Fault}
+use Rattle.http_edge.specs.SessionBytes.{IsResponsePartsOf, IsResponseStep, IsDigestCompared, IsFaultOfHead, ReceivedOutcome}
+use Rattle.http_edge.specs.declared.session_bytes.ReceiveFault.TheVariants.{Fault}
 use Rattle.http_edge.specs.declared.faults.ExchangeFault.{ExchangeFault}
 use Rattle.http_edge.specs.declared.faults.ExchangeFault.TheVariants as fault
 use Rattle.http_edge.specs.declared.fields.Framing.TheVariants.{ByLength, Chunked, Unframed}
@@ -87,37 +87,37 @@ whole_of text given parts n is status framing allowed enough = record {
 }
 
 -- what the digest says of a whole body is the outcome
-judged_whole : (need ended : Bool) (bytes body : List ℕ) (given : Option (List ℕ)) (answer : Result (List ℕ) ExchangeFault) → HasWhole bytes body given
-    → IsJudged need body given answer → BytesOutcome need bytes ended answer
-judged_whole need ended bytes body given (Ok passed) whole says = (
+compared_whole : (need ended : Bool) (bytes body : List ℕ) (given : Option (List ℕ)) (answer : Result (List ℕ) ExchangeFault) → HasWhole bytes body given
+    → IsDigestCompared need body given answer → BytesOutcome need bytes ended answer
+compared_whole need ended bytes body given (Ok passed) whole says = (
   given,
   subst (λ b. HasWhole bytes b given) (sym says.0) whole,
   subst (λ b. IsRightDigest need b given) (sym says.0) says.1,
 )
-judged_whole need ended bytes body given (Err fault.NoDigest) whole says = (body, subst (HasWhole bytes body) says.0 whole, says.1)
-judged_whole need ended bytes body given (Err (fault.Digest got other)) whole says = (body, subst (HasWhole bytes body) says.0 whole, says.1, says.2)
-judged_whole need ended bytes body given (Err fault.Link) whole says = absurd says
-judged_whole need ended bytes body given (Err fault.Head) whole says = absurd says
-judged_whole need ended bytes body given (Err fault.HeadLimit) whole says = absurd says
-judged_whole need ended bytes body given (Err (fault.Status other)) whole says = absurd says
-judged_whole need ended bytes body given (Err fault.NoLength) whole says = absurd says
-judged_whole need ended bytes body given (Err (fault.BodyLimit other)) whole says = absurd says
-judged_whole need ended bytes body given (Err fault.Cut) whole says = absurd says
-judged_whole need ended bytes body given (Err (fault.Chunk other)) whole says = absurd says
+compared_whole need ended bytes body given (Err fault.NoDigest) whole says = (body, subst (HasWhole bytes body) says.0 whole, says.1)
+compared_whole need ended bytes body given (Err (fault.Digest got other)) whole says = (body, subst (HasWhole bytes body) says.0 whole, says.1, says.2)
+compared_whole need ended bytes body given (Err fault.Link) whole says = absurd says
+compared_whole need ended bytes body given (Err fault.Head) whole says = absurd says
+compared_whole need ended bytes body given (Err fault.HeadLimit) whole says = absurd says
+compared_whole need ended bytes body given (Err (fault.Status other)) whole says = absurd says
+compared_whole need ended bytes body given (Err fault.NoLength) whole says = absurd says
+compared_whole need ended bytes body given (Err (fault.BodyLimit other)) whole says = absurd says
+compared_whole need ended bytes body given (Err fault.Cut) whole says = absurd says
+compared_whole need ended bytes body given (Err (fault.Chunk other)) whole says = absurd says
 
-pub judged : (need : Bool) (text given : List ℕ) (parts : ResponseParts) (n : ℕ) (body : List ℕ) (answer : Result (List ℕ) ExchangeFault) → IsResponsePartsOf text parts
+pub compared : (need : Bool) (text given : List ℕ) (parts : ResponseParts) (n : ℕ) (body : List ℕ) (answer : Result (List ℕ) ExchangeFault) → IsResponsePartsOf text parts
     → parts.status ≡ 200 → parts.framing ≡ ByLength n → n ≤ 201326592 → n ≤ length (drop parts.start text ++ given) → body ≡ take n (drop parts.start text ++ given)
-    → IsJudged need body parts.digest answer → BytesOutcome need (text ++ given) false answer
-judged need text given parts n body answer is status framing allowed enough body-is says =
-    judged_whole need false (text ++ given) body parts.digest answer
+    → IsDigestCompared need body parts.digest answer → BytesOutcome need (text ++ given) false answer
+compared need text given parts n body answer is status framing allowed enough body-is says =
+    compared_whole need false (text ++ given) body parts.digest answer
     (subst (λ b. HasWhole (text ++ given) b parts.digest) (sym body-is) (whole_of text given parts n is status framing allowed enough)) says
 
 -- the same of a chunked body
-pub judged_chunks : (need : Bool) (text given : List ℕ) (parts : ResponseParts) (body : List ℕ) (answer : Result (List ℕ) ExchangeFault) → IsResponsePartsOf text parts
-    → parts.status ≡ 200 → parts.framing ≡ Chunked → IsWholeBody (drop parts.start text ++ given) body → IsJudged need body parts.digest answer
+pub compared_chunks : (need : Bool) (text given : List ℕ) (parts : ResponseParts) (body : List ℕ) (answer : Result (List ℕ) ExchangeFault) → IsResponsePartsOf text parts
+    → parts.status ≡ 200 → parts.framing ≡ Chunked → IsWholeBody (drop parts.start text ++ given) body → IsDigestCompared need body parts.digest answer
     → BytesOutcome need (text ++ given) false answer
-judged_chunks need text given parts body answer is status framing whole says =
-    judged_whole need false (text ++ given) body parts.digest answer
+compared_chunks need text given parts body answer is status framing whole says =
+    compared_whole need false (text ++ given) body parts.digest answer
     (record {
       head = is.head;
       rest = drop parts.start text ++ given;
@@ -161,7 +161,7 @@ unframed need ended text parts is status framing = (is.head, drop parts.start te
 
 -- a fault of a chunked body is the outcome
 pub chunked_fault : (need ended failed : Bool) (text given : List ℕ) (parts : ResponseParts) (why : ExchangeFault) → IsResponsePartsOf text parts → parts.status ≡ 200
-    → parts.framing ≡ Chunked → IsFaultOfChunks (drop parts.start text ++ given) ended failed (Fault why) → HeardOutcome need (text ++ given) ended failed (Err why)
+    → parts.framing ≡ Chunked → IsFaultOfChunks (drop parts.start text ++ given) ended failed (Fault why) → ReceivedOutcome need (text ++ given) ended failed (Err why)
 chunked_fault need ended true text given parts why is status framing says = ap Err says
 chunked_fault need ended false text given parts why is status framing says = of_body why says
   where
@@ -187,6 +187,6 @@ chunked_fault need ended false text given parts why is status framing says = of_
     of_body (fault.Digest got other) says = absurd says
 
 -- a fault of the head is the outcome
-pub heard_fault : (need : Bool) (bytes : List ℕ) (ended failed : Bool) (why : ExchangeFault) → IsFaultOfHead bytes ended failed (Fault why) → HeardOutcome need bytes ended failed (Err why)
-heard_fault need bytes ended true why is = ap Err is
-heard_fault need bytes ended false why is = is need
+pub received_fault : (need : Bool) (bytes : List ℕ) (ended failed : Bool) (why : ExchangeFault) → IsFaultOfHead bytes ended failed (Fault why) → ReceivedOutcome need bytes ended failed (Err why)
+received_fault need bytes ended true why is = ap Err is
+received_fault need bytes ended false why is = is need

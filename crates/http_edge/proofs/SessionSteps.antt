@@ -1,10 +1,16 @@
 -- What calls on a link do to the session that its log tells last.
-use Rattle.std.proofs.Common.{◌≡◌, ℕ, List, [], ◌∷◌, ◌++◌, take, drop, Bool, true, false, Option, Some, None, sym, ap, ◌∙◌, subst, append_assoc}
+use Rattle.std.proofs.Common.{◌≡◌, ℕ, List, [], ◌∷◌, ◌++◌, take, drop, Bool, true, false, Option, Some, None, Result, Ok, Err, sym, ap, ◌∙◌, subst, append_assoc}
+use Rattle.std.specs.Prelude.{OnErr}
 use Rattle.std.proofs.lemmas.List.{append-nil, take-append-drop}
 use Rattle.sb_outside.specs.Outside.{IfTold, with_entry}
 use Rattle.sb_outside.specs.Sessions.{with_sent, with_received, with_end, with_failure, last_changed, on_last, on_last-push}
 use Rattle.sb_outside.specs.declared.links.Session.{Session}
-use Rattle.http_edge.specs.Hearing.{Turns, Hears, heard, end_if, fail_if, SendsFront}
+use Rattle.http_edge.specs.SessionBytes.{Turns, Receives, after_receiving, end_if, fail_if, SendsFront}
+
+-- what holds in any case holds after an error
+pub err_says : {T E : Type 0} (result : Result T E) (P : Type 0) → P → OnErr result P
+err_says (Ok value) P is = tt
+err_says (Err fault) P is = is
 
 last_of_entry : (change : Session → Session) (log : Option (List Session)) (session : Session) (before : Option (List Session)) (told : List Session)
     → last_changed change before ≡ Some told → IfTold before (with_entry log session) → with_entry log (change session) ≡ Some told
@@ -30,28 +36,28 @@ turns_same one other before after same turns log session told =
 received_then : (first then : List ℕ) (session : Session) → with_received then (with_received first session) ≡ with_received (first ++ then) session
 received_then first then session = ap (λ bytes. record session { received = bytes }) (append_assoc session.received first then)
 
-pub hears_then : (first then : List ℕ) (a b c : Option (List Session)) → Hears first false false a b → Hears then false false b c → Hears (first ++ then) false false a c
-hears_then first then a b c one two =
+pub receives_then : (first then : List ℕ) (a b c : Option (List Session)) → Receives first false false a b → Receives then false false b c → Receives (first ++ then) false false a c
+receives_then first then a b c one two =
     turns_same (λ session. with_received then (with_received first session)) (with_received (first ++ then)) a c (received_then first then) (turns_then (with_received first) (with_received then) a b c one two)
 
 received_nothing : (session : Session) → session ≡ with_received [] session
 received_nothing session = ap (λ bytes. record session { received = bytes }) (sym (append-nil session.received))
 
-pub hears_nothing : (log : Option (List Session)) → Hears [] false false log log
-hears_nothing log = turns_same (λ session. session) (with_received []) log log received_nothing (λ before session told. told)
+pub receives_nothing : (log : Option (List Session)) → Receives [] false false log log
+receives_nothing log = turns_same (λ session. session) (with_received []) log log received_nothing (λ before session told. told)
 
 -- bytes, and then whatever became of the session
-pub hears_and : (first then : List ℕ) (ended failed : Bool) (a b c : Option (List Session)) → Hears first false false a b → Hears then ended failed b c → Hears (first ++ then) ended failed a c
-hears_and first then ended failed a b c one two =
-    turns_same (λ session. heard then ended failed (with_received first session)) (heard (first ++ then) ended failed) a c
+pub receives_and : (first then : List ℕ) (ended failed : Bool) (a b c : Option (List Session)) → Receives first false false a b → Receives then ended failed b c → Receives (first ++ then) ended failed a c
+receives_and first then ended failed a b c one two =
+    turns_same (λ session. after_receiving then ended failed (with_received first session)) (after_receiving (first ++ then) ended failed) a c
     (λ session. ap (λ last. fail_if failed (end_if ended last)) (received_then first then session))
-    (turns_then (with_received first) (heard then ended failed) a b c one two)
+    (turns_then (with_received first) (after_receiving then ended failed) a b c one two)
 
-pub hears_end : (bytes : List ℕ) (a b c : Option (List Session)) → Hears bytes false false a b → Turns with_end b c → Hears bytes true false a c
-hears_end bytes a b c one two = turns_then (with_received bytes) with_end a b c one two
+pub receives_end : (bytes : List ℕ) (a b c : Option (List Session)) → Receives bytes false false a b → Turns with_end b c → Receives bytes true false a c
+receives_end bytes a b c one two = turns_then (with_received bytes) with_end a b c one two
 
-pub hears_failure : (bytes : List ℕ) (a b c : Option (List Session)) → Hears bytes false false a b → Turns with_failure b c → Hears bytes false true a c
-hears_failure bytes a b c one two = turns_then (with_received bytes) with_failure a b c one two
+pub receives_failure : (bytes : List ℕ) (a b c : Option (List Session)) → Receives bytes false false a b → Turns with_failure b c → Receives bytes false true a c
+receives_failure bytes a b c one two = turns_then (with_received bytes) with_failure a b c one two
 
 -- ---- what is sent
 

@@ -1,4 +1,4 @@
--- A session that was begun, in which a request was sent, and which was heard to some end.
+-- A session that was begun, in which a request was sent, and which was received to some end.
 use Rattle.std.proofs.Common.{◌≡◌, ◌≢◌, ℕ, List, [], ◌∷◌, ◌++◌, Bool, true, false, Option, Ok, Err, refl, sym, ap, ◌∙◌}
 use Rattle.std.specs.Prelude.{Result, IfOk, OnErr, codes, encode_utf8_all, IsUtf8}
 use Rattle.std.specs.Str.{chars}
@@ -14,12 +14,12 @@ use Rattle.http_edge.specs.declared.messages.Target.{Target}
 use Rattle.http_edge.specs.declared.faults.ExchangeFault.{ExchangeFault}
 use Rattle.http_edge.specs.Outcomes.{SessionOutcome}
 use Rattle.http_edge.specs.Exchanges.{query_of, request_text, IsTalkOf, IsSessionOf, SendsWhole, HoldsSession, HoldsPart, IsConversation, IsPartOfConversation}
-use Rattle.http_edge.specs.Hearing.{Turns, heard, HeardOutcome, IsHeard, IsPartHeard}
+use Rattle.http_edge.specs.SessionBytes.{Turns, after_receiving, ReceivedOutcome, IsReceived, IsPartReceived}
 use Rattle.http_edge.proofs.SessionSteps.{turns_from}
 
--- the session after the whole request was sent and so much was heard
+-- the session after the whole request was sent and so much was received
 abbrev talk_of : Target → Kind → List ℕ → Moment → List ℕ → Bool → Bool → Session
-talk_of target kind body at bytes ended failed = heard bytes ended failed (with_sent (request_text target kind body) (begun_session at kind))
+talk_of target kind body at bytes ended failed = after_receiving bytes ended failed (with_sent (request_text target kind body) (begun_session at kind))
 
 talk_is : (target : Target) (kind : Kind) (body : List ℕ) (at : Moment) (bytes : List ℕ) (ended failed : Bool) → IsTalkOf target kind body at (talk_of target kind body at bytes ended failed)
 talk_is target kind body at bytes true true = record { kind = refl; begun = refl; not_closed = refl; unsent = []; front = append-nil (request_text target kind body) }
@@ -34,31 +34,31 @@ talk_sends target kind body at bytes false true = λ _. refl
 talk_sends target kind body at bytes false false = λ _. refl
 
 talk_outcome : (target : Target) (kind : Kind) (body : List ℕ) (at : Moment) (need : Bool) (bytes : List ℕ) (ended failed : Bool) (answer : Result (List ℕ) ExchangeFault)
-    → HeardOutcome need bytes ended failed answer → SessionOutcome need (talk_of target kind body at bytes ended failed) answer
+    → ReceivedOutcome need bytes ended failed answer → SessionOutcome need (talk_of target kind body at bytes ended failed) answer
 talk_outcome target kind body at need bytes true true answer is = is
 talk_outcome target kind body at need bytes true false answer is = is
 talk_outcome target kind body at need bytes false true answer is = is
 talk_outcome target kind body at need bytes false false answer is = is
 
-pub talk_heard : (target : Target) (kind : Kind) (body : List ℕ) (at : Moment) (need : Bool) (a b c d : Option (List Session)) (result : Result (Result (List ℕ) ExchangeFault) OutOfMemory)
+pub talk_received : (target : Target) (kind : Kind) (body : List ℕ) (at : Moment) (need : Bool) (a b c d : Option (List Session)) (result : Result (Result (List ℕ) ExchangeFault) OutOfMemory)
     → IfTold b (with_entry a (begun_session at kind)) → Turns (with_sent (request_text target kind body)) b c
-    → IfOk result (λ answer. IsHeard need c d answer) → IfOk result (λ answer. IsConversation target kind body at need a d answer)
-talk_heard target kind body at need a b c d (Ok answer) begun sent (bytes, ended, failed, hears, is) = record {
+    → IfOk result (λ answer. IsReceived need c d answer) → IfOk result (λ answer. IsConversation target kind body at need a d answer)
+talk_received target kind body at need a b c d (Ok answer) begun sent (bytes, ended, failed, receives, is) = record {
   session = talk_of target kind body at bytes ended failed;
-  told = hears a (with_sent (request_text target kind body) (begun_session at kind)) (sent a (begun_session at kind) begun);
+  told = receives a (with_sent (request_text target kind body) (begun_session at kind)) (sent a (begun_session at kind) begun);
   is = talk_is target kind body at bytes ended failed;
   sends = talk_sends target kind body at bytes ended failed;
   outcome = talk_outcome target kind body at need bytes ended failed answer is;
 }
-talk_heard target kind body at need a b c d (Err refused) begun sent says = tt
+talk_received target kind body at need a b c d (Err refused) begun sent says = tt
 
 pub talk_part : (target : Target) (kind : Kind) (body : List ℕ) (at : Moment) (a b c d : Option (List Session)) (result : Result (Result (List ℕ) ExchangeFault) OutOfMemory)
     → IfTold b (with_entry a (begun_session at kind)) → Turns (with_sent (request_text target kind body)) b c
-    → OnErr result (IsPartHeard c d) → OnErr result (IsPartOfConversation target kind body at a d)
+    → OnErr result (IsPartReceived c d) → OnErr result (IsPartOfConversation target kind body at a d)
 talk_part target kind body at a b c d (Ok answer) begun sent says = tt
-talk_part target kind body at a b c d (Err refused) begun sent (bytes, ended, failed, hears) = record {
+talk_part target kind body at a b c d (Err refused) begun sent (bytes, ended, failed, receives) = record {
   session = talk_of target kind body at bytes ended failed;
-  told = hears a (with_sent (request_text target kind body) (begun_session at kind)) (sent a (begun_session at kind) begun);
+  told = receives a (with_sent (request_text target kind body) (begun_session at kind)) (sent a (begun_session at kind) begun);
   is = talk_is target kind body at bytes ended failed;
 }
 

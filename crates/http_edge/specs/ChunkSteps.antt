@@ -13,8 +13,8 @@ use Rattle.http_edge.specs.declared.chunks.EndStep.{EndStep}
 use Rattle.http_edge.specs.declared.chunks.EndStep.TheVariants as end
 use Rattle.http_edge.specs.declared.faults.ExchangeFault.{ExchangeFault}
 use Rattle.http_edge.specs.declared.faults.ExchangeFault.TheVariants.{Link, Head, HeadLimit, Status, NoLength, BodyLimit, Cut, NoDigest, Digest, Chunk}
-use Rattle.http_edge.specs.declared.hearing.HearFault.{HearFault}
-use Rattle.http_edge.specs.declared.hearing.HearFault.TheVariants.{Fault, OutOfMemory}
+use Rattle.http_edge.specs.declared.session_bytes.ReceiveFault.{ReceiveFault}
+use Rattle.http_edge.specs.declared.session_bytes.ReceiveFault.TheVariants.{Fault, OutOfMemory}
 
 -- A size line stands at the front of the bytes, ends here, and says this size.
 pub record ReadsSize (bytes : List ℕ) (start size : ℕ) : Type 0 where
@@ -97,6 +97,6 @@ IsFaultOfBody bytes ended NoDigest = ⊥
 IsFaultOfBody bytes ended (Digest got given) = ⊥
 
 -- the same of a session that failed or did not
-abbrev pub IsFaultOfChunks : List ℕ → Bool → Bool → HearFault → Type 0
+abbrev pub IsFaultOfChunks : List ℕ → Bool → Bool → ReceiveFault → Type 0
 IsFaultOfChunks bytes ended failed (Fault fault) = MatchBool failed (fault ≡ Link) (IsFaultOfBody bytes ended fault)
 IsFaultOfChunks bytes ended failed OutOfMemory = ⊤

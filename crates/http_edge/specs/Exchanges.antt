@@ -1,9 +1,11 @@
 -- An exchange: one session, what is sent in it, and when it is begun and closed.
-use Rattle.std.specs.Prelude.{◌≡◌, ℕ, List, [], ◌∷◌, ◌++◌, length, codes, decimal, encode_utf8_all, Bool, Option, Some, None, Result, IsFalse}
-use Rattle.sb_outside.specs.Outside.{IfTold, with_entry}
+use Rattle.std.specs.Prelude.{◌≡◌, ◌≢◌, ℕ, ◌≤◌, List, [], ◌∷◌, ◌++◌, length, codes, decimal, encode_utf8_all, Bool, Option, Some, None, Result, Err, IfOk, OnErr, IsErrOf, IsFalse}
+use Rattle.sb_outside.specs.Outside.{Rose, IfTold, with_entry}
 use Rattle.http_edge.specs.declared.faults.ExchangeFault.{ExchangeFault}
+use Rattle.http_edge.specs.declared.faults.ExchangeFault.TheVariants.{Link}
 use Rattle.http_edge.specs.Outcomes.{SessionOutcome}
 use Rattle.sb_model.specs.declared.time.Moment.{Moment}
+use Rattle.sb_model.specs.declared.memory.OutOfMemory.{OutOfMemory}
 use Rattle.sb_outside.specs.declared.links.Kind.{Kind}
 use Rattle.sb_outside.specs.declared.links.Kind.TheVariants.{Update, Find}
 use Rattle.sb_outside.specs.declared.links.Session.{Session}
@@ -78,3 +80,10 @@ pub record IsPartOfConversation (target : Target) (asked : Kind) (body : List �
   pub session : Session
   pub told : IfTold after (with_entry before session)
   pub is : IsTalkOf target asked body at session
+
+-- A fault of the link is counted where it is the answer, and nothing else is.
+pub record CountsLinkFault (result : Result (Result (List ℕ) ExchangeFault) OutOfMemory) (before after : ℕ) : Type 0 where
+  pub failed : IfOk result (λ answer. IsErrOf answer Link → Rose before after)
+  pub kept : IfOk result (λ answer. answer ≢ Err Link → after ≡ before)
+  pub unmoved : OnErr result (after ≡ before)
+  pub counted : before ≤ after

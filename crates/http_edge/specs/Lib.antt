@@ -9,4 +9,4 @@ pub mod Outcomes
 pub mod Exchanges
 pub mod Receiving
 pub mod ChunkSteps
-pub mod Hearing
+pub mod SessionBytes

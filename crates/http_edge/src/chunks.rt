@@ -3,7 +3,7 @@ ghost use Rattle.http_edge.specs.ChunkSteps.{IsLineStep, IsEndStep, IsTrailerSte
 ghost use Rattle.http_edge.specs.Chunks.{HasOpenTrailer};
 
 use crate::heads::{FIELD_LIMIT, HEAD_LIMIT, front_of, rest_from};
-use crate::hearing::BODY_LIMIT;
+use crate::session_bytes::BODY_LIMIT;
 use httparse::parse_chunk_size;
 use httparse::spans::{HeaderSpan, parse_headers};
 

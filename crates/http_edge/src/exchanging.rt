@@ -4,20 +4,24 @@ ghost use Rattle.sb_outside.specs.Sessions.{with_sent, with_failure};
 ghost use Rattle.sb_model.specs.declared.time.Moment.{Moment};
 ghost use Rattle.sb_outside.specs.declared.links.Session.{Session};
 ghost use Rattle.http_edge.specs.Responses.{line};
-ghost use Rattle.http_edge.specs.Exchanges.{path_of, query_of, request_head, HoldsSession, HoldsPart, IsConversation, IsPartOfConversation};
-ghost use Rattle.http_edge.specs.Hearing.{Turns, Hears, IsResponsePartsOf, IsJudged, IsHeard, IsPartHeard, SendsFront};
+ghost use Rattle.http_edge.specs.Exchanges.{CountsLinkFault, path_of, query_of, request_head, HoldsSession, HoldsPart, IsConversation, IsPartOfConversation};
+ghost use Rattle.http_edge.specs.SessionBytes.{Turns, Receives, IsResponsePartsOf, IsDigestCompared, IsReceived, IsPartReceived, SendsFront};
 
 use crate::heads::buffer_of;
-use crate::hearing::{BODY_LIMIT, HearFault, hear_body, hear_head};
+use crate::paths::path_of;
 use crate::receiving::Stop;
 use crate::responding::{push_length, push_line};
 use crate::response_heads::ResponseParts;
-use crate::unchunking::hear_chunks;
+use crate::session_bytes::{BODY_LIMIT, ReceiveFault, receive_body, receive_head};
+use crate::unchunking::receive_chunks;
 use crate::{ExchangeFault, Framing, Target};
 use hash_prefixes::full_hash;
 use sb_model::{Bytes, Moment, OutOfMemory, Text};
 use sb_outside::{Clock, Failed, Kind, Link};
 use std::alloc::Global;
+
+/// The body of a response that was received, or why there is none.
+type Received = Result<Bytes, ExchangeFault>;
 
 /// What came of an exchange, and when its session was closed.
 #[derive(Debug, Drop)]
@@ -27,8 +31,8 @@ pub struct Exchanged {
 }
 
 /// Compares the digest of a whole body.
-fn judge(body: Bytes, given: Option<[u8; 32]>, need_digest: bool) -> Result<Bytes, ExchangeFault>
-    ensures { IsJudged need_digest body given result }
+fn compare_digest(body: Bytes, given: Option<[u8; 32]>, need_digest: bool) -> Received
+    ensures { IsDigestCompared need_digest body given result }
 {
     match given {
         Some(given) => {
@@ -47,8 +51,8 @@ fn judge(body: Bytes, given: Option<[u8; 32]>, need_digest: bool) -> Result<Byte
     }
 }
 
-/// Hears a body whose length is given.
-fn hear_length<L: Link>(
+/// Receives a body whose length is given.
+fn receive_by_length<L: Link>(
     alloc: Global,
     link: &mut L,
     buffer: &mut [u8],
@@ -56,117 +60,99 @@ fn hear_length<L: Link>(
     parts: ResponseParts,
     size: u64,
     need_digest: bool,
-) -> Result<Result<Bytes, ExchangeFault>, OutOfMemory>
+) -> Result<Received, OutOfMemory>
     requires room { 0 < length buffer.old }
     requires parts { IsResponsePartsOf text.now parts }
     requires success { parts.status ≡ 200 }
     requires framing { parts.framing ≡ Framing.ByLength size }
-    ensures heard { (start : Option (List Session)) → Hears text.now false false start (L.log link.old)
-        → IfOk result (λ answer. IsHeard need_digest start (L.log link.new) answer) }
-    ensures refused { OnErr result ((start : Option (List Session)) → Hears text.now false false start (L.log link.old)
-        → IsPartHeard start (L.log link.new)) }
-    ensures failed { IfOk result (λ answer. IsErrOf answer ExchangeFault.Link → Rose (L.faults link.old) (L.faults link.new)) }
-    ensures kept { IfOk result (λ answer. answer ≢ Err ExchangeFault.Link → L.faults link.new ≡ L.faults link.old) }
-    ensures unmoved { OnErr result (L.faults link.new ≡ L.faults link.old) }
-    ensures counted { L.faults link.old ≤ L.faults link.new }
+    ensures received { (start : Option (List Session)) → Receives text.now false false start (L.log link.old)
+        → IfOk result (λ answer. IsReceived need_digest start (L.log link.new) answer) }
+    ensures refused { OnErr result ((start : Option (List Session)) → Receives text.now false false start (L.log link.old)
+        → IsPartReceived start (L.log link.new)) }
+    ensures counted { CountsLinkFault result (L.faults link.old) (L.faults link.new) }
 {
     if size > BODY_LIMIT {
         return Ok(Err(ExchangeFault::BodyLimit(size)));
     }
-    let Ok(mut body) = Bytes::from_slice(alloc, &text.as_slice()[parts.start..]) else {
-        return Err(OutOfMemory);
-    };
-    match hear_body(link, buffer, &mut body, size as usize) {
-        Ok(()) => Ok(judge(body, parts.digest, need_digest)),
+    let mut body = Bytes::from_slice(alloc, &text.as_slice()[parts.start..])?;
+    match receive_body(link, buffer, &mut body, size as usize) {
+        Ok(()) => Ok(compare_digest(body, parts.digest, need_digest)),
         Err(Stop::Ended) => Ok(Err(ExchangeFault::Cut)),
         Err(Stop::Failed) => Ok(Err(ExchangeFault::Link)),
         Err(Stop::OutOfMemory) => Err(OutOfMemory),
     }
 }
 
-/// Hears a chunked body.
-fn hear_chunked<L: Link>(
+/// Receives a chunked body.
+fn receive_chunked<L: Link>(
     alloc: Global,
     link: &mut L,
     buffer: &mut [u8],
     text: &Bytes,
     parts: ResponseParts,
     need_digest: bool,
-) -> Result<Result<Bytes, ExchangeFault>, OutOfMemory>
+) -> Result<Received, OutOfMemory>
     requires room { 0 < length buffer.old }
     requires parts { IsResponsePartsOf text.now parts }
     requires success { parts.status ≡ 200 }
     requires framing { parts.framing ≡ Framing.Chunked }
-    ensures heard { (start : Option (List Session)) → Hears text.now false false start (L.log link.old)
-        → IfOk result (λ answer. IsHeard need_digest start (L.log link.new) answer) }
-    ensures refused { OnErr result ((start : Option (List Session)) → Hears text.now false false start (L.log link.old)
-        → IsPartHeard start (L.log link.new)) }
-    ensures failed { IfOk result (λ answer. IsErrOf answer ExchangeFault.Link → Rose (L.faults link.old) (L.faults link.new)) }
-    ensures kept { IfOk result (λ answer. answer ≢ Err ExchangeFault.Link → L.faults link.new ≡ L.faults link.old) }
-    ensures unmoved { OnErr result (L.faults link.new ≡ L.faults link.old) }
-    ensures counted { L.faults link.old ≤ L.faults link.new }
+    ensures received { (start : Option (List Session)) → Receives text.now false false start (L.log link.old)
+        → IfOk result (λ answer. IsReceived need_digest start (L.log link.new) answer) }
+    ensures refused { OnErr result ((start : Option (List Session)) → Receives text.now false false start (L.log link.old)
+        → IsPartReceived start (L.log link.new)) }
+    ensures counted { CountsLinkFault result (L.faults link.old) (L.faults link.new) }
 {
-    let Ok(body) = Bytes::from_slice(alloc, &text.as_slice()[parts.start..]) else {
-        return Err(OutOfMemory);
-    };
-    match hear_chunks(alloc, link, buffer, body) {
-        Ok(body) => Ok(judge(body, parts.digest, need_digest)),
-        Err(HearFault::Fault(fault)) => Ok(Err(fault)),
-        Err(HearFault::OutOfMemory) => Err(OutOfMemory),
+    let body = Bytes::from_slice(alloc, &text.as_slice()[parts.start..])?;
+    match receive_chunks(alloc, link, buffer, body) {
+        Ok(body) => Ok(compare_digest(body, parts.digest, need_digest)),
+        Err(ReceiveFault::Fault(fault)) => Ok(Err(fault)),
+        Err(ReceiveFault::OutOfMemory) => Err(OutOfMemory),
     }
 }
 
-/// Hears what follows the head of a response.
-fn hear_answer<L: Link>(
+/// Receives what follows the head of a response.
+fn receive_rest<L: Link>(
     alloc: Global,
     link: &mut L,
     buffer: &mut [u8],
     text: &Bytes,
     parts: ResponseParts,
     need_digest: bool,
-) -> Result<Result<Bytes, ExchangeFault>, OutOfMemory>
+) -> Result<Received, OutOfMemory>
     requires room { 0 < length buffer.old }
     requires parts { IsResponsePartsOf text.now parts }
-    ensures heard { (start : Option (List Session)) → Hears text.now false false start (L.log link.old)
-        → IfOk result (λ answer. IsHeard need_digest start (L.log link.new) answer) }
-    ensures refused { OnErr result ((start : Option (List Session)) → Hears text.now false false start (L.log link.old)
-        → IsPartHeard start (L.log link.new)) }
-    ensures failed { IfOk result (λ answer. IsErrOf answer ExchangeFault.Link → Rose (L.faults link.old) (L.faults link.new)) }
-    ensures kept { IfOk result (λ answer. answer ≢ Err ExchangeFault.Link → L.faults link.new ≡ L.faults link.old) }
-    ensures unmoved { OnErr result (L.faults link.new ≡ L.faults link.old) }
-    ensures counted { L.faults link.old ≤ L.faults link.new }
+    ensures received { (start : Option (List Session)) → Receives text.now false false start (L.log link.old)
+        → IfOk result (λ answer. IsReceived need_digest start (L.log link.new) answer) }
+    ensures refused { OnErr result ((start : Option (List Session)) → Receives text.now false false start (L.log link.old)
+        → IsPartReceived start (L.log link.new)) }
+    ensures counted { CountsLinkFault result (L.faults link.old) (L.faults link.new) }
 {
     if parts.status != 200 {
         return Ok(Err(ExchangeFault::Status(parts.status)));
     }
     match parts.framing {
         Framing::ByLength(length) => {
-            hear_length(alloc, link, buffer, text, parts, length, need_digest)
+            receive_by_length(alloc, link, buffer, text, parts, length, need_digest)
         }
-        Framing::Chunked => hear_chunked(alloc, link, buffer, text, parts, need_digest),
+        Framing::Chunked => receive_chunked(alloc, link, buffer, text, parts, need_digest),
         Framing::Unframed => Ok(Err(ExchangeFault::NoLength)),
     }
 }
 
-/// Hears a whole response.
-fn listen<L: Link>(
+/// Receives a whole response.
+fn receive_response<L: Link>(
     alloc: Global,
     link: &mut L,
     need_digest: bool,
-) -> Result<Result<Bytes, ExchangeFault>, OutOfMemory>
-    ensures heard { IfOk result (λ answer. IsHeard need_digest (L.log link.old) (L.log link.new) answer) }
-    ensures refused { OnErr result (IsPartHeard (L.log link.old) (L.log link.new)) }
-    ensures failed { IfOk result (λ answer. IsErrOf answer ExchangeFault.Link → Rose (L.faults link.old) (L.faults link.new)) }
-    ensures kept { IfOk result (λ answer. answer ≢ Err ExchangeFault.Link → L.faults link.new ≡ L.faults link.old) }
-    ensures unmoved { OnErr result (L.faults link.new ≡ L.faults link.old) }
-    ensures counted { L.faults link.old ≤ L.faults link.new }
+) -> Result<Received, OutOfMemory>
+    ensures received { IfOk result (λ answer. IsReceived need_digest (L.log link.old) (L.log link.new) answer) }
+    ensures refused { OnErr result (IsPartReceived (L.log link.old) (L.log link.new)) }
+    ensures counted { CountsLinkFault result (L.faults link.old) (L.faults link.new) }
 {
-    let Ok(mut buffer) = buffer_of(alloc) else {
-        return Err(OutOfMemory);
-    };
+    let mut buffer = buffer_of(alloc)?;
     let mut text = Bytes::new(alloc);
-    match hear_head(alloc, link, buffer.as_mut_slice(), &mut text) {
-        Ok(parts) => hear_answer(
+    match receive_head(alloc, link, buffer.as_mut_slice(), &mut text) {
+        Ok(parts) => receive_rest(
             alloc,
             link,
             buffer.as_mut_slice(),
@@ -174,17 +160,8 @@ fn listen<L: Link>(
             parts,
             need_digest,
         ),
-        Err(HearFault::Fault(fault)) => Ok(Err(fault)),
-        Err(HearFault::OutOfMemory) => Err(OutOfMemory),
-    }
-}
-
-fn path_of(kind: Kind) -> &'static str
-    ensures { result.now ≡ path_of kind }
-{
-    match kind {
-        Kind::Update => "/v4/threatListUpdates:fetch",
-        Kind::Find => "/v4/fullHashes:find",
+        Err(ReceiveFault::Fault(fault)) => Ok(Err(fault)),
+        Err(ReceiveFault::OutOfMemory) => Err(OutOfMemory),
     }
 }
 
@@ -196,13 +173,8 @@ fn send_request<L: Link>(link: &mut L, head: &[u8], body: &[u8]) -> Result<(), F
     ensures kept { OnOk result (L.faults link.new ≡ L.faults link.old) }
     ensures counted { L.faults link.old ≤ L.faults link.new }
 {
-    match link.send(head) {
-        Ok(()) => match link.send(body) {
-            Ok(()) => Ok(()),
-            Err(Failed) => Err(Failed),
-        },
-        Err(Failed) => Err(Failed),
-    }
+    link.send(head)?;
+    link.send(body)
 }
 
 // Appends the key, where there is one.
@@ -262,28 +234,23 @@ fn converse<L: Link>(
     kind: Kind,
     body: &[u8],
     need_digest: bool,
-) -> Result<Result<Bytes, ExchangeFault>, OutOfMemory>
+) -> Result<Received, OutOfMemory>
     ensures answer { IfOk result (λ answer. IsConversation target.now kind body.now at need_digest (L.log link.old) (L.log link.new) answer) }
     ensures refused { OnErr result (IsPartOfConversation target.now kind body.now at (L.log link.old) (L.log link.new)) }
-    ensures failed { IfOk result (λ answer. IsErrOf answer ExchangeFault.Link → Rose (L.faults link.old) (L.faults link.new)) }
-    ensures kept { IfOk result (λ answer. answer ≢ Err ExchangeFault.Link → L.faults link.new ≡ L.faults link.old) }
-    ensures unmoved { OnErr result (L.faults link.new ≡ L.faults link.old) }
-    ensures counted { L.faults link.old ≤ L.faults link.new }
+    ensures counted { CountsLinkFault result (L.faults link.old) (L.faults link.new) }
 {
     match link.begin(at, kind) {
         Ok(()) => {}
         Err(Failed) => return Ok(Err(ExchangeFault::Link)),
     }
-    let Ok(head) = request_head(alloc, target, kind, body) else {
-        return Err(OutOfMemory);
-    };
+    let head = request_head(alloc, target, kind, body)?;
     match send_request(link, head.as_slice(), body) {
-        Ok(()) => listen(alloc, link, need_digest),
+        Ok(()) => receive_response(alloc, link, need_digest),
         Err(Failed) => Ok(Err(ExchangeFault::Link)),
     }
 }
 
-/// Sends a request in a session of its own and hears the response (RFC 9112), whose body has a length or is
+/// Sends a request in a session of its own and receives the response (RFC 9112), whose body has a length or is
 /// chunked, and has at most 201,326,592 bytes. The session is begun at `at`, which is the clock's last answer, and
 /// closed at its next one, in every case.
 pub fn exchange<L: Link, C: Clock>(
@@ -314,11 +281,9 @@ pub fn exchange<L: Link, C: Clock>(
     ensures unmoved { OnErr result (L.faults link.new ≡ L.faults link.old) }
     ensures counted { L.faults link.old ≤ L.faults link.new }
 {
-    let heard = converse(alloc, link, at, target, kind, body, need_digest);
+    let received = converse(alloc, link, at, target, kind, body, need_digest);
     let ended = clock.now();
     link.close(ended);
-    match heard {
-        Ok(answer) => Ok(Exchanged { ended, answer }),
-        Err(OutOfMemory) => Err(OutOfMemory),
-    }
+    let answer = received?;
+    Ok(Exchanged { ended, answer })
 }

@@ -7,7 +7,6 @@ ghost use Rattle.http_edge.specs.Responses.{status_text, method_text, allow_line
 use crate::{Allow, ResponseFault, Status};
 use base64::engine::general_purpose::STANDARD;
 use hash_prefixes::full_hash;
-use itoa::Buffer;
 use sb_model::{Bytes, OutOfMemory};
 use sb_outside::{Failed, Sink, write_all};
 use std::alloc::Global;
@@ -39,11 +38,13 @@ pub(crate) fn push_line(page: &mut Bytes, name: &[u8], value: &[u8]) -> Result<(
 }
 
 // Appends the field of a body's length.
+#[tactic(auto, unfolding(crate::specs::Responses::line))]
 pub(crate) fn push_length(page: &mut Bytes, length: usize) -> Result<(), OutOfMemory>
     ensures { OnOk result (page.new ≡ page.old ++ line (codes "Content-Length: " ++ decimal length)) }
 {
-    let mut buffer = Buffer::new();
-    push_line(page, b"Content-Length: ", buffer.format(length).as_bytes())
+    page.append(b"Content-Length: ")?;
+    page.append_decimal(length as u64)?;
+    page.append(b"\r\n")
 }
 
 // A digest as a member of `Content-Digest`.
@@ -103,13 +104,8 @@ fn write_both<O: Sink>(sink: &mut O, first: &[u8], second: &[u8]) -> Result<(), 
     ensures failed { OnErr result (Rose (O.faults sink.old) (O.faults sink.new)) }
     ensures other { O.front sink.new ≡ O.front sink.old }
 {
-    match write_all(sink, first) {
-        Ok(()) => match write_all(sink, second) {
-            Ok(()) => Ok(()),
-            Err(Failed) => Err(Failed),
-        },
-        Err(Failed) => Err(Failed),
-    }
+    write_all(sink, first)?;
+    write_all(sink, second)
 }
 
 /// Writes a whole response: status line, fields and body. The allowed method is named where the status is 405,

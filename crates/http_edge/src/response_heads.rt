@@ -1,7 +1,7 @@
 ghost use Rattle.std.specs.Prelude.{◌≡◌, ◌≢◌, ◌≤◌, length, All, IfOk};
 ghost use Rattle.httparse.specs.Grammar.{ResponseHead};
 ghost use Rattle.httparse.specs.Spans.{IsHeaderWithin};
-ghost use Rattle.http_edge.specs.Hearing.{IsFoundResponse, IsResponseStep};
+ghost use Rattle.http_edge.specs.SessionBytes.{IsFoundResponse, IsResponseStep};
 
 use crate::Framing;
 use crate::digests::digest_given;

@@ -2,13 +2,13 @@ ghost use Rattle.std.specs.Prelude.{◌≡◌, ◌≢◌, ℕ, ◌+◌, ◌<◌,
 ghost use Rattle.sb_outside.specs.Outside.{Rose};
 ghost use Rattle.http_edge.specs.Chunks.{IsWholeBody};
 ghost use Rattle.http_edge.specs.ChunkSteps.{IsReadTo, IsChunkStep, IsOpenAt, IsFaultOfChunks};
-ghost use Rattle.http_edge.specs.Hearing.{Hears, HearsOn, HearsSome, FailsAfter};
+ghost use Rattle.http_edge.specs.SessionBytes.{Receives, ReceivesOn, ReceivesSome, FailsAfter};
 
 use crate::ExchangeFault;
 use crate::chunks::{ChunkPlace, ChunkStep, look_at_chunk};
 use crate::heads::room_for_fields;
-use crate::hearing::{HearFault, hear};
 use crate::receiving::Stop;
+use crate::session_bytes::{ReceiveFault, receive_piece};
 use httparse::spans::HeaderSpan;
 use sb_model::Bytes;
 use sb_outside::Link;
@@ -78,8 +78,8 @@ fn take_chunk(text: Bytes, place: ChunkPlace, start: usize, size: usize) -> Unch
     )
 }
 
-/// Hears a session until the next chunk is decided.
-fn hear_chunk<L: Link>(
+/// Receives a session until the next chunk is decided.
+fn receive_chunk<L: Link>(
     link: &mut L,
     buffer: &mut [u8],
     text: &mut Bytes,
@@ -90,11 +90,11 @@ fn hear_chunk<L: Link>(
     requires room { length room.old ≡ 5461 }
     requires within { place.at ≤ length text.old }
     ensures decided { IfOk result (IsChunkStep text.new place) }
-    ensures more { OnOk result (HearsOn text.old text.new false (L.log link.old) (L.log link.new)) }
+    ensures more { OnOk result (ReceivesOn text.old text.new false (L.log link.old) (L.log link.new)) }
     ensures open { IsErrOf result Stop.Ended → IsOpenAt text.new place }
-    ensures end { IsErrOf result Stop.Ended → HearsOn text.old text.new true (L.log link.old) (L.log link.new) }
+    ensures end { IsErrOf result Stop.Ended → ReceivesOn text.old text.new true (L.log link.old) (L.log link.new) }
     ensures failed_log { IsErrOf result Stop.Failed → FailsAfter (L.log link.old) (L.log link.new) }
-    ensures refused_log { IsErrOf result Stop.OutOfMemory → HearsSome (L.log link.old) (L.log link.new) }
+    ensures refused_log { IsErrOf result Stop.OutOfMemory → ReceivesSome (L.log link.old) (L.log link.new) }
     ensures failed { IsErrOf result Stop.Failed → Rose (L.faults link.old) (L.faults link.new) }
     ensures kept { result ≢ Err Stop.Failed → L.faults link.new ≡ L.faults link.old }
     ensures counted { L.faults link.old ≤ L.faults link.new }
@@ -103,7 +103,7 @@ fn hear_chunk<L: Link>(
         if let Some(step) = look_at_chunk(text.as_slice(), place, room) {
             return Ok(step);
         }
-        match hear(link, buffer, text) {
+        match receive_piece(link, buffer, text) {
             Ok(()) => {}
             Err(Stop::Ended) => return Err(Stop::Ended),
             Err(Stop::Failed) => return Err(Stop::Failed),
@@ -112,24 +112,24 @@ fn hear_chunk<L: Link>(
     }
 }
 
-/// Hears a chunked body, of which these bytes have come, and answers its data.
-pub(crate) fn hear_chunks<L: Link>(
+/// Receives a chunked body, of which these bytes have come, and answers its data.
+pub(crate) fn receive_chunks<L: Link>(
     alloc: Global,
     link: &mut L,
     buffer: &mut [u8],
     body: Bytes,
-) -> Result<Bytes, HearFault>
+) -> Result<Bytes, ReceiveFault>
     requires { 0 < length buffer.old }
-    ensures whole { IfOk result (λ content. (given : List ℕ) × Hears given false false (L.log link.old) (L.log link.new)
+    ensures whole { IfOk result (λ content. (given : List ℕ) × Receives given false false (L.log link.old) (L.log link.new)
         × IsWholeBody (body ++ given) content) }
     ensures fault { IfErr result (λ fault. (given : List ℕ) × (ended : Bool) × (failed : Bool)
-        × Hears given ended failed (L.log link.old) (L.log link.new) × IsFaultOfChunks (body ++ given) ended failed fault) }
-    ensures failed { IsErrOf result (HearFault.Fault ExchangeFault.Link) → Rose (L.faults link.old) (L.faults link.new) }
-    ensures kept { result ≢ Err (HearFault.Fault ExchangeFault.Link) → L.faults link.new ≡ L.faults link.old }
+        × Receives given ended failed (L.log link.old) (L.log link.new) × IsFaultOfChunks (body ++ given) ended failed fault) }
+    ensures failed { IsErrOf result (ReceiveFault.Fault ExchangeFault.Link) → Rose (L.faults link.old) (L.faults link.new) }
+    ensures kept { result ≢ Err (ReceiveFault.Fault ExchangeFault.Link) → L.faults link.new ≡ L.faults link.old }
     ensures counted { L.faults link.old ≤ L.faults link.new }
 {
     let Ok(mut room) = room_for_fields(alloc) else {
-        return Err(HearFault::OutOfMemory);
+        return Err(ReceiveFault::OutOfMemory);
     };
     let mut text = body;
     let mut place = ChunkPlace {
@@ -138,7 +138,7 @@ pub(crate) fn hear_chunks<L: Link>(
         count: 0,
     };
     'chunks: loop {
-        match hear_chunk(link, buffer, &mut text, place, room.as_mut_slice()) {
+        match receive_chunk(link, buffer, &mut text, place, room.as_mut_slice()) {
             Ok(ChunkStep::Data { start, size }) => {
                 let taken = take_chunk(text, place, start, size);
                 text = taken.text;
@@ -149,14 +149,14 @@ pub(crate) fn hear_chunks<L: Link>(
                 return Ok(text);
             }
             Ok(ChunkStep::Refused) => {
-                return Err(HearFault::Fault(ExchangeFault::Chunk(place.count + 1)));
+                return Err(ReceiveFault::Fault(ExchangeFault::Chunk(place.count + 1)));
             }
             Ok(ChunkStep::Long(total)) => {
-                return Err(HearFault::Fault(ExchangeFault::BodyLimit(total)));
+                return Err(ReceiveFault::Fault(ExchangeFault::BodyLimit(total)));
             }
-            Err(Stop::Ended) => return Err(HearFault::Fault(ExchangeFault::Cut)),
-            Err(Stop::Failed) => return Err(HearFault::Fault(ExchangeFault::Link)),
-            Err(Stop::OutOfMemory) => return Err(HearFault::OutOfMemory),
+            Err(Stop::Ended) => return Err(ReceiveFault::Fault(ExchangeFault::Cut)),
+            Err(Stop::Failed) => return Err(ReceiveFault::Fault(ExchangeFault::Link)),
+            Err(Stop::OutOfMemory) => return Err(ReceiveFault::OutOfMemory),
         }
     }
 }

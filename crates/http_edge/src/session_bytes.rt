@@ -2,7 +2,7 @@ ghost use Rattle.std.specs.Prelude.{◌≡◌, ◌≢◌, ℕ, ◌<◌, ◌≤�
 ghost use Rattle.sb_outside.specs.Outside.{Rose};
 ghost use Rattle.sb_outside.specs.Sessions.{with_end, with_failure};
 ghost use Rattle.sb_outside.specs.declared.links.Session.{Session};
-ghost use Rattle.http_edge.specs.Hearing.{Turns, Hears, HearsMore, HearsSome, SessionEndsShort, SessionFillsUp, FailsAfter, IsResponsePartsOf, IsFaultOfHead};
+ghost use Rattle.http_edge.specs.SessionBytes.{Turns, Receives, ReceivesMore, ReceivesSome, SessionEndsShort, SessionFillsUp, FailsAfter, IsResponsePartsOf, IsFaultOfHead};
 
 use crate::ExchangeFault;
 use crate::heads::{HEAD_LIMIT, room_for_fields};
@@ -17,19 +17,23 @@ pub(crate) const BODY_LIMIT: u64 = 201_326_592;
 
 /// Why a part of a response was not taken.
 #[derive(Clone, Copy, Debug)]
-pub(crate) enum HearFault {
+pub(crate) enum ReceiveFault {
     Fault(ExchangeFault),
     OutOfMemory,
 }
 
 /// Appends the next bytes of a session to a text.
-pub(crate) fn hear<L: Link>(link: &mut L, buffer: &mut [u8], text: &mut Bytes) -> Result<(), Stop>
+pub(crate) fn receive_piece<L: Link>(
+    link: &mut L,
+    buffer: &mut [u8],
+    text: &mut Bytes,
+) -> Result<(), Stop>
     requires { 0 < length buffer.old }
-    ensures more { OnOk result (HearsMore text.old text.new (L.log link.old) (L.log link.new)) }
+    ensures more { OnOk result (ReceivesMore text.old text.new (L.log link.old) (L.log link.new)) }
     ensures text { OnErr result (text.new ≡ text.old) }
     ensures end { IsErrOf result Stop.Ended → Turns with_end (L.log link.old) (L.log link.new) }
     ensures failed_log { IsErrOf result Stop.Failed → Turns with_failure (L.log link.old) (L.log link.new) }
-    ensures refused_log { IsErrOf result Stop.OutOfMemory → HearsSome (L.log link.old) (L.log link.new) }
+    ensures refused_log { IsErrOf result Stop.OutOfMemory → ReceivesSome (L.log link.old) (L.log link.new) }
     ensures failed { IsErrOf result Stop.Failed → Rose (L.faults link.old) (L.faults link.new) }
     ensures kept { result ≢ Err Stop.Failed → L.faults link.new ≡ L.faults link.old }
     ensures counted { L.faults link.old ≤ L.faults link.new }
@@ -45,7 +49,7 @@ pub(crate) fn hear<L: Link>(link: &mut L, buffer: &mut [u8], text: &mut Bytes) -
 }
 
 /// Appends the next bytes of a session to a body until it has the wanted ones, and keeps these.
-pub(crate) fn hear_body<L: Link>(
+pub(crate) fn receive_body<L: Link>(
     link: &mut L,
     buffer: &mut [u8],
     body: &mut Bytes,
@@ -55,13 +59,13 @@ pub(crate) fn hear_body<L: Link>(
     ensures whole { OnOk result (SessionFillsUp body.old body.new wanted (L.log link.old) (L.log link.new)) }
     ensures short { IsErrOf result Stop.Ended → SessionEndsShort body.old wanted (L.log link.old) (L.log link.new) }
     ensures failed_log { IsErrOf result Stop.Failed → FailsAfter (L.log link.old) (L.log link.new) }
-    ensures refused_log { IsErrOf result Stop.OutOfMemory → HearsSome (L.log link.old) (L.log link.new) }
+    ensures refused_log { IsErrOf result Stop.OutOfMemory → ReceivesSome (L.log link.old) (L.log link.new) }
     ensures failed { IsErrOf result Stop.Failed → Rose (L.faults link.old) (L.faults link.new) }
     ensures kept { result ≢ Err Stop.Failed → L.faults link.new ≡ L.faults link.old }
     ensures counted { L.faults link.old ≤ L.faults link.new }
 {
     'pieces: while body.len() < wanted {
-        match hear(link, buffer, body) {
+        match receive_piece(link, buffer, body) {
             Ok(()) => {}
             Err(Stop::Ended) => return Err(Stop::Ended),
             Err(Stop::Failed) => return Err(Stop::Failed),
@@ -72,41 +76,41 @@ pub(crate) fn hear_body<L: Link>(
     Ok(())
 }
 
-/// Hears the head of a response. The text is what was received.
-pub(crate) fn hear_head<L: Link>(
+/// Receives the head of a response. The text is what was received.
+pub(crate) fn receive_head<L: Link>(
     alloc: Global,
     link: &mut L,
     buffer: &mut [u8],
     text: &mut Bytes,
-) -> Result<ResponseParts, HearFault>
+) -> Result<ResponseParts, ReceiveFault>
     requires room { 0 < length buffer.old }
     requires none { text.old ≡ [] }
     ensures parts { IfOk result (λ parts. IsResponsePartsOf text.new parts) }
-    ensures given { OnOk result (Hears text.new false false (L.log link.old) (L.log link.new)) }
+    ensures given { OnOk result (Receives text.new false false (L.log link.old) (L.log link.new)) }
     ensures fault { IfErr result (λ fault. (bytes : List ℕ) × (ended : Bool) × (failed : Bool)
-        × Hears bytes ended failed (L.log link.old) (L.log link.new) × IsFaultOfHead bytes ended failed fault) }
-    ensures failed { IsErrOf result (HearFault.Fault ExchangeFault.Link) → Rose (L.faults link.old) (L.faults link.new) }
-    ensures kept { result ≢ Err (HearFault.Fault ExchangeFault.Link) → L.faults link.new ≡ L.faults link.old }
+        × Receives bytes ended failed (L.log link.old) (L.log link.new) × IsFaultOfHead bytes ended failed fault) }
+    ensures failed { IsErrOf result (ReceiveFault.Fault ExchangeFault.Link) → Rose (L.faults link.old) (L.faults link.new) }
+    ensures kept { result ≢ Err (ReceiveFault.Fault ExchangeFault.Link) → L.faults link.new ≡ L.faults link.old }
     ensures counted { L.faults link.old ≤ L.faults link.new }
 {
     let Ok(mut room) = room_for_fields(alloc) else {
-        return Err(HearFault::OutOfMemory);
+        return Err(ReceiveFault::OutOfMemory);
     };
     'pieces: loop {
         match look_at_response(alloc, text.as_slice(), room.as_mut_slice()) {
             Ok(ResponseStep::Whole(parts)) => return Ok(parts),
-            Ok(ResponseStep::Refused) => return Err(HearFault::Fault(ExchangeFault::Head)),
+            Ok(ResponseStep::Refused) => return Err(ReceiveFault::Fault(ExchangeFault::Head)),
             Ok(ResponseStep::Open) => {}
-            Err(OutOfMemory) => return Err(HearFault::OutOfMemory),
+            Err(OutOfMemory) => return Err(ReceiveFault::OutOfMemory),
         }
         if text.len() >= HEAD_LIMIT {
-            return Err(HearFault::Fault(ExchangeFault::HeadLimit));
+            return Err(ReceiveFault::Fault(ExchangeFault::HeadLimit));
         }
-        match hear(link, buffer, text) {
+        match receive_piece(link, buffer, text) {
             Ok(()) => {}
-            Err(Stop::Ended) => return Err(HearFault::Fault(ExchangeFault::Cut)),
-            Err(Stop::Failed) => return Err(HearFault::Fault(ExchangeFault::Link)),
-            Err(Stop::OutOfMemory) => return Err(HearFault::OutOfMemory),
+            Err(Stop::Ended) => return Err(ReceiveFault::Fault(ExchangeFault::Cut)),
+            Err(Stop::Failed) => return Err(ReceiveFault::Fault(ExchangeFault::Link)),
+            Err(Stop::OutOfMemory) => return Err(ReceiveFault::OutOfMemory),
         }
     }
 }

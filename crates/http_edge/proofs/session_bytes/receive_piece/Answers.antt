@@ -2,7 +2,7 @@ use Rattle.std.proofs.Common.{◌<◌, take, arith}
 use Rattle.std.proofs.lemmas.List.{length-take}
 use Rattle.sb_outside.specs.Sessions.{with_end, with_failure, with_received}
 use Rattle.http_edge.proofs.SessionSteps.{turns_from}
-use Rattle.http_edge.proofs.hearing.hear.Goals as goal
+use Rattle.http_edge.proofs.session_bytes.receive_piece.Goals as goal
 
 pub returns-in-Ok-eq0-clause-end : goal.returns-in-Ok-eq0-clause-end
 returns-in-Ok-eq0-clause-end g c = λ _.
@@ -15,7 +15,7 @@ returns-in-Ok-append-clause-more g c =
       given = take c.in-Ok.count c.recv.new.buffer;
       some = omega (arith, length-take c.in-Ok.count c.recv.new.buffer, c.in-Ok.ensures.within);
       whole = c.in-Ok-append.ensures.ok;
-      hears = turns_from (with_received (take c.in-Ok.count c.recv.new.buffer)) _ _ (c.in-Ok.ensures.bytes count);
+      receives = turns_from (with_received (take c.in-Ok.count c.recv.new.buffer)) _ _ (c.in-Ok.ensures.bytes count);
     }
 
 pub returns-in-Err-append-clause-refused_log : goal.returns-in-Err-append-clause-refused_log
@@ -23,7 +23,7 @@ returns-in-Err-append-clause-refused_log g c = λ _.
     let count : 0 < c.in-Ok.count = omega (arith, c.in-Ok.count-test.1) in
     record {
       given = take c.in-Ok.count c.recv.new.buffer;
-      hears = turns_from (with_received (take c.in-Ok.count c.recv.new.buffer)) _ _ (c.in-Ok.ensures.bytes count);
+      receives = turns_from (with_received (take c.in-Ok.count c.recv.new.buffer)) _ _ (c.in-Ok.ensures.bytes count);
     }
 
 pub returns-in-Err-clause-failed_log : goal.returns-in-Err-clause-failed_log

@@ -1,6 +1,6 @@
 use Rattle.std.proofs.Common.{◌≡◌, ◌<◌, ◌≤◌, ◌-◌, ◌+◌, length, false}
-use Rattle.http_edge.specs.Hearing.{HearsOn}
-use Rattle.http_edge.proofs.unchunking.hear_chunk.Given as goal
+use Rattle.http_edge.specs.SessionBytes.{ReceivesOn}
+use Rattle.http_edge.proofs.unchunking.receive_chunk.Given as goal
 
 abbrev pub invariant-pieces : goal.invariant-pieces
 invariant-pieces g l =
@@ -8,7 +8,7 @@ invariant-pieces g l =
       buffer : 0 < length l.buffer;
       room : length l.room ≡ 5461;
       within : l.place.at ≤ length l.text;
-      so_far : HearsOn l.initial.text l.text false (g.L.Link.log l.initial.link) (g.L.Link.log l.link);
+      so_far : ReceivesOn l.initial.text l.text false (g.L.Link.log l.initial.link) (g.L.Link.log l.link);
       faults : g.L.Link.faults l.link ≡ g.L.Link.faults l.initial.link;
     }
 

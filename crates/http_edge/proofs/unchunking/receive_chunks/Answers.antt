@@ -2,12 +2,12 @@ use Rattle.std.proofs.Common.{ℕ, List, [], ◌++◌, false, true, refl, sym, a
 use Rattle.std.proofs.lemmas.List.{append-nil}
 use Rattle.http_edge.specs.Chunks.{IsWholeBody}
 use Rattle.http_edge.specs.ChunkSteps.{IsReadTo}
-use Rattle.http_edge.proofs.SessionSteps.{hears_nothing, hears_then, hears_and}
+use Rattle.http_edge.proofs.SessionSteps.{receives_nothing, receives_then, receives_and}
 use Rattle.http_edge.proofs.ChunkFacts.{nothing_read, step_read}
-use Rattle.http_edge.proofs.unchunking.hear_chunks.Goals as goal
+use Rattle.http_edge.proofs.unchunking.receive_chunks.Goals as goal
 
 pub returns-in_default-clause-fault : goal.returns-in_default-clause-fault
-returns-in_default-clause-fault g c = ([], false, false, hears_nothing _, tt)
+returns-in_default-clause-fault g c = ([], false, false, receives_nothing _, tt)
 
 pub chunks-init : goal.chunks-init
 chunks-init g c = record {
@@ -15,7 +15,7 @@ chunks-init g c = record {
   room = c.in-Ok.ensures;
   so_far = (
     [],
-    hears_nothing _,
+    receives_nothing _,
     subst (λ (body : List ℕ). IsReadTo body c.args.body (record { end = 0; at = 0; count = 0 })) (sym (append-nil c.args.body)) (nothing_read c.args.body),
   );
   faults = refl;
@@ -34,7 +34,7 @@ chunks-preserved g c =
       room = c.chunks.invariant.room;
       so_far = (
         so_far.0 ++ more.given,
-        hears_then _ _ _ _ _ so_far.1 more.hears,
+        receives_then _ _ _ _ _ so_far.1 more.receives,
         c.take_chunk-taken.ensures.read (c.args.body ++ (so_far.0 ++ more.given)) (step_read c.args.body so_far.0 _ _ more.given _ so_far.2 more.whole),
       );
       faults = search rules;
@@ -47,7 +47,7 @@ returns-in-Ok-Last-clause-whole g c =
     let bytes : List ℕ = c.args.body ++ (so_far.0 ++ more.given) in
     let decided = rw c.in-Ok-Last.field-0-is at c.in-Ok-Last.ensures.decided in (
       so_far.0 ++ more.given,
-      hears_then _ _ _ _ _ so_far.1 more.hears,
+      receives_then _ _ _ _ _ so_far.1 more.receives,
       subst (IsWholeBody bytes) (sym c.truncate.ensures) (decided bytes (step_read c.args.body so_far.0 _ _ more.given _ so_far.2 more.whole)),
     )
 
@@ -59,7 +59,7 @@ returns-in-Ok-Refused-clause-fault g c =
       so_far.0 ++ more.given,
       false,
       false,
-      hears_then _ _ _ _ _ so_far.1 more.hears,
+      receives_then _ _ _ _ _ so_far.1 more.receives,
       decided (c.args.body ++ (so_far.0 ++ more.given)) (step_read c.args.body so_far.0 _ _ more.given _ so_far.2 more.whole),
     )
 
@@ -71,7 +71,7 @@ returns-in-Ok-Long-clause-fault g c =
       so_far.0 ++ more.given,
       false,
       false,
-      hears_then _ _ _ _ _ so_far.1 more.hears,
+      receives_then _ _ _ _ _ so_far.1 more.receives,
       decided (c.args.body ++ (so_far.0 ++ more.given)) (step_read c.args.body so_far.0 _ _ more.given _ so_far.2 more.whole),
     )
 
@@ -83,7 +83,7 @@ returns-in-Err-Ended-clause-fault g c =
       so_far.0 ++ more.given,
       true,
       false,
-      hears_and so_far.0 more.given true false _ _ _ so_far.1 more.hears,
+      receives_and so_far.0 more.given true false _ _ _ so_far.1 more.receives,
       (refl, unread (c.args.body ++ (so_far.0 ++ more.given)) (step_read c.args.body so_far.0 _ _ more.given _ so_far.2 more.whole)),
     )
 
@@ -91,10 +91,10 @@ pub returns-in-Err-Failed-clause-fault : goal.returns-in-Err-Failed-clause-fault
 returns-in-Err-Failed-clause-fault g c =
     let so_far = c.chunks.invariant.so_far in
     let fails = c.in-Err-Failed.ensures.failed_log (ap Err c.in-Err-Failed.field-0-is) in
-    (so_far.0 ++ fails.given, false, true, hears_and so_far.0 fails.given false true _ _ _ so_far.1 fails.hears, refl)
+    (so_far.0 ++ fails.given, false, true, receives_and so_far.0 fails.given false true _ _ _ so_far.1 fails.receives, refl)
 
 pub returns-in-Err-OutOfMemory-clause-fault : goal.returns-in-Err-OutOfMemory-clause-fault
 returns-in-Err-OutOfMemory-clause-fault g c =
     let so_far = c.chunks.invariant.so_far in
     let some = c.in-Err-OutOfMemory.ensures.refused_log (ap Err c.in-Err-OutOfMemory.field-0-is) in
-    (so_far.0 ++ some.given, false, false, hears_then _ _ _ _ _ so_far.1 some.hears, tt)
+    (so_far.0 ++ some.given, false, false, receives_then _ _ _ _ _ so_far.1 some.receives, tt)

@@ -1,13 +1,13 @@
 use Rattle.std.proofs.Common.{◌≡◌, ◌<◌, ◌-◌, length, vec_len, false}
-use Rattle.http_edge.specs.Hearing.{Hears}
-use Rattle.http_edge.proofs.hearing.hear_head.Given as goal
+use Rattle.http_edge.specs.SessionBytes.{Receives}
+use Rattle.http_edge.proofs.session_bytes.receive_head.Given as goal
 
 abbrev pub invariant-pieces : goal.invariant-pieces
 invariant-pieces g l =
     record {
       buffer : 0 < length l.buffer;
       room : vec_len l.room ≡ 5461;
-      so_far : Hears l.text false false (g.L.Link.log l.initial.link) (g.L.Link.log l.link);
+      so_far : Receives l.text false false (g.L.Link.log l.initial.link) (g.L.Link.log l.link);
       faults : g.L.Link.faults l.link ≡ g.L.Link.faults l.initial.link;
     }
 
