@@ -1,17 +1,9 @@
-ghost use Rattle.std.specs.Prelude.{◌≡◌, ◌++◌, decimal, codes, OnOk};
+ghost use Rattle.std.specs.Prelude.{◌≡◌, ◌++◌, codes, OnOk};
 ghost use Rattle.sb_json.specs.Fields.{label_of};
 ghost use Rattle.sb_json.specs.Printed.{field_fault_text, cause_text};
 
 use crate::{Field, FieldFault, MessageFault};
-use itoa::Buffer;
 use sb_model::{Bytes, OutOfMemory};
-
-fn push_number(text: &mut Bytes, number: u64) -> Result<(), OutOfMemory>
-    ensures { OnOk result (text.new ≡ text.old ++ decimal number) }
-{
-    let mut buffer = Buffer::new();
-    text.append(buffer.format(number).as_bytes())
-}
 
 fn push_label(text: &mut Bytes, field: Field) -> Result<(), OutOfMemory>
     ensures { OnOk result (text.new ≡ text.old ++ label_of field) }
@@ -38,7 +30,7 @@ fn push_field_fault(text: &mut Bytes, fault: FieldFault) -> Result<(), OutOfMemo
         FieldFault::Name(field) => push_named(text, "name ", field),
         FieldFault::Size(field, size) => {
             text.append(b"size ")?;
-            push_number(text, size)?;
+            text.append_decimal(size)?;
             push_named(text, " ", field)
         }
         FieldFault::Duration(field) => push_named(text, "duration ", field),
@@ -57,11 +49,11 @@ pub fn push_message_cause(text: &mut Bytes, fault: &MessageFault) -> Result<(), 
             text.append(b"field ")?;
             push_field_fault(text, *fault)?;
             text.push(b' ')?;
-            push_number(text, *item)
+            text.append_decimal(*item)
         }
         MessageFault::TooManyItems(count) => {
             text.append(b"too-many-items ")?;
-            push_number(text, *count)
+            text.append_decimal(*count)
         }
         MessageFault::OutOfMemory => Ok(()),
     }
