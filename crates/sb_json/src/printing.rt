@@ -1,4 +1,4 @@
-ghost use Rattle.std.specs.Prelude.{◌≡◌, ◌++◌, codes, OnOk};
+ghost use Rattle.std.specs.Prelude.{◌≡◌, ◌++◌, length, take, codes, OnOk, OnErr};
 ghost use Rattle.sb_json.specs.Fields.{label_of};
 ghost use Rattle.sb_json.specs.Printed.{field_fault_text, cause_text};
 
@@ -6,21 +6,24 @@ use crate::{Field, FieldFault, MessageFault};
 use sb_model::{Bytes, OutOfMemory};
 
 fn push_label(text: &mut Bytes, field: Field) -> Result<(), OutOfMemory>
-    ensures { OnOk result (text.new ≡ text.old ++ label_of field) }
+    ensures ok { OnOk result (text.new ≡ text.old ++ label_of field) }
+    ensures front { OnErr result (take (length text.old) text.new ≡ text.old) }
 {
     text.append(field.label().as_bytes())
 }
 
 /// Appends what is wrong, and the field that it is wrong with.
 fn push_named(text: &mut Bytes, word: &str, field: Field) -> Result<(), OutOfMemory>
-    ensures { OnOk result (text.new ≡ text.old ++ (word.now ++ label_of field)) }
+    ensures ok { OnOk result (text.new ≡ text.old ++ (word.now ++ label_of field)) }
+    ensures front { OnErr result (take (length text.old) text.new ≡ text.old) }
 {
     text.append(word.as_bytes())?;
     push_label(text, field)
 }
 
 fn push_field_fault(text: &mut Bytes, fault: FieldFault) -> Result<(), OutOfMemory>
-    ensures { OnOk result (text.new ≡ text.old ++ field_fault_text fault) }
+    ensures ok { OnOk result (text.new ≡ text.old ++ field_fault_text fault) }
+    ensures front { OnErr result (take (length text.old) text.new ≡ text.old) }
 {
     match fault {
         FieldFault::Missing(field) => push_named(text, "missing ", field),
@@ -39,9 +42,10 @@ fn push_field_fault(text: &mut Bytes, fault: FieldFault) -> Result<(), OutOfMemo
 }
 
 /// Appends the printed cause of a fault, as `field missing threatType 2`. Want of memory, which is none of
-/// a message's causes, prints nothing.
+/// a message's causes, prints nothing. After an `Err` the text begins as it was.
 pub fn push_message_cause(text: &mut Bytes, fault: &MessageFault) -> Result<(), OutOfMemory>
-    ensures { OnOk result (text.new ≡ text.old ++ cause_text fault.now) }
+    ensures ok { OnOk result (text.new ≡ text.old ++ cause_text fault.now) }
+    ensures front { OnErr result (take (length text.old) text.new ≡ text.old) }
 {
     match fault {
         MessageFault::NotJson => text.append(b"not-json"),
