@@ -8,10 +8,11 @@ use Rattle.sb_json.specs.declared.fields.Field.TheVariants as field
 use Rattle.sb_json.specs.declared.faults.FieldFault.{FieldFault}
 use Rattle.sb_json.specs.declared.faults.MessageFault.TheVariants.{TooManyItems}
 use Rattle.update_messages.specs.declared.client.ClientInfo.{ClientInfo}
-use Rattle.update_messages.specs.Rows.{threat_row, platform_row, entry_row}
+use Rattle.sb_members.specs.Lists.{EachReads, ReadsList, fault_of, first, first_of_items, fault_of_list, first_from, in_item, item_count}
+use Rattle.sb_members.specs.Rows.{threat_row, platform_row, entry_row}
 use Rattle.update_messages.specs.RequestRows.{client_row, client_id_row, client_version_row}
-use Rattle.update_messages.specs.Reading.{EachReads, ReadsList, ReadsClient}
-use Rattle.update_messages.specs.Faults.{fault_of, first, first_of_items, fault_of_list, first_from, in_item, item_count, faults_of_client}
+use Rattle.update_messages.specs.Reading.{ReadsClient}
+use Rattle.update_messages.specs.Faults.{faults_of_client}
 use Rattle.hash_messages.specs.declared.response.Match.{Match}
 use Rattle.hash_messages.specs.declared.response.FindResponse.{FindResponse}
 use Rattle.hash_messages.specs.Messages.{AskedHashes, most_prefixes}

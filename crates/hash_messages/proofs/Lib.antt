@@ -1,11 +1,8 @@
 pub mod AskedMatches
 pub mod Depths
-pub mod DurationBytes
-pub mod Encodings
 pub mod Existence
+pub mod FewItems
 pub mod Floats
-pub mod FoundMembers
-pub mod Lists
 pub mod Memberships
 pub mod NameOrder
 pub mod NoFault
@@ -15,7 +12,4 @@ pub mod ResponseAgain
 pub mod Rising
 pub mod Texts
 pub mod TextsAgain
-pub mod Written
 pub mod WrittenLists
-pub mod WrittenNames
-pub mod WrittenRows

@@ -4,8 +4,9 @@ use Rattle.serde_json.specs.Data.{Data, Items, no_items, item}
 use Rattle.sb_json.specs.declared.faults.FieldFault.{FieldFault}
 use Rattle.sb_json.specs.declared.faults.MessageFault.{MessageFault}
 use Rattle.update_messages.specs.declared.client.ClientInfo.{ClientInfo}
-use Rattle.update_messages.specs.Reading.{EachReads, ReadsList, ReadsClient}
-use Rattle.update_messages.specs.Faults.{fault_of, first, first_of_items, fault_of_list, first_from, in_item, faults_of_client, item_count}
+use Rattle.sb_members.specs.Lists.{EachReads, ReadsList, fault_of, first, first_of_items, fault_of_list, first_from, in_item, item_count}
+use Rattle.update_messages.specs.Reading.{ReadsClient}
+use Rattle.update_messages.specs.Faults.{faults_of_client}
 use Rattle.hash_messages.specs.declared.response.Match.{Match}
 use Rattle.hash_messages.specs.declared.response.FindResponse.{FindResponse}
 use Rattle.hash_messages.specs.Messages.{AskedHashes, most_prefixes}

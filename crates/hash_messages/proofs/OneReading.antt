@@ -2,7 +2,7 @@
 use Rattle.std.proofs.Common.{◌≡◌, List, [], ◌∷◌, Result, Ok, Err, refl}
 use Rattle.serde_json.specs.Data.{Data, Items, no_items, item}
 use Rattle.sb_json.specs.declared.faults.FieldFault.{FieldFault}
-use Rattle.update_messages.specs.Reading.{EachReads, ReadsList}
+use Rattle.sb_members.specs.Lists.{EachReads, ReadsList}
 use Rattle.hash_messages.specs.declared.response.FindResponse.{FindResponse}
 use Rattle.hash_messages.specs.Messages.{AskedHashes}
 use Rattle.hash_messages.specs.RequestRows as request

@@ -1,27 +1,33 @@
 -- What is written of a request reads as it.
-use Rattle.std.proofs.Common.{◌≡◌, ℕ, ◌≤◌, ◌&&◌, true, List, [], ◌∷◌, length, map, Some, None, Ok, refl, ap, ◌∙◌, arith, All}
+use Rattle.std.proofs.Common.{◌≡◌, ℕ, ◌≤◌, ◌&&◌, true, List, [], ◌∷◌, length, map, Some, Result, Ok, refl, ap, ◌∙◌, arith, All}
 use Rattle.std.specs.Prelude.{nat_le}
 use Rattle.std.proofs.lemmas.Bool.Decides.{nat_tests}
-use Rattle.serde_json.specs.Data.{Data}
+use Rattle.serde_json.specs.Data.{Data, null, object, Members, no_members, member}
 use Rattle.serde_json.specs.View.{items_of}
 use Rattle.base64.specs.GeneralPurpose.{IsBytes}
-use Rattle.sb_json.specs.Values.{◌>>=◌}
+use Rattle.sb_json.specs.Values.{◌>>=◌, or_fault}
 use Rattle.sb_json.specs.declared.fields.Field.{Field}
 use Rattle.sb_json.specs.declared.fields.Field.TheVariants as field
+use Rattle.sb_json.specs.declared.faults.FieldFault.{FieldFault}
+use Rattle.sb_json.specs.declared.faults.FieldFault.TheVariants.{Name}
+use Rattle.sb_model.specs.declared.names.ThreatType.{ThreatType}
+use Rattle.sb_model.specs.declared.names.PlatformType.{PlatformType}
+use Rattle.sb_model.specs.declared.names.EntryType.{EntryType}
+use Rattle.sb_members.specs.Laws.{AreReadAgain, NamesReadAgain}
+use Rattle.sb_members.specs.Parts.{Parts, made, found, or_null}
 use Rattle.update_messages.specs.declared.client.ClientInfo.{ClientInfo}
 use Rattle.update_messages.specs.Ranges.{IsClientInRange}
-use Rattle.update_messages.specs.Rows.{items_or_none}
+use Rattle.sb_members.specs.Lists.{ReadsList}
+use Rattle.sb_members.specs.Rows.{object_or_null, items_or_none}
+use Rattle.sb_members.specs.Writing.{text_written, bytes_written, values_written, list_written, unless_bare}
 use Rattle.update_messages.specs.RequestRows.{client_row, client_id_row, client_version_row}
-use Rattle.update_messages.specs.Reading.{ReadsList, ReadsClient}
-use Rattle.update_messages.specs.Writing.{text_written, bytes_written, values_written, list_written, unless_bare, client_members}
+use Rattle.update_messages.specs.Reading.{ReadsClient}
+use Rattle.update_messages.specs.Writing.{client_members}
 use Rattle.hash_messages.specs.Messages.{AskedHashes}
 use Rattle.hash_messages.specs.Ranges.{IsPrefix, IsFindRequestInRange}
 use Rattle.hash_messages.specs.RequestRows as row
 use Rattle.hash_messages.specs.Reading.{ReadsAs, ReadsOutsideItems, ReadsFindRequest}
 use Rattle.hash_messages.specs.Writing.{state_written, threat_written, platform_written, entry_written, prefix_written, info_written, find_request_written}
-use Rattle.hash_messages.proofs.FoundMembers.{Parts, made, found, or_later}
-use Rattle.hash_messages.proofs.WrittenRows.{object_found, text_found, encoded_read, some_bytes_found, values_found, bare_found}
-use Rattle.hash_messages.proofs.WrittenNames.{threat_again, platform_again, entry_again}
 use Rattle.hash_messages.proofs.WrittenLists.{list_again, always_again}
 
 abbrev pub client_parts : ClientInfo → Parts
@@ -43,14 +49,23 @@ request_parts m =
     ∷ (field.ClientStates, list_written state_written m.states)
     ∷ (field.ThreatInfo, Some (info_written m)) ∷ []
 
-client_again : (m : AskedHashes) → IsClientInRange m.client → ReadsClient (client_row (find_request_written m)) m.client
-client_again m h = record {
+-- an object that is left out where it is bare has the same rows
+bare_row : {A : Type 0} (ms : Members) (read : Data → Result A FieldFault) → read null ≡ read (object no_members) → read (or_null ms) ≡ read (object ms)
+bare_row no_members read h = h
+bare_row (member k d ms) read h = refl
+
+bare_found : AreReadAgain → (f : Field) (ps : Parts) (ms : Members) {A : Type 0} (read : Data → Result A FieldFault) → read null ≡ read (object no_members)
+    → found f ps ≡ unless_bare ms → (object_or_null f (object (made ps)) >>= read) ≡ read (object ms)
+bare_found law f ps ms read h e = ap (λ r. r >>= read) (law.defaults.objects f ps ms e) ∙ bare_row ms read h
+
+client_again : AreReadAgain → (m : AskedHashes) → IsClientInRange m.client → ReadsClient (client_row (find_request_written m)) m.client
+client_again law m h = record {
   id =
-      bare_found field.Client (request_parts m) (client_members m.client) client_id_row refl refl
-      ∙ text_found field.ClientId (client_parts m.client) m.client.id h.id refl;
+      bare_found law field.Client (request_parts m) (client_members m.client) client_id_row refl refl
+      ∙ law.defaults.texts field.ClientId (client_parts m.client) m.client.id h.id refl;
   version =
-      bare_found field.Client (request_parts m) (client_members m.client) client_version_row refl refl
-      ∙ text_found field.ClientVersion (client_parts m.client) m.client.version h.version refl;
+      bare_found law field.Client (request_parts m) (client_members m.client) client_version_row refl refl
+      ∙ law.defaults.texts field.ClientVersion (client_parts m.client) m.client.version h.version refl;
 }
 
 -- ---- a prefix
@@ -60,52 +75,61 @@ is_prefix prefix low high =
     let both : (nat_le 4 (length prefix) && nat_le (length prefix) 32) ≡ true = grind (arith, nat_tests) in
     rw both refl
 
-prefix_again : (prefix : List ℕ) → IsPrefix prefix → row.prefix_row (prefix_written prefix) ≡ Ok prefix
-prefix_again [] h = absurd (omega (arith, h.low))
-prefix_again (b ∷ bs) h =
-    ap (λ r. r >>= row.prefix) (some_bytes_found field.Hash (prefix_parts (b ∷ bs)) b bs h.bytes refl) ∙ is_prefix (b ∷ bs) h.low h.high
+prefix_again : AreReadAgain → (prefix : List ℕ) → IsPrefix prefix → row.prefix_row (prefix_written prefix) ≡ Ok prefix
+prefix_again law [] h = absurd (omega (arith, h.low))
+prefix_again law (b ∷ bs) h =
+    ap (λ r. r >>= row.prefix) (law.needed.bytes field.Hash (prefix_parts (b ∷ bs)) b bs h.bytes refl) ∙ is_prefix (b ∷ bs) h.low h.high
 
 -- ---- the lists of `threatInfo`
 
-info_again : (m : AskedHashes) → row.info_row (find_request_written m) ≡ Ok (info_written m)
-info_again m = object_found field.ThreatInfo (request_parts m) (made (info_parts m)) refl
+threat_again : NamesReadAgain → (t : ThreatType) → row.asked_threat_row (threat_written t) ≡ Ok t
+threat_again names t = ap (or_fault (Name field.ThreatTypes)) (names.threat_words t)
 
-found_in_info : (m : AskedHashes) (f : Field) (ds : List Data) → found f (info_parts m) ≡ or_later (values_written ds) None
+platform_again : NamesReadAgain → (p : PlatformType) → row.asked_platform_row (platform_written p) ≡ Ok p
+platform_again names p = ap (or_fault (Name field.PlatformTypes)) (names.platform_words p)
+
+entry_again : NamesReadAgain → (e : EntryType) → row.asked_entry_row (entry_written e) ≡ Ok e
+entry_again names e = ap (or_fault (Name field.ThreatEntryTypes)) (names.entry_words e)
+
+info_again : AreReadAgain → (m : AskedHashes) → row.info_row (find_request_written m) ≡ Ok (info_written m)
+info_again law m = law.needed.objects field.ThreatInfo (request_parts m) (made (info_parts m)) refl
+
+found_in_info : AreReadAgain → (m : AskedHashes) (f : Field) (ds : List Data) → found f (info_parts m) ≡ values_written ds
     → row.in_info (items_or_none f) (find_request_written m) ≡ Ok (items_of ds)
-found_in_info m f ds e = ap (λ r. r >>= items_or_none f) (info_again m) ∙ values_found f (info_parts m) ds e
+found_in_info law m f ds e = ap (λ r. r >>= items_or_none f) (info_again law m) ∙ law.defaults.lists f (info_parts m) ds e
 
-threats_again : (m : AskedHashes) → ReadsList (ReadsAs row.asked_threat_row) (row.in_info row.threats_row (find_request_written m)) m.threats
-threats_again m = always_again (ReadsAs row.asked_threat_row) threat_written threat_again m.threats _ (found_in_info m field.ThreatTypes (map threat_written m.threats) refl)
+threats_again : AreReadAgain → (m : AskedHashes) → ReadsList (ReadsAs row.asked_threat_row) (row.in_info row.threats_row (find_request_written m)) m.threats
+threats_again law m = always_again (ReadsAs row.asked_threat_row) threat_written (threat_again law.names) m.threats _ (found_in_info law m field.ThreatTypes (map threat_written m.threats) refl)
 
-platforms_again : (m : AskedHashes) → ReadsList (ReadsAs row.asked_platform_row) (row.in_info row.platforms_row (find_request_written m)) m.platforms
-platforms_again m = always_again (ReadsAs row.asked_platform_row) platform_written platform_again m.platforms _ (found_in_info m field.PlatformTypes (map platform_written m.platforms) refl)
+platforms_again : AreReadAgain → (m : AskedHashes) → ReadsList (ReadsAs row.asked_platform_row) (row.in_info row.platforms_row (find_request_written m)) m.platforms
+platforms_again law m = always_again (ReadsAs row.asked_platform_row) platform_written (platform_again law.names) m.platforms _ (found_in_info law m field.PlatformTypes (map platform_written m.platforms) refl)
 
-entries_again : (m : AskedHashes) → ReadsList (ReadsAs row.asked_entry_row) (row.in_info row.entries_row (find_request_written m)) m.entries
-entries_again m = always_again (ReadsAs row.asked_entry_row) entry_written entry_again m.entries _ (found_in_info m field.ThreatEntryTypes (map entry_written m.entries) refl)
+entries_again : AreReadAgain → (m : AskedHashes) → ReadsList (ReadsAs row.asked_entry_row) (row.in_info row.entries_row (find_request_written m)) m.entries
+entries_again law m = always_again (ReadsAs row.asked_entry_row) entry_written (entry_again law.names) m.entries _ (found_in_info law m field.ThreatEntryTypes (map entry_written m.entries) refl)
 
-prefixes_again : (m : AskedHashes) → All IsPrefix m.prefixes → ReadsList (ReadsAs row.prefix_row) (row.in_info row.prefixes_row (find_request_written m)) m.prefixes
-prefixes_again m h = list_again (ReadsAs row.prefix_row) prefix_written IsPrefix prefix_again m.prefixes h _ (found_in_info m field.ThreatEntries (map prefix_written m.prefixes) refl)
+prefixes_again : AreReadAgain → (m : AskedHashes) → All IsPrefix m.prefixes → ReadsList (ReadsAs row.prefix_row) (row.in_info row.prefixes_row (find_request_written m)) m.prefixes
+prefixes_again law m h = list_again (ReadsAs row.prefix_row) prefix_written IsPrefix (prefix_again law) m.prefixes h _ (found_in_info law m field.ThreatEntries (map prefix_written m.prefixes) refl)
 
 -- ---- the whole
 
-states_again : (m : AskedHashes) → All IsBytes m.states → ReadsList (ReadsAs row.state_row) (row.states_row (find_request_written m)) m.states
-states_again m h =
-    list_again (ReadsAs row.state_row) state_written IsBytes (encoded_read field.ClientStates) m.states h _
-    (values_found field.ClientStates (request_parts m) (map state_written m.states) refl)
+states_again : AreReadAgain → (m : AskedHashes) → All IsBytes m.states → ReadsList (ReadsAs row.state_row) (row.states_row (find_request_written m)) m.states
+states_again law m h =
+    list_again (ReadsAs row.state_row) state_written IsBytes (law.items.bytes field.ClientStates) m.states h _
+    (law.defaults.lists field.ClientStates (request_parts m) (map state_written m.states) refl)
 
-outside_again : (m : AskedHashes) → IsFindRequestInRange m → ReadsOutsideItems (find_request_written m) m
-outside_again m h = record {
+outside_again : AreReadAgain → (m : AskedHashes) → IsFindRequestInRange m → ReadsOutsideItems (find_request_written m) m
+outside_again law m h = record {
   object = refl;
-  client = client_again m h.client;
-  states = states_again m h.states;
-  threats = threats_again m;
-  platforms = platforms_again m;
-  entries = entries_again m;
+  client = client_again law m h.client;
+  states = states_again law m h.states;
+  threats = threats_again law m;
+  platforms = platforms_again law m;
+  entries = entries_again law m;
 }
 
-pub request_again : (m : AskedHashes) → IsFindRequestInRange m → ReadsFindRequest (find_request_written m) m
-request_again m h = record {
-  outside = outside_again m h;
+pub request_again : AreReadAgain → (m : AskedHashes) → IsFindRequestInRange m → ReadsFindRequest (find_request_written m) m
+request_again law m h = record {
+  outside = outside_again law m h;
   few = h.limits.few;
-  prefixes = prefixes_again m h.prefixes;
+  prefixes = prefixes_again law m h.prefixes;
 }

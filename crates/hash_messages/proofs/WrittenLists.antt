@@ -6,9 +6,9 @@ use Rattle.serde_json.specs.Data.{Data, Items, depth, items_depth}
 use Rattle.serde_json.specs.View.{items_of, view}
 use Rattle.serde_json.specs.declared.value.Value.{Value}
 use Rattle.sb_json.specs.declared.faults.FieldFault.{FieldFault}
-use Rattle.update_messages.specs.Writing.{list_written}
-use Rattle.update_messages.specs.Reading.{EachReads, ReadsList}
-use Rattle.hash_messages.proofs.FoundMembers.{IsWithin}
+use Rattle.sb_members.specs.Lists.{EachReads, ReadsList}
+use Rattle.sb_members.specs.Writing.{list_written}
+use Rattle.sb_members.specs.Parts.{IsWithin}
 
 -- one more item that is written after the others
 pub written_more : {A : Type 0} (write : A → Data) (xs : List A) (i : ℕ) (x : A) (vs more : List Value) (v : Value) → i < length xs → x ≡ get_or xs i x → more ≡ vs ++ v ∷ []

@@ -6,9 +6,10 @@ use Rattle.sb_json.specs.Faults.{fault_in_item}
 use Rattle.sb_json.specs.declared.faults.FieldFault.{FieldFault}
 use Rattle.sb_json.specs.declared.faults.MessageFault.{MessageFault}
 use Rattle.sb_json.specs.declared.faults.MessageFault.TheVariants.{TooManyItems}
-use Rattle.update_messages.specs.Rows.{threat_row, platform_row, entry_row}
+use Rattle.sb_members.specs.Lists.{fault_of, first, fault_of_list, in_item, first_from, item_count}
+use Rattle.sb_members.specs.Rows.{threat_row, platform_row, entry_row}
 use Rattle.update_messages.specs.RequestRows.{root_row, client_row}
-use Rattle.update_messages.specs.Faults.{fault_of, first, fault_of_list, faults_of_client, in_item, first_from, item_count}
+use Rattle.update_messages.specs.Faults.{faults_of_client}
 use Rattle.hash_messages.specs.Messages.{most_prefixes}
 use Rattle.hash_messages.specs.RequestRows as request
 use Rattle.hash_messages.specs.ResponseRows as response

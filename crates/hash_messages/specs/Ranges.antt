@@ -1,16 +1,12 @@
 -- What every message of the types keeps: bytes below 256, the limits of each part, and durations that
 -- their texts spell.
-use Rattle.std.specs.Prelude.{◌≡◌, ℕ, ◌≤◌, List, length, All, Ok}
+use Rattle.std.specs.Prelude.{◌≡◌, ℕ, ◌≤◌, List, length, All}
 use Rattle.base64.specs.GeneralPurpose.{IsBytes}
-use Rattle.sb_model.specs.Time.{duration_of, duration_text}
+use Rattle.sb_members.specs.Ranges.{IsDuration}
 use Rattle.update_messages.specs.Ranges.{IsClientInRange}
 use Rattle.hash_messages.specs.Messages.{AskedHashes, IsAskedHashes}
 use Rattle.hash_messages.specs.declared.response.Match.{Match}
 use Rattle.hash_messages.specs.declared.response.FindResponse.{FindResponse}
-
--- nanoseconds that their text is read as
-abbrev pub IsDuration : ℕ → Type 0
-IsDuration nanos = duration_of (duration_text nanos) ≡ Ok nanos
 
 -- 4 to 32 bytes
 pub record IsPrefix (prefix : List ℕ) : Type 0 where

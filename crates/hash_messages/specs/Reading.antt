@@ -2,9 +2,10 @@
 use Rattle.std.specs.Prelude.{◌≡◌, ◌≤◌, List, length, Result, Ok}
 use Rattle.serde_json.specs.Data.{Data, Items}
 use Rattle.sb_json.specs.declared.faults.FieldFault.{FieldFault}
-use Rattle.update_messages.specs.Rows.{threat_row, platform_row, entry_row}
+use Rattle.sb_members.specs.Lists.{ReadsList}
+use Rattle.sb_members.specs.Rows.{threat_row, platform_row, entry_row}
 use Rattle.update_messages.specs.RequestRows.{root_row, client_row}
-use Rattle.update_messages.specs.Reading.{ReadsList, ReadsClient}
+use Rattle.update_messages.specs.Reading.{ReadsClient}
 use Rattle.hash_messages.specs.Messages.{AskedHashes, most_prefixes}
 use Rattle.hash_messages.specs.RequestRows as request
 use Rattle.hash_messages.specs.ResponseRows as response

@@ -11,7 +11,7 @@ use Rattle.sb_model.specs.declared.names.ThreatType.{ThreatType}
 use Rattle.sb_model.specs.declared.names.PlatformType.{PlatformType}
 use Rattle.sb_model.specs.declared.names.EntryType.{EntryType}
 use Rattle.sb_model.specs.Names.{threat_of, platform_of, entry_of}
-use Rattle.update_messages.specs.Rows.{items_or_none}
+use Rattle.sb_members.specs.Rows.{items_or_none}
 
 -- `clientStates`: the items, none where it is absent
 abbrev pub states_row : Data → Result Items FieldFault

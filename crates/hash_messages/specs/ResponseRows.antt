@@ -3,16 +3,11 @@
 -- first and `threat`.
 use Rattle.std.specs.Prelude.{ℕ, ◌==◌, if◌then◌else◌, List, length, Result, Ok, Err}
 use Rattle.serde_json.specs.Data.{Data, Items}
-use Rattle.sb_json.specs.Values.{◌>>=◌, field_of, object_in, object_of, bytes_of, duration_in}
-use Rattle.sb_json.specs.declared.fields.Field.{Field}
+use Rattle.sb_json.specs.Values.{◌>>=◌, object_in, object_of, bytes_of}
 use Rattle.sb_json.specs.declared.fields.Field.TheVariants as field
 use Rattle.sb_json.specs.declared.faults.FieldFault.{FieldFault}
 use Rattle.sb_json.specs.declared.faults.FieldFault.TheVariants.{Size}
-use Rattle.update_messages.specs.Rows.{or_absent, items_or_none}
-
--- a duration, zero where the field is absent
-abbrev pub duration_or_zero : Field → Data → Result ℕ FieldFault
-duration_or_zero name holder = or_absent 0 (duration_in name) (field_of name holder)
+use Rattle.sb_members.specs.Rows.{items_or_none, duration_or_zero}
 
 -- `matches`: the items, none where it is absent
 abbrev pub matches_row : Data → Result Items FieldFault

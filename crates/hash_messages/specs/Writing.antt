@@ -10,7 +10,8 @@ use Rattle.sb_model.specs.declared.names.ThreatType.{ThreatType}
 use Rattle.sb_model.specs.declared.names.PlatformType.{PlatformType}
 use Rattle.sb_model.specs.declared.names.EntryType.{EntryType}
 use Rattle.sb_model.specs.Names.{threat_word, platform_word, entry_word}
-use Rattle.update_messages.specs.Writing.{with_member, bytes_written, duration_written, list_written, unless_bare, client_members}
+use Rattle.sb_members.specs.Writing.{with_member, bytes_written, duration_written, list_written, unless_bare}
+use Rattle.update_messages.specs.Writing.{client_members}
 use Rattle.hash_messages.specs.Messages.{AskedHashes}
 use Rattle.hash_messages.specs.declared.response.Match.{Match}
 use Rattle.hash_messages.specs.declared.response.FindResponse.{FindResponse}

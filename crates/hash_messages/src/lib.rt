@@ -19,14 +19,12 @@ pub use writing_request::write_find;
 pub use writing_response::write_matches;
 
 mod laws;
-mod members;
 mod reading_asked;
 mod reading_client;
 mod reading_request;
 mod reading_response;
 mod request;
 mod response;
-mod rows;
 mod writing_asked;
 mod writing_request;
 mod writing_response;

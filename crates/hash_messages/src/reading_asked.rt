@@ -1,15 +1,14 @@
 ghost use Rattle.std.specs.Prelude.{◌≡◌, ◌⊎◌, ◌≤◌, length, Ok, Err, Some, None, IfOk, IfErr};
 ghost use Rattle.serde_json.specs.View.{view, items_view};
-ghost use Rattle.update_messages.specs.Reading.{EachReads};
-ghost use Rattle.update_messages.specs.Faults.{first_from};
+ghost use Rattle.sb_members.specs.Lists.{EachReads};
 ghost use Rattle.hash_messages.specs.Messages.{most_prefixes};
 ghost use Rattle.hash_messages.specs.RequestRows as row;
-ghost use Rattle.hash_messages.specs.Reading.{ReadsAs, ReadsEach};
-ghost use Rattle.hash_messages.specs.Faults.{fault_by, fault_of_each, fault_of_prefixes};
+ghost use Rattle.hash_messages.specs.Reading.{ReadsAs};
+ghost use Rattle.hash_messages.specs.Faults.{fault_by, fault_of_prefixes};
 
-use crate::rows::items_or_none;
 use hash_prefixes::Prefix;
 use sb_json::{Field, FieldFault, MessageFault, bytes, bytes_item, object_item, string_item};
+use sb_members::{ReadItem, read_numbered_items};
 use sb_model::{Bytes, EntryType, PlatformType, Row, ThreatType};
 use serde_json::Value;
 use std::alloc::Global;
@@ -18,20 +17,20 @@ use std::alloc::Global;
 const MOST_PREFIXES: usize = 1_024;
 
 /// The states of a request.
-pub(crate) fn states(alloc: Global, message: &Value) -> Result<Row<Bytes>, FieldFault>
-    ensures ok { IfOk result (λ states.
-        ReadsEach row.state_row (row.states_row (view message.now)) states) }
-    ensures clean { IfOk result (λ _.
-        fault_of_each row.state_row (row.states_row (view message.now)) ≡ None) }
-    ensures err { IfErr result (λ fault. (fault ≡ FieldFault.OutOfMemory)
-        ⊎ (fault_of_each row.state_row (row.states_row (view message.now)) ≡ Some fault)) }
-{
-    let items = items_or_none(message, Field::ClientStates)?;
-    let mut states = Row::with_capacity(alloc, items.len())?;
-    for item in items {
-        states.push(bytes_item(alloc, item, Field::ClientStates)?)?;
+pub(crate) struct States;
+
+impl ReadItem for States {
+    type Found = Bytes;
+
+    ghost Reads = { ReadsAs row.state_row };
+
+    ghost Keeps = { λ _. Unit {0} };
+
+    ghost fault = { fault_by row.state_row };
+
+    fn read_item(alloc: Global, item: &Value) -> Result<Bytes, FieldFault> {
+        bytes_item(alloc, item, Field::ClientStates)
     }
-    Ok(states)
 }
 
 /// A threat type that is asked for.
@@ -43,20 +42,20 @@ fn asked_threat(item: &Value) -> Result<ThreatType, FieldFault>
 }
 
 /// The threat types that are asked for.
-pub(crate) fn asked_threats(alloc: Global, info: &Value) -> Result<Row<ThreatType>, FieldFault>
-    ensures ok { IfOk result (λ threats.
-        ReadsEach row.asked_threat_row (row.threats_row (view info.now)) threats) }
-    ensures clean { IfOk result (λ _.
-        fault_of_each row.asked_threat_row (row.threats_row (view info.now)) ≡ None) }
-    ensures err { IfErr result (λ fault. (fault ≡ FieldFault.OutOfMemory)
-        ⊎ (fault_of_each row.asked_threat_row (row.threats_row (view info.now)) ≡ Some fault)) }
-{
-    let items = items_or_none(info, Field::ThreatTypes)?;
-    let mut threats = Row::with_capacity(alloc, items.len())?;
-    for item in items {
-        threats.push(asked_threat(item)?)?;
+pub(crate) struct AskedThreats;
+
+impl ReadItem for AskedThreats {
+    type Found = ThreatType;
+
+    ghost Reads = { ReadsAs row.asked_threat_row };
+
+    ghost Keeps = { λ _. Unit {0} };
+
+    ghost fault = { fault_by row.asked_threat_row };
+
+    fn read_item(_alloc: Global, item: &Value) -> Result<ThreatType, FieldFault> {
+        asked_threat(item)
     }
-    Ok(threats)
 }
 
 /// A platform type that is asked for.
@@ -68,20 +67,20 @@ fn asked_platform(item: &Value) -> Result<PlatformType, FieldFault>
 }
 
 /// The platform types that are asked for.
-pub(crate) fn asked_platforms(alloc: Global, info: &Value) -> Result<Row<PlatformType>, FieldFault>
-    ensures ok { IfOk result (λ platforms.
-        ReadsEach row.asked_platform_row (row.platforms_row (view info.now)) platforms) }
-    ensures clean { IfOk result (λ _.
-        fault_of_each row.asked_platform_row (row.platforms_row (view info.now)) ≡ None) }
-    ensures err { IfErr result (λ fault. (fault ≡ FieldFault.OutOfMemory)
-        ⊎ (fault_of_each row.asked_platform_row (row.platforms_row (view info.now)) ≡ Some fault)) }
-{
-    let items = items_or_none(info, Field::PlatformTypes)?;
-    let mut platforms = Row::with_capacity(alloc, items.len())?;
-    for item in items {
-        platforms.push(asked_platform(item)?)?;
+pub(crate) struct AskedPlatforms;
+
+impl ReadItem for AskedPlatforms {
+    type Found = PlatformType;
+
+    ghost Reads = { ReadsAs row.asked_platform_row };
+
+    ghost Keeps = { λ _. Unit {0} };
+
+    ghost fault = { fault_by row.asked_platform_row };
+
+    fn read_item(_alloc: Global, item: &Value) -> Result<PlatformType, FieldFault> {
+        asked_platform(item)
     }
-    Ok(platforms)
 }
 
 /// A threat entry type that is asked for.
@@ -93,20 +92,20 @@ fn asked_entry(item: &Value) -> Result<EntryType, FieldFault>
 }
 
 /// The threat entry types that are asked for.
-pub(crate) fn asked_entries(alloc: Global, info: &Value) -> Result<Row<EntryType>, FieldFault>
-    ensures ok { IfOk result (λ entries.
-        ReadsEach row.asked_entry_row (row.entries_row (view info.now)) entries) }
-    ensures clean { IfOk result (λ _.
-        fault_of_each row.asked_entry_row (row.entries_row (view info.now)) ≡ None) }
-    ensures err { IfErr result (λ fault. (fault ≡ FieldFault.OutOfMemory)
-        ⊎ (fault_of_each row.asked_entry_row (row.entries_row (view info.now)) ≡ Some fault)) }
-{
-    let items = items_or_none(info, Field::ThreatEntryTypes)?;
-    let mut entries = Row::with_capacity(alloc, items.len())?;
-    for item in items {
-        entries.push(asked_entry(item)?)?;
+pub(crate) struct AskedEntries;
+
+impl ReadItem for AskedEntries {
+    type Found = EntryType;
+
+    ghost Reads = { ReadsAs row.asked_entry_row };
+
+    ghost Keeps = { λ _. Unit {0} };
+
+    ghost fault = { fault_by row.asked_entry_row };
+
+    fn read_item(_alloc: Global, item: &Value) -> Result<EntryType, FieldFault> {
+        asked_entry(item)
     }
-    Ok(entries)
 }
 
 /// The prefix that an item asks for.
@@ -123,28 +122,25 @@ fn asked_prefix(alloc: Global, item: &Value) -> Result<Prefix, FieldFault>
     }
 }
 
-/// The prefixes that the items ask for, which count from 1.
-fn asked_prefixes(alloc: Global, items: &[Value]) -> Result<Row<Prefix>, MessageFault>
-    ensures ok { IfOk result (λ prefixes.
-        EachReads (ReadsAs row.prefix_row) (items_view items.now) prefixes) }
-    ensures count { IfOk result (λ prefixes. length prefixes ≡ length items.now) }
-    ensures clean { IfOk result (λ _.
-        first_from (fault_by row.prefix_row) 1 (items_view items.now) ≡ None) }
-    ensures err { IfErr result (λ fault. (fault ≡ MessageFault.OutOfMemory)
-        ⊎ (first_from (fault_by row.prefix_row) 1 (items_view items.now) ≡ Some fault)) }
-{
-    let mut prefixes = Row::with_capacity(alloc, items.len())?;
-    for (i, item) in items.iter().enumerate() {
-        match asked_prefix(alloc, item) {
-            Ok(prefix) => prefixes.push(prefix)?,
-            Err(fault) => return Err(MessageFault::of(fault, i as u64 + 1)),
-        }
+/// The prefixes that the items ask for.
+struct AskedPrefixes;
+
+impl ReadItem for AskedPrefixes {
+    type Found = Prefix;
+
+    ghost Reads = { ReadsAs row.prefix_row };
+
+    ghost Keeps = { λ _. Unit {0} };
+
+    ghost fault = { fault_by row.prefix_row };
+
+    fn read_item(alloc: Global, item: &Value) -> Result<Prefix, FieldFault> {
+        asked_prefix(alloc, item)
     }
-    Ok(prefixes)
 }
 
-/// The same, where there are no more items than a request may have.
-#[tactic(auto, using(crate::proofs::Lists::few_clean, crate::proofs::Lists::too_many))]
+/// The prefixes that the items ask for, where there are no more than a request may have.
+#[tactic(auto, using(crate::proofs::FewItems::few_clean, crate::proofs::FewItems::too_many))]
 pub(crate) fn few_asked_prefixes(
     alloc: Global,
     items: &[Value],
@@ -159,5 +155,5 @@ pub(crate) fn few_asked_prefixes(
     if items.len() > MOST_PREFIXES {
         return Err(MessageFault::TooManyItems(items.len() as u64));
     }
-    asked_prefixes(alloc, items)
+    read_numbered_items::<AskedPrefixes>(alloc, items)
 }

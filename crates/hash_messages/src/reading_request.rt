@@ -3,7 +3,8 @@ ghost use Rattle.std.specs.Prelude.{IfOk, IfErr, MatchResult};
 ghost use Rattle.serde_json.specs.View.{view, items_view};
 ghost use Rattle.sb_json.specs.Values.{value_of};
 ghost use Rattle.update_messages.specs.Reading.{IsTextOf};
-ghost use Rattle.update_messages.specs.Faults.{first, fault_of_text};
+ghost use Rattle.sb_members.specs.Lists.{first};
+ghost use Rattle.update_messages.specs.Faults.{fault_of_text};
 ghost use Rattle.hash_messages.specs.Messages.{AskedHashes, most_prefixes};
 ghost use Rattle.hash_messages.specs.RequestRows as row;
 ghost use Rattle.hash_messages.specs.Reading.{ReadsEach, ReadsOutsideItems, ReadsFindRequest};
@@ -12,12 +13,12 @@ ghost use Rattle.hash_messages.specs.Faults.{fault_of_find_request};
 
 use crate::FindRequest;
 use crate::reading_asked::{
-    asked_entries, asked_platforms, asked_threats, few_asked_prefixes, states,
+    AskedEntries, AskedPlatforms, AskedThreats, States, few_asked_prefixes,
 };
 use crate::reading_client::client;
-use crate::rows::{check_object, items_or_none};
 use hash_prefixes::Prefix;
 use sb_json::{Field, FieldFault, MessageFault, object, read_json};
+use sb_members::{check_object, items_or_none, read_list};
 use sb_model::Row;
 use serde_json::Value;
 use std::alloc::Global;
@@ -31,11 +32,11 @@ fn outside_items(alloc: Global, value: &Value) -> Result<FindRequest, FieldFault
 {
     check_object(value, Field::Root)?;
     let client = client(alloc, value)?;
-    let states = states(alloc, value)?;
+    let states = read_list::<States>(alloc, value, Field::ClientStates)?;
     let info = object(value, Field::ThreatInfo)?;
-    let threats = asked_threats(alloc, info)?;
-    let platforms = asked_platforms(alloc, info)?;
-    let entries = asked_entries(alloc, info)?;
+    let threats = read_list::<AskedThreats>(alloc, info, Field::ThreatTypes)?;
+    let platforms = read_list::<AskedPlatforms>(alloc, info, Field::PlatformTypes)?;
+    let entries = read_list::<AskedEntries>(alloc, info, Field::ThreatEntryTypes)?;
     Ok(FindRequest {
         client,
         states,

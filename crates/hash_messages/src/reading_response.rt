@@ -1,18 +1,22 @@
 ghost use Rattle.std.specs.Prelude.{◌≡◌, ◌⊎◌, Ok, Err, Some, None, IfOk, IfErr, MatchResult};
 ghost use Rattle.serde_json.specs.View.{view, items_view};
 ghost use Rattle.sb_json.specs.Values.{value_of};
-ghost use Rattle.update_messages.specs.Reading.{EachReads, IsTextOf};
-ghost use Rattle.update_messages.specs.Faults.{first_from, fault_of_text};
+ghost use Rattle.sb_members.specs.Lists.{EachReads, first_from};
+ghost use Rattle.update_messages.specs.Reading.{IsTextOf};
+ghost use Rattle.update_messages.specs.Faults.{fault_of_text};
 ghost use Rattle.hash_messages.specs.ResponseRows as row;
 ghost use Rattle.hash_messages.specs.Reading.{ReadsMatch, ReadsFindResponse};
 ghost use Rattle.hash_messages.specs.Faults.{fault_of_match, fault_of_find_response};
 ghost use Rattle.hash_messages.specs.declared.response.FindResponse.{FindResponse};
 
-use crate::rows::{check_object, duration_or_zero, entry, items_or_none, platform, threat};
 use crate::{FindResponse, Match};
 use hash_prefixes::FullHash;
 use sb_json::{Field, FieldFault, MessageFault, bytes, object, read_json};
-use sb_model::{ListName, Row};
+use sb_members::{
+    ReadItem, check_object, duration_or_zero, entry_type, items_or_none, platform_type,
+    read_numbered_items, threat_type,
+};
+use sb_model::ListName;
 use serde_json::Value;
 use std::alloc::Global;
 
@@ -38,9 +42,9 @@ fn match_of(alloc: Global, item: &Value) -> Result<Match, FieldFault>
         ⊎ (fault_of_match (view item.now) ≡ Some fault)) }
 {
     check_object(item, Field::Matches)?;
-    let threat = threat(item)?;
-    let platform = platform(item)?;
-    let entry = entry(item)?;
+    let threat = threat_type(item)?;
+    let platform = platform_type(item)?;
+    let entry = entry_type(item)?;
     let hash = hash(alloc, item)?;
     let cache = duration_or_zero(item, Field::CacheDuration)?;
     let name = ListName {
@@ -51,21 +55,21 @@ fn match_of(alloc: Global, item: &Value) -> Result<Match, FieldFault>
     Ok(Match { name, hash, cache })
 }
 
-/// The matches that the items are, which count from 1.
-fn matches_of(alloc: Global, items: &[Value]) -> Result<Row<Match>, MessageFault>
-    ensures ok { IfOk result (λ matches. EachReads ReadsMatch (items_view items.now) matches) }
-    ensures clean { IfOk result (λ _. first_from fault_of_match 1 (items_view items.now) ≡ None) }
-    ensures err { IfErr result (λ fault. (fault ≡ MessageFault.OutOfMemory)
-        ⊎ (first_from fault_of_match 1 (items_view items.now) ≡ Some fault)) }
-{
-    let mut matches = Row::with_capacity(alloc, items.len())?;
-    for (i, item) in items.iter().enumerate() {
-        match match_of(alloc, item) {
-            Ok(found) => matches.push(found)?,
-            Err(fault) => return Err(MessageFault::of(fault, i as u64 + 1)),
-        }
+/// The matches that the items are.
+struct Matches;
+
+impl ReadItem for Matches {
+    type Found = Match;
+
+    ghost Reads = { ReadsMatch };
+
+    ghost Keeps = { λ _. Unit {0} };
+
+    ghost fault = { fault_of_match };
+
+    fn read_item(alloc: Global, item: &Value) -> Result<Match, FieldFault> {
+        match_of(alloc, item)
     }
-    Ok(matches)
 }
 
 /// The response that a value is.
@@ -78,7 +82,7 @@ fn response_of(alloc: Global, value: &Value) -> Result<FindResponse, MessageFaul
         return Err(MessageFault::of(fault, 0));
     }
     let matches = match items_or_none(value, Field::Matches) {
-        Ok(items) => matches_of(alloc, items)?,
+        Ok(items) => read_numbered_items::<Matches>(alloc, items)?,
         Err(fault) => return Err(MessageFault::of(fault, 0)),
     };
     let wait = match duration_or_zero(value, Field::MinimumWaitDuration) {

@@ -4,9 +4,9 @@ ghost use Rattle.base64.specs.GeneralPurpose.{IsBytes};
 ghost use Rattle.hash_messages.specs.Ranges.{IsPrefix};
 ghost use Rattle.hash_messages.specs.Writing as spec;
 
-use crate::members::{bytes_value, encoded_value, put_member, string_value};
 use hash_prefixes::Prefix;
 use sb_json::Field;
+use sb_members::{bytes_value, encoded_value, put_member, string_value};
 use sb_model::{Bytes, EntryType, OutOfMemory, PlatformType, ThreatType};
 use serde_json::{Map, Value};
 use std::alloc::Global;

@@ -9,11 +9,14 @@ ghost use Rattle.hash_messages.specs.Reading.{ReadsFindRequest};
 ghost use Rattle.hash_messages.specs.Writing as spec;
 
 use crate::FindRequest;
-use crate::members::{list_value, object_value, put_member, text_value};
 use crate::writing_asked::{
     entry_values, platform_values, prefix_values, state_values, threat_values,
 };
 use sb_json::Field;
+use sb_members::{
+    list_value, members_are_as_their_values, object_value, put_member, text_value,
+    written_members_read_again,
+};
 use sb_model::{Bytes, OutOfMemory};
 use serde_json::{Map, Value};
 use std::alloc::Global;
@@ -80,13 +83,14 @@ fn request_value(alloc: Global, message: &FindRequest) -> Result<Value, OutOfMem
 /// Writes a find request in its one spelling: compact JSON, whose keys stand in byte order, and in
 /// which empty texts, empty lists and a client without fields are left out, but no empty state in
 /// the list of states. The text reads as the message, and as no other.
-#[tactic(auto, using(crate::proofs::Floats::request_has_none))]
 pub fn write_find(alloc: Global, message: &FindRequest) -> Result<Bytes, OutOfMemory>
     ensures spelling { IfOk result (λ text. text ≡ spec.spelling_of_find_request message.now) }
     ensures read_again { IfOk result (λ text. IsTextOf ReadsFindRequest text message.now) }
     ensures no_other { IfOk result (λ text.
         (other : AskedHashes) → IsTextOf ReadsFindRequest text other → other ≡ message.now) }
 {
+    written_members_read_again();
+    members_are_as_their_values();
     let value = request_value(alloc, message)?;
     let text = value.to_string(alloc)?;
     Ok(Bytes::from_vec(text.into_bytes()))

@@ -7,9 +7,12 @@ ghost use Rattle.hash_messages.specs.Writing as spec;
 ghost use Rattle.base64.specs.GeneralPurpose.{IsBytes};
 ghost use Rattle.hash_messages.specs.declared.response.FindResponse.{FindResponse};
 
-use crate::members::{bytes_value, duration_value, list_value, put_member, string_value};
 use crate::{FindResponse, Match};
 use sb_json::Field;
+use sb_members::{
+    bytes_value, duration_value, list_value, members_are_as_their_values, put_member, string_value,
+    written_members_read_again,
+};
 use sb_model::{Bytes, OutOfMemory};
 use serde_json::{Map, Value};
 use std::alloc::Global;
@@ -71,13 +74,14 @@ fn response_value(alloc: Global, message: &FindResponse) -> Result<Value, OutOfM
 /// Writes the answer to a find request in its one spelling: compact JSON, whose keys stand in byte
 /// order, and in which an empty list and zero durations are left out. The text reads as the
 /// message, and as no other.
-#[tactic(auto, using(crate::proofs::Floats::response_has_none))]
 pub fn write_matches(alloc: Global, message: &FindResponse) -> Result<Bytes, OutOfMemory>
     ensures spelling { IfOk result (λ text. text ≡ spec.spelling_of_find_response message.now) }
     ensures read_again { IfOk result (λ text. IsTextOf ReadsFindResponse text message.now) }
     ensures no_other { IfOk result (λ text.
         (other : FindResponse) → IsTextOf ReadsFindResponse text other → other ≡ message.now) }
 {
+    written_members_read_again();
+    members_are_as_their_values();
     let value = response_value(alloc, message)?;
     let text = value.to_string(alloc)?;
     Ok(Bytes::from_vec(text.into_bytes()))

@@ -1,12 +1,14 @@
 -- Standard padded base64 is in the standard alphabet and padded.
-use Rattle.std.proofs.Common.{◌≡◌, ℕ, ◌+◌, ◌%◌, List, [], ◌∷◌, length, map, true, false, cond, refl, sym, ap, ◌∙◌, arith, zero, suc, get_or}
+use Rattle.std.proofs.Common.{◌≡◌, ℕ, ◌+◌, ◌%◌, List, [], ◌∷◌, length, map, true, false, cond, Some, refl, sym, ap, ◌∙◌, arith, zero, suc, get_or}
 use Rattle.std.specs.Prelude.{replicate, slice_index}
 use Rattle.std.proofs.Math.ListN.{get_or-map}
 use Rattle.std.proofs.lemmas.List.{map-append, length-append, length-replicate}
 use Rattle.std.specs.List.{list_any}
+use Rattle.std.specs.Result.{result_ok}
 use Rattle.base64.specs.Engines.{standard}
-use Rattle.base64.specs.GeneralPurpose.{decoded_of, encode_of, engine_symbols}
+use Rattle.base64.specs.GeneralPurpose.{IsBytes, decoded_of, encode_of, engine_symbols}
 use Rattle.base64.specs.Rfc4648.{encode_symbols, padding_len}
+use Rattle.base64.proofs.EngineFacts.{decode_of-encode_of}
 use Rattle.sb_json.specs.Values.{in_standard_alphabet, is_padding, with_padding, base64_of}
 
 -- a letter of the standard alphabet stays
@@ -53,3 +55,9 @@ encoded_stays text bytes h =
     let same : map in_standard_alphabet text ≡ text = ap (map in_standard_alphabet) h ∙ in_alphabet bytes ∙ sym h in
     let fours : length text % 4 ≡ 0 = rw h (whole_length bytes) in
     ap (decoded_of standard) (sym (ap with_padding same ∙ not_padded text fours))
+
+-- and so it is read as the bytes that it was written of
+pub encoded_back : (bytes : List ℕ) → IsBytes bytes → base64_of (encode_of standard bytes) ≡ Some bytes
+unfolding decoded_of
+encoded_back bytes h =
+    sym (encoded_stays (encode_of standard bytes) bytes refl) ∙ ap result_ok (decode_of-encode_of standard bytes refl h)

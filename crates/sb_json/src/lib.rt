@@ -5,6 +5,7 @@
 pub use faults::{FieldFault, MessageFault};
 pub use fields::Field;
 pub use kinds::{bytes_item, duration_item, items_item, object_item, string_item, whole_item};
+pub use laws::encoded_bytes_read_again;
 pub use printing::push_message_cause;
 pub use values::{bytes, duration, field, items, object, read_json, string, text, whole};
 
@@ -12,6 +13,7 @@ mod encoded;
 mod faults;
 mod fields;
 mod kinds;
+mod laws;
 mod numerals;
 mod printing;
 mod values;

@@ -18,11 +18,12 @@ use Rattle.update_messages.specs.declared.sets.Removals.{Removals}
 use Rattle.update_messages.specs.declared.sets.Removals.TheVariants as removed
 use Rattle.update_messages.specs.declared.response.FetchResponse.{FetchResponse}
 use Rattle.update_messages.specs.Messages.{AskedList, Request, UpdatedList, most_items}
-use Rattle.update_messages.specs.Rows.{threat_row, platform_row, entry_row}
+use Rattle.sb_members.specs.Lists.{EachReads, ReadsList, fault_of, first, first_of_items, fault_of_list, first_from, in_item, item_count}
+use Rattle.sb_members.specs.Rows.{threat_row, platform_row, entry_row}
 use Rattle.update_messages.specs.RequestRows as request
 use Rattle.update_messages.specs.ResponseRows as response
-use Rattle.update_messages.specs.Reading.{EachReads, ReadsList, ReadsRice, ReadsRaw, ReadsIndex, ReadsAddition, ReadsRemoval, ReadsUpdatedList, ReadsResponse, ReadsName, TakesCompressions, ReadsAskedList, ReadsClient, ReadsRequest}
-use Rattle.update_messages.specs.Faults.{fault_of, first, first_of_items, fault_of_list, first_from, in_item, item_count, faults_of_rice, faults_of_raw_hashes, faults_of_hashes, faults_of_indices, fault_of_index, faults_of_addition, fault_of_addition, faults_of_removal, fault_of_removal, faults_of_update, fault_of_update, fault_of_updates, faults_of_response, fault_of_response, fault_of_name, faults_of_asked, fault_of_asked, faults_of_client, fault_of_requests, faults_of_request, fault_of_request}
+use Rattle.update_messages.specs.Reading.{ReadsRice, ReadsRaw, ReadsIndex, ReadsAddition, ReadsRemoval, ReadsUpdatedList, ReadsResponse, ReadsName, TakesCompressions, ReadsAskedList, ReadsClient, ReadsRequest}
+use Rattle.update_messages.specs.Faults.{faults_of_rice, faults_of_raw_hashes, faults_of_hashes, faults_of_indices, fault_of_index, faults_of_addition, fault_of_addition, faults_of_removal, fault_of_removal, faults_of_update, fault_of_update, fault_of_updates, faults_of_response, fault_of_response, fault_of_name, faults_of_asked, fault_of_asked, faults_of_client, fault_of_requests, faults_of_request, fault_of_request}
 use Rattle.update_messages.proofs.NoFault.{count_of_each}
 
 -- none of them is there

@@ -1,9 +1,7 @@
 pub mod Compressions
 pub mod Depths
-pub mod DurationBytes
 pub mod Existence
 pub mod Floats
-pub mod FoundMembers
 pub mod Lists
 pub mod NoFault
 pub mod OneReading
@@ -11,7 +9,5 @@ pub mod RequestAgain
 pub mod ResponseAgain
 pub mod Texts
 pub mod TextsAgain
-pub mod Written
 pub mod WrittenLists
-pub mod WrittenNames
 pub mod WrittenRows

@@ -10,8 +10,9 @@ use Rattle.update_messages.specs.declared.sets.Additions.TheVariants as added
 use Rattle.update_messages.specs.declared.sets.Removals.TheVariants as removed
 use Rattle.update_messages.specs.declared.response.FetchResponse.{FetchResponse}
 use Rattle.update_messages.specs.Messages.{AskedList, Request, UpdatedList, most_items}
-use Rattle.update_messages.specs.Reading.{EachReads, ReadsList, ReadsRice, ReadsRaw, ReadsIndex, ReadsAddition, ReadsRemoval, ReadsUpdatedList, ReadsResponse, ReadsName, ReadsAskedList, ReadsClient, ReadsRequest}
-use Rattle.update_messages.specs.Faults.{fault_of, first, first_of_items, fault_of_list, first_from, in_item, faults_of_rice, faults_of_raw_hashes, fault_of_index, fault_of_addition, fault_of_removal, fault_of_update, fault_of_updates, fault_of_response, fault_of_name, fault_of_asked, faults_of_client, fault_of_requests, fault_of_request, item_count}
+use Rattle.sb_members.specs.Lists.{EachReads, ReadsList, fault_of, first, first_of_items, fault_of_list, first_from, in_item, item_count}
+use Rattle.update_messages.specs.Reading.{ReadsRice, ReadsRaw, ReadsIndex, ReadsAddition, ReadsRemoval, ReadsUpdatedList, ReadsResponse, ReadsName, ReadsAskedList, ReadsClient, ReadsRequest}
+use Rattle.update_messages.specs.Faults.{faults_of_rice, faults_of_raw_hashes, fault_of_index, fault_of_addition, fault_of_removal, fault_of_update, fault_of_updates, fault_of_response, fault_of_name, fault_of_asked, faults_of_client, fault_of_requests, fault_of_request}
 
 pub passes : {A : Type 0} (r : Result A FieldFault) (a : A) (os : List (Option FieldFault)) → r ≡ Ok a → first (fault_of r ∷ os) ≡ first os
 passes r a os e = rw e refl

@@ -10,7 +10,8 @@ use Rattle.update_messages.specs.declared.response.FetchResponse.{FetchResponse}
 use Rattle.update_messages.specs.Messages.{Request}
 use Rattle.update_messages.specs.RequestRows as request
 use Rattle.update_messages.specs.ResponseRows as response
-use Rattle.update_messages.specs.Reading.{EachReads, ReadsList, ReadsName, TakesCompressions, ReadsAskedList, ReadsRequest, ReadsRice, ReadsRaw, ReadsIndex, ReadsAddition, ReadsRemoval, ReadsUpdatedList, ReadsResponse}
+use Rattle.sb_members.specs.Lists.{EachReads, ReadsList}
+use Rattle.update_messages.specs.Reading.{ReadsName, TakesCompressions, ReadsAskedList, ReadsRequest, ReadsRice, ReadsRaw, ReadsIndex, ReadsAddition, ReadsRemoval, ReadsUpdatedList, ReadsResponse}
 
 pub same : {A : Type 0} (r : Result A FieldFault) (a b : A) → r ≡ Ok a → r ≡ Ok b → a ≡ b
 same r a b e f = cc

@@ -7,15 +7,16 @@ use Rattle.sb_json.specs.Values.{◌>>=◌}
 use Rattle.sb_json.specs.declared.fields.Field.TheVariants as field
 use Rattle.sb_json.specs.declared.faults.FieldFault.{FieldFault}
 use Rattle.sb_model.specs.Names.{threat_word, platform_word, entry_word}
+use Rattle.sb_members.specs.Laws.{AreReadAgain}
+use Rattle.sb_members.specs.Parts.{Parts}
+use Rattle.sb_members.specs.Writing.{text_written, bytes_written, number_written, list_written, unless_bare}
 use Rattle.update_messages.specs.declared.client.ClientInfo.{ClientInfo}
 use Rattle.update_messages.specs.Messages.{AskedList, Request, most_i32}
 use Rattle.update_messages.specs.Ranges.{IsClientInRange, IsAskedInRange, IsRequestInRange}
 use Rattle.update_messages.specs.RequestRows.{client_row, client_id_row, client_version_row, constraints_row, max_update_row, max_database_row, compressions_row, requests_row}
 use Rattle.update_messages.specs.Reading.{TakesCompressions, ReadsAskedList, ReadsClient, ReadsRequest}
-use Rattle.update_messages.specs.Writing.{text_written, bytes_written, number_written, list_written, unless_bare, word_if, compressions_written, client_members, constraint_members, asked_written, request_written}
-use Rattle.update_messages.proofs.FoundMembers.{Parts}
-use Rattle.update_messages.proofs.WrittenRows.{text_found, state_found, number_found, values_found, bare_found}
-use Rattle.update_messages.proofs.WrittenNames.{threat_found, platform_found, entry_found}
+use Rattle.update_messages.specs.Writing.{word_if, compressions_written, client_members, constraint_members, asked_written, request_written}
+use Rattle.update_messages.proofs.WrittenRows.{bare_found, state_found}
 use Rattle.update_messages.proofs.WrittenLists.{list_again}
 
 abbrev pub constraint_parts : AskedList → Parts
@@ -48,52 +49,52 @@ words_taken true false = record { names = codes "RAW" ∷ []; names_read = (refl
 words_taken false true = record { names = codes "RICE" ∷ []; names_read = (refl, tt); raw_taken = refl; rice_taken = refl }
 words_taken false false = record { names = []; names_read = tt; raw_taken = refl; rice_taken = refl }
 
-words_found : (a : AskedList) → (constraints_row (asked_written a) >>= compressions_row) ≡ Ok (items_of (words a.raw a.rice))
-words_found a =
-    bare_found field.Constraints (asked_parts a) (constraint_members a) compressions_row refl refl
-    ∙ values_found field.SupportedCompressions (constraint_parts a) (words a.raw a.rice) refl
+words_found : AreReadAgain → (a : AskedList) → (constraints_row (asked_written a) >>= compressions_row) ≡ Ok (items_of (words a.raw a.rice))
+words_found law a =
+    bare_found law field.Constraints (asked_parts a) (constraint_members a) compressions_row refl refl
+    ∙ law.defaults.lists field.SupportedCompressions (constraint_parts a) (words a.raw a.rice) refl
 
-compressions_again : (a : AskedList) → TakesCompressions (constraints_row (asked_written a) >>= compressions_row) a.raw a.rice
-compressions_again a = subst (λ (r : Result Items FieldFault). TakesCompressions r a.raw a.rice) (sym (words_found a)) (words_taken a.raw a.rice)
+compressions_again : AreReadAgain → (a : AskedList) → TakesCompressions (constraints_row (asked_written a) >>= compressions_row) a.raw a.rice
+compressions_again law a = subst (λ (r : Result Items FieldFault). TakesCompressions r a.raw a.rice) (sym (words_found law a)) (words_taken a.raw a.rice)
 
-max_update_again : (a : AskedList) → a.max_update ≤ most_i32 → (constraints_row (asked_written a) >>= max_update_row) ≡ Ok a.max_update
-max_update_again a h =
-    bare_found field.Constraints (asked_parts a) (constraint_members a) max_update_row refl refl
-    ∙ number_found field.MaxUpdateEntries most_i32 (constraint_parts a) a.max_update h refl
+max_update_again : AreReadAgain → (a : AskedList) → a.max_update ≤ most_i32 → (constraints_row (asked_written a) >>= max_update_row) ≡ Ok a.max_update
+max_update_again law a h =
+    bare_found law field.Constraints (asked_parts a) (constraint_members a) max_update_row refl refl
+    ∙ law.defaults.numbers field.MaxUpdateEntries most_i32 (constraint_parts a) a.max_update h refl
 
-max_database_again : (a : AskedList) → a.max_database ≤ most_i32 → (constraints_row (asked_written a) >>= max_database_row) ≡ Ok a.max_database
-max_database_again a h =
-    bare_found field.Constraints (asked_parts a) (constraint_members a) max_database_row refl refl
-    ∙ number_found field.MaxDatabaseEntries most_i32 (constraint_parts a) a.max_database h refl
+max_database_again : AreReadAgain → (a : AskedList) → a.max_database ≤ most_i32 → (constraints_row (asked_written a) >>= max_database_row) ≡ Ok a.max_database
+max_database_again law a h =
+    bare_found law field.Constraints (asked_parts a) (constraint_members a) max_database_row refl refl
+    ∙ law.defaults.numbers field.MaxDatabaseEntries most_i32 (constraint_parts a) a.max_database h refl
 
-asked_again : (a : AskedList) → IsAskedInRange a → ReadsAskedList (asked_written a) a
-asked_again a h = record {
+asked_again : AreReadAgain → (a : AskedList) → IsAskedInRange a → ReadsAskedList (asked_written a) a
+asked_again law a h = record {
   object = refl;
-  threat = threat_found (asked_parts a) a.name.threat refl;
-  platform = platform_found (asked_parts a) a.name.platform refl;
-  entry = entry_found (asked_parts a) a.name.entry refl;
-  state = state_found field.State (asked_parts a) a.state h.state h.limits.state refl;
-  max_update = max_update_again a h.limits.max_update;
-  max_database = max_database_again a h.limits.max_database;
-  compressions = compressions_again a;
+  threat = law.names.threats (asked_parts a) a.name.threat refl;
+  platform = law.names.platforms (asked_parts a) a.name.platform refl;
+  entry = law.names.entries (asked_parts a) a.name.entry refl;
+  state = state_found law field.State (asked_parts a) a.state h.state h.limits.state refl;
+  max_update = max_update_again law a h.limits.max_update;
+  max_database = max_database_again law a h.limits.max_database;
+  compressions = compressions_again law a;
 }
 
-client_again : (m : Request) → IsClientInRange m.client → ReadsClient (client_row (request_written m)) m.client
-client_again m h = record {
+client_again : AreReadAgain → (m : Request) → IsClientInRange m.client → ReadsClient (client_row (request_written m)) m.client
+client_again law m h = record {
   id =
-      bare_found field.Client (request_parts m) (client_members m.client) client_id_row refl refl
-      ∙ text_found field.ClientId (client_parts m.client) m.client.id h.id refl;
+      bare_found law field.Client (request_parts m) (client_members m.client) client_id_row refl refl
+      ∙ law.defaults.texts field.ClientId (client_parts m.client) m.client.id h.id refl;
   version =
-      bare_found field.Client (request_parts m) (client_members m.client) client_version_row refl refl
-      ∙ text_found field.ClientVersion (client_parts m.client) m.client.version h.version refl;
+      bare_found law field.Client (request_parts m) (client_members m.client) client_version_row refl refl
+      ∙ law.defaults.texts field.ClientVersion (client_parts m.client) m.client.version h.version refl;
 }
 
-pub request_again : (m : Request) → IsRequestInRange m → ReadsRequest (request_written m) m
-request_again m h = record {
+pub request_again : AreReadAgain → (m : Request) → IsRequestInRange m → ReadsRequest (request_written m) m
+request_again law m h = record {
   object = refl;
-  client = client_again m h.client;
+  client = client_again law m h.client;
   few = h.limits.few;
   items =
-      list_again ReadsAskedList asked_written IsAskedInRange asked_again m.items h.items (requests_row (request_written m))
-      (values_found field.ListUpdateRequests (request_parts m) (map asked_written m.items) refl);
+      list_again ReadsAskedList asked_written IsAskedInRange (asked_again law) m.items h.items (requests_row (request_written m))
+      (law.defaults.lists field.ListUpdateRequests (request_parts m) (map asked_written m.items) refl);
 }

@@ -1,12 +1,15 @@
 -- A text that is written reads as what it was written of, and as no other.
-use Rattle.std.proofs.Common.{◌≡◌, ℕ, ◌≤◌, List, Some, String, string_bytes, sym, ap, ◌∙◌, subst}
+use Rattle.std.proofs.Common.{◌≡◌, ℕ, ◌≤◌, List, Some, None, cond, String, string_bytes, sym, ap, ◌∙◌, subst}
 use Rattle.std.specs.declared.alloc.Global.{Global}
-use Rattle.std.proofs.lemmas.Str.{IsUtf8-string_bytes}
+use Rattle.std.specs.Str.{IsUtf8}
+use Rattle.std.proofs.lemmas.Str.{IsUtf8-string_bytes, is_utf8-from_IsUtf8}
 use Rattle.serde_json.specs.Data.{Data, depth}
 use Rattle.serde_json.specs.Read.{read, max_depth}
 use Rattle.sb_json.specs.Values.{value_of}
-use Rattle.sb_json.proofs.JsonTexts.{json_value}
 use Rattle.update_messages.specs.Reading.{IsTextOf}
+
+json_value : (text : List ℕ) (value : Data) → IsUtf8 text → read text ≡ Some value → value_of text ≡ Some value
+json_value text value utf8 h = ap (λ b. cond b (read text) None) (is_utf8-from_IsUtf8 text utf8) ∙ h
 
 pub text_again : {A : Type 0} (Reads : Data → A → Type 0) (s : String Global) (text : List ℕ) (given written : Data) (message : A)
     → text ≡ string_bytes s → given ≡ written → depth written ≤ max_depth → (depth given ≤ max_depth → read (string_bytes s) ≡ Some given) → Reads written message

@@ -1,160 +1,29 @@
--- What is written of a field is what its row reads.
-use Rattle.std.proofs.Common.{◌≡◌, ℕ, ◌≤◌, ◌<◌, ◌^◌, ◌==◌, ◌&&◌, ◌||◌, Bool, true, false, if◌then◌else◌, not, List, [], ◌∷◌, length, Option, Some, None, Result, Ok, refl, sym, ap, ◌∙◌, arith, rules}
-use Rattle.std.specs.Prelude.{nat_le, nat_lt, slice_index, decimal, encode_utf8_all}
-use Rattle.std.specs.Char.{is_ascii_digit}
-use Rattle.std.specs.List.{list_all}
-use Rattle.std.specs.Result.{result_ok}
-use Rattle.std.specs.Str.{chars}
-use Rattle.std.specs.Str.Parse.{digits_value}
-use Rattle.std.proofs.lemmas.Bool.{eqb-true}
+-- State tokens, and rows of an object that is left out where it is bare, are read again.
+use Rattle.std.proofs.Common.{◌≡◌, ℕ, ◌≤◌, true, List, length, Result, Ok, refl, ap, ◌∙◌, arith}
+use Rattle.std.specs.Prelude.{nat_le}
 use Rattle.std.proofs.lemmas.Bool.Decides.{nat_tests}
-use Rattle.std.proofs.lemmas.Fmt.{digits_decimal, digits_value-decimal, first_decimal, decimal_nonempty}
-use Rattle.std.proofs.lemmas.Str.Parse.{IsNumeralModel, numerals_by_value}
-use Rattle.serde_json.specs.Data.{Data, null, number, string, object, unsigned, Members, no_members, member}
-use Rattle.serde_json.specs.View.{items_of}
-use Rattle.base64.specs.Engines.{standard}
-use Rattle.base64.specs.GeneralPurpose.{IsBytes, encode_of, decoded_of}
-use Rattle.base64.proofs.EngineFacts.{decode_of-encode_of}
-use Rattle.sb_json.specs.Values.{◌>>=◌, there, field_of, needed, or_fault, at_most, numeral, is_numeral, base64_of, whole_in, whole_of, string_in, string_of, items_in, object_in, object_of, bytes_in, bytes_of, duration_in, without_cause}
+use Rattle.serde_json.specs.Data.{Data, null, object, Members, no_members, member}
+use Rattle.base64.specs.GeneralPurpose.{IsBytes}
+use Rattle.sb_json.specs.Values.{◌>>=◌}
 use Rattle.sb_json.specs.declared.fields.Field.{Field}
 use Rattle.sb_json.specs.declared.faults.FieldFault.{FieldFault}
-use Rattle.sb_json.specs.declared.faults.FieldFault.TheVariants as fault
-use Rattle.sb_json.proofs.Encodings.{encoded_stays}
-use Rattle.sb_model.specs.Time.{duration_of, duration_text}
+use Rattle.sb_members.specs.Laws.{AreReadAgain}
+use Rattle.sb_members.specs.Parts.{Parts, made, found, or_null}
+use Rattle.sb_members.specs.Rows.{object_or_null}
+use Rattle.sb_members.specs.Writing.{bytes_written, unless_bare}
 use Rattle.update_messages.specs.Messages.{most_state}
-use Rattle.update_messages.specs.Rows.{or_absent, object_or_null, items_or_none, bytes_or_none, whole_or_zero, within_state, state_or_empty}
-use Rattle.update_messages.specs.RequestRows.{text_or_empty}
-use Rattle.update_messages.specs.Writing.{text_written, bytes_written, number_written, long_written, duration_written, values_written, unless_bare}
-use Rattle.update_messages.proofs.FoundMembers.{Parts, made, found, or_later, get_made}
-
--- ---- needed fields
-
-needed_found : (f : Field) (ps : Parts) (d : Data) {A : Type 0} (read : Data → Result A FieldFault) → found f ps ≡ Some d → there (Some d) ≡ Some d
-    → (needed f (field_of f (object (made ps))) >>= read) ≡ read d
-needed_found f ps d read e stands = ap (λ (o : Option Data). needed f o >>= read) (ap there (get_made f ps ∙ e) ∙ stands)
-
-pub string_found : (f : Field) (ps : Parts) (w : List ℕ) → found f ps ≡ Some (string w) → string_of f (object (made ps)) ≡ Ok w
-string_found f ps w e = needed_found f ps (string w) (string_in f) e refl
-
-pub object_found : (f : Field) (ps : Parts) (ms : Members) → found f ps ≡ Some (object ms) → object_of f (object (made ps)) ≡ Ok (object ms)
-object_found f ps ms e = needed_found f ps (object ms) (object_in f) e refl
-
--- ---- fields that may be absent
-
-absent_found : (f : Field) (ps : Parts) (o : Option Data) {A : Type 0} (default : A) (read : Data → Result A FieldFault) → found f ps ≡ or_later o None
-    → or_absent default read (field_of f (object (made ps))) ≡ or_absent default read (there o)
-absent_found f ps o default read e = ap (λ (p : Option Data). or_absent default read (there p)) (get_made f ps ∙ e ∙ alone o)
-  where
-    alone : (o : Option Data) → or_later o None ≡ o
-    alone None = refl
-    alone (Some d) = refl
-
--- ---- texts
-
-text_there : (f : Field) (cs : List ℕ) → chars (encode_utf8_all cs) ≡ cs → or_absent [] (λ value. string_in f value >>= λ s. Ok (chars s)) (there (text_written cs)) ≡ Ok cs
-text_there f [] h = refl
-text_there f (c ∷ cs) h = ap Ok h
-
-pub text_found : (f : Field) (ps : Parts) (cs : List ℕ) → chars (encode_utf8_all cs) ≡ cs → found f ps ≡ or_later (text_written cs) None → text_or_empty f (object (made ps)) ≡ Ok cs
-text_found f ps cs h e = absent_found f ps (text_written cs) [] (λ value. string_in f value >>= λ s. Ok (chars s)) e ∙ text_there f cs h
-
--- ---- bytes
-
-encoded_back : (bs : List ℕ) → IsBytes bs → base64_of (encode_of standard bs) ≡ Some bs
-unfolding decoded_of
-encoded_back bs h = sym (encoded_stays (encode_of standard bs) bs refl) ∙ ap result_ok (decode_of-encode_of standard bs refl h)
-
-string_back : (f : Field) (bs : List ℕ) → IsBytes bs → bytes_in f (string (encode_of standard bs)) ≡ Ok bs
-string_back f bs h = ap (or_fault (fault.Base64 f)) (encoded_back bs h)
-
-bytes_there : (f : Field) (bs : List ℕ) → IsBytes bs → or_absent [] (bytes_in f) (there (bytes_written bs)) ≡ Ok bs
-bytes_there f [] h = refl
-bytes_there f (b ∷ bs) h = string_back f (b ∷ bs) h
-
-pub bytes_found : (f : Field) (ps : Parts) (bs : List ℕ) → IsBytes bs → found f ps ≡ or_later (bytes_written bs) None → bytes_or_none f (object (made ps)) ≡ Ok bs
-bytes_found f ps bs h e = absent_found f ps (bytes_written bs) [] (bytes_in f) e ∙ bytes_there f bs h
-
-within : (n most : ℕ) → n ≤ most → nat_le n most ≡ true
-within n most h = grind (arith, nat_tests)
+use Rattle.update_messages.specs.Rows.{within_state, state_or_empty}
 
 state_within : (f : Field) (bs : List ℕ) → length bs ≤ most_state → within_state f bs ≡ Ok bs
-state_within f bs h = rw (within (length bs) most_state h) refl
+state_within f bs h = let within : nat_le (length bs) most_state ≡ true = grind (arith, nat_tests) in rw within refl
 
-pub state_found : (f : Field) (ps : Parts) (bs : List ℕ) → IsBytes bs → length bs ≤ most_state → found f ps ≡ or_later (bytes_written bs) None → state_or_empty f (object (made ps)) ≡ Ok bs
-state_found f ps bs h small e = ap (λ r. r >>= within_state f) (bytes_found f ps bs h e) ∙ state_within f bs small
+pub state_found : AreReadAgain → (f : Field) (ps : Parts) (bs : List ℕ) → IsBytes bs → length bs ≤ most_state → found f ps ≡ bytes_written bs → state_or_empty f (object (made ps)) ≡ Ok bs
+state_found law f ps bs h small e = ap (λ r. r >>= within_state f) (law.defaults.bytes f ps bs h e) ∙ state_within f bs small
 
--- bytes that have to be there, and are some
-pub some_bytes_found : (f : Field) (ps : Parts) (b : ℕ) (bs : List ℕ) → IsBytes (b ∷ bs) → found f ps ≡ or_later (bytes_written (b ∷ bs)) None → bytes_of f (object (made ps)) ≡ Ok (b ∷ bs)
-some_bytes_found f ps b bs h e = needed_found f ps (string (encode_of standard (b ∷ bs))) (bytes_in f) e refl ∙ string_back f (b ∷ bs) h
+bare_row : {A : Type 0} (ms : Members) (row : Data → Result A FieldFault) → row null ≡ row (object no_members) → row (or_null ms) ≡ row (object ms)
+bare_row no_members row h = h
+bare_row (member k d ms) row h = refl
 
--- ---- numbers
-
-pub number_in_range : (f : Field) (most n : ℕ) → n ≤ most → whole_in f most (number (unsigned n)) ≡ Ok n
-number_in_range f most n h = rw (within n most h) refl
-
-number_there : (f : Field) (most n : ℕ) (b : Bool) → (n == 0) ≡ b → n ≤ most → or_absent 0 (whole_in f most) (there (if b then None else Some (number (unsigned n)))) ≡ Ok n
-number_there f most n true e h = ap Ok (sym (eqb-true n 0 e))
-number_there f most n false e h = number_in_range f most n h
-
-pub number_found : (f : Field) (most : ℕ) (ps : Parts) (n : ℕ) → n ≤ most → found f ps ≡ or_later (number_written n) None → whole_or_zero f most (object (made ps)) ≡ Ok n
-number_found f most ps n h e = absent_found f ps (number_written n) 0 (whole_in f most) e ∙ number_there f most n _ refl h
-
--- a number that has to be there, and is not zero
-pub some_number_found : (f : Field) (most : ℕ) (ps : Parts) (n : ℕ) → n ≤ most → found f ps ≡ Some (number (unsigned n)) → whole_of f most (object (made ps)) ≡ Ok n
-some_number_found f most ps n h e = needed_found f ps (number (unsigned n)) (whole_in f most) e refl ∙ number_in_range f most n h
-
-pub is_written : (n : ℕ) → 0 < n → number_written n ≡ Some (number (unsigned n))
-is_written n h = let some : (n == 0) ≡ false = grind (arith, nat_tests) in rw some refl
-
-digits_model : IsNumeralModel (λ ds. list_all is_ascii_digit ds ≡ true) (digits_value 10)
-digits_model = numerals_by_value _ (search rules)
-
-decimal_numeral : (n : ℕ) → 0 < n → n < 2 ^ 64 → is_numeral (decimal n) ≡ true
-decimal_numeral n some h =
-    let digits : list_all is_ascii_digit (decimal n) ≡ true = digits_decimal digits_model n h in
-    let first : 48 < slice_index (decimal n) 0 = first_decimal n some h in
-    let size : 0 < length (decimal n) = decimal_nonempty n h in
-    tests _ _ _ digits size first
-  where
-    tests : (digits : Bool) (size first : ℕ) → digits ≡ true → 0 < size → 48 < first → (digits && nat_lt 0 size && (size == 1 || not (first == 48))) ≡ true
-    tests digits size first e s f = grind (arith, nat_tests)
-
-decimal_back : (n : ℕ) → 0 < n → n < 2 ^ 64 → numeral (decimal n) ≡ Some n
-decimal_back n some h = rw (decimal_numeral n some h) (ap Some (digits_value-decimal digits_model n h))
-
-long_there : (f : Field) (most n : ℕ) (b : Bool) → (n == 0) ≡ b → n ≤ most → most < 2 ^ 64 → or_absent 0 (whole_in f most) (there (if b then None else Some (string (decimal n)))) ≡ Ok n
-long_there f most n true e h m = ap Ok (sym (eqb-true n 0 e))
-long_there f most n false e h m =
-    let some : 0 < n = grind (arith, nat_tests, e) in
-    ap (λ (o : Option ℕ). or_fault (fault.Number f) (at_most most o)) (decimal_back n some (omega arith)) ∙ rw (within n most h) refl
-
-pub long_found : (f : Field) (most : ℕ) (ps : Parts) (n : ℕ) → n ≤ most → most < 2 ^ 64 → found f ps ≡ or_later (long_written n) None → whole_or_zero f most (object (made ps)) ≡ Ok n
-long_found f most ps n h m e = absent_found f ps (long_written n) 0 (whole_in f most) e ∙ long_there f most n _ refl h m
-
--- ---- durations
-
-duration_there : (f : Field) (d : ℕ) (b : Bool) → (d == 0) ≡ b → duration_of (duration_text d) ≡ Ok d → or_absent 0 (duration_in f) (there (if b then None else Some (string (duration_text d)))) ≡ Ok d
-duration_there f d true e h = ap Ok (sym (eqb-true d 0 e))
-duration_there f d false e h = ap (without_cause (fault.Duration f)) h
-
-pub duration_found : (f : Field) (ps : Parts) (d : ℕ) → duration_of (duration_text d) ≡ Ok d → found f ps ≡ or_later (duration_written d) None → or_absent 0 (duration_in f) (field_of f (object (made ps))) ≡ Ok d
-duration_found f ps d h e = absent_found f ps (duration_written d) 0 (duration_in f) e ∙ duration_there f d _ refl h
-
--- ---- lists and objects
-
-values_there : (f : Field) (ds : List Data) → or_absent (items_of []) (items_in f) (there (values_written ds)) ≡ Ok (items_of ds)
-values_there f [] = refl
-values_there f (d ∷ ds) = refl
-
-pub values_found : (f : Field) (ps : Parts) (ds : List Data) → found f ps ≡ or_later (values_written ds) None → items_or_none f (object (made ps)) ≡ Ok (items_of ds)
-values_found f ps ds e = absent_found f ps (values_written ds) (items_of []) (items_in f) e ∙ values_there f ds
-
-bare_there : (f : Field) (ms : Members) {A : Type 0} (row : Data → Result A FieldFault) → row null ≡ row (object no_members)
-    → (or_absent null (object_in f) (there (unless_bare ms)) >>= row) ≡ row (object ms)
-bare_there f no_members row h = h
-bare_there f (member k d ms) row h = refl
-
--- an object that is left out where it is bare has the same rows
-pub bare_found : (f : Field) (ps : Parts) (ms : Members) {A : Type 0} (row : Data → Result A FieldFault) → row null ≡ row (object no_members)
-    → found f ps ≡ or_later (unless_bare ms) None → (object_or_null f (object (made ps)) >>= row) ≡ row (object ms)
-bare_found f ps ms row h e = ap (λ r. r >>= row) (absent_found f ps (unless_bare ms) null (object_in f) e) ∙ bare_there f ms row h
+pub bare_found : AreReadAgain → (f : Field) (ps : Parts) (ms : Members) {A : Type 0} (row : Data → Result A FieldFault) → row null ≡ row (object no_members)
+    → found f ps ≡ unless_bare ms → (object_or_null f (object (made ps)) >>= row) ≡ row (object ms)
+bare_found law f ps ms row h e = ap (λ r. r >>= row) (law.defaults.objects f ps ms e) ∙ bare_row ms row h

@@ -1,38 +1,18 @@
 -- The first fault of a JSON value that is no message: the faults of its rows, in the order in which they are looked at.
-use Rattle.std.specs.Prelude.{ℕ, ◌+◌, nat_le, if◌then◌else◌, List, [], ◌∷◌, Option, Some, None, Result, Ok, Err}
-use Rattle.serde_json.specs.Data.{Data, Items, no_items, item}
+use Rattle.std.specs.Prelude.{nat_le, if◌then◌else◌, List, [], ◌∷◌, Option, Some, None, Result, Ok, Err}
+use Rattle.serde_json.specs.Data.{Data, Items}
 use Rattle.sb_json.specs.Values.{◌>>=◌}
 use Rattle.sb_json.specs.Faults.{fault_in_item}
 use Rattle.sb_json.specs.declared.faults.FieldFault.{FieldFault}
 use Rattle.sb_json.specs.declared.faults.MessageFault.{MessageFault}
 use Rattle.sb_json.specs.declared.faults.MessageFault.TheVariants.{NotJson, TooManyItems}
+use Rattle.sb_members.specs.Rows.{threat_row, platform_row, entry_row}
+use Rattle.sb_members.specs.Lists.{fault_of, first, fault_of_list, in_item, first_from, item_count}
 use Rattle.update_messages.specs.declared.sets.Compression.{Compression}
 use Rattle.update_messages.specs.declared.sets.Compression.TheVariants as compression
 use Rattle.update_messages.specs.Messages.{most_items}
-use Rattle.update_messages.specs.Rows.{threat_row, platform_row, entry_row}
 use Rattle.update_messages.specs.RequestRows as request
 use Rattle.update_messages.specs.ResponseRows as response
-
--- the fault of a row, where it has one
-abbrev pub fault_of : {A : Type 0} → Result A FieldFault → Option FieldFault
-fault_of (Ok a) = None
-fault_of (Err fault) = Some fault
-
--- the first that is there
-abbrev pub first : {F : Type 0} → List (Option F) → Option F
-first [] = None
-first (None ∷ more) = first more
-first (Some fault ∷ more) = Some fault
-
--- the first fault of the items
-abbrev pub first_of_items : (Data → Option FieldFault) → Items → Option FieldFault
-first_of_items fault no_items = None
-first_of_items fault (item d ds) = first (fault d ∷ first_of_items fault ds ∷ [])
-
--- the fault of a list, or the first of its items
-abbrev pub fault_of_list : (Data → Option FieldFault) → Result Items FieldFault → Option FieldFault
-fault_of_list fault (Ok items) = first_of_items fault items
-fault_of_list fault (Err f) = Some f
 
 -- ---- the response
 
@@ -119,21 +99,6 @@ abbrev pub faults_of_client : Result Data FieldFault → List (Option FieldFault
 faults_of_client holder = fault_of (holder >>= request.client_id_row) ∷ fault_of (holder >>= request.client_version_row) ∷ []
 
 -- ---- the messages
-
--- A fault in the item with a number. Items count from 1, and 0 is outside them.
-abbrev pub in_item : ℕ → Option FieldFault → Option MessageFault
-in_item number None = None
-in_item number (Some fault) = Some (fault_in_item fault number)
-
--- the first fault of the items from the one with a number on
-abbrev pub first_from : (Data → Option FieldFault) → ℕ → Items → Option MessageFault
-first_from fault number no_items = None
-first_from fault number (item d ds) = first (in_item number (fault d) ∷ first_from fault (number + 1) ds ∷ [])
-
--- how many items there are
-abbrev pub item_count : Items → ℕ
-item_count no_items = 0
-item_count (item d ds) = item_count ds + 1
 
 -- the items, where there are no more than a request may have
 abbrev pub fault_of_requests : Result Items FieldFault → Option MessageFault

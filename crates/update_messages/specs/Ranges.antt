@@ -1,8 +1,7 @@
 -- What every message of the types keeps: bytes below 256, texts that their UTF-8 spells, and the limits of each part.
-use Rattle.std.specs.Prelude.{◌≡◌, ℕ, ◌≤◌, List, All, encode_utf8_all}
-use Rattle.std.specs.Str.{chars}
+use Rattle.std.specs.Prelude.{All}
 use Rattle.base64.specs.GeneralPurpose.{IsBytes}
-use Rattle.sb_model.specs.Time.{most_nanos}
+use Rattle.sb_members.specs.Ranges.{IsText, IsDuration}
 use Rattle.update_messages.specs.declared.client.ClientInfo.{ClientInfo}
 use Rattle.update_messages.specs.declared.sets.Additions.{Additions}
 use Rattle.update_messages.specs.declared.sets.Additions.TheVariants as added
@@ -10,10 +9,6 @@ use Rattle.update_messages.specs.declared.sets.Removals.{Removals}
 use Rattle.update_messages.specs.declared.sets.Removals.TheVariants as removed
 use Rattle.update_messages.specs.declared.response.FetchResponse.{FetchResponse}
 use Rattle.update_messages.specs.Messages.{AskedList, IsAskedList, Request, IsRequest, UpdatedList, IsUpdatedList}
-
--- characters that their UTF-8 spells
-abbrev pub IsText : List ℕ → Type 0
-IsText text = chars (encode_utf8_all text) ≡ text
 
 -- ---- the request
 
@@ -51,4 +46,4 @@ pub record IsUpdateInRange (update : UpdatedList) : Type 0 where
 
 pub record IsResponseInRange (message : FetchResponse) : Type 0 where
   pub items : All IsUpdateInRange message.items
-  pub wait : message.wait ≤ most_nanos
+  pub wait : IsDuration message.wait

@@ -1,8 +1,10 @@
 -- Which message a JSON value is: each field of the message is what its row is read as.
-use Rattle.std.specs.Prelude.{◌≡◌, ℕ, ◌≤◌, Bool, List, [], ◌∷◌, length, Some, Result, Ok, Err, codes}
-use Rattle.serde_json.specs.Data.{Data, Items, no_items, item}
+use Rattle.std.specs.Prelude.{◌≡◌, ℕ, ◌≤◌, Bool, List, length, Some, Result, Ok, codes}
+use Rattle.serde_json.specs.Data.{Data, Items}
 use Rattle.sb_json.specs.Values.{◌>>=◌, value_of}
 use Rattle.sb_json.specs.declared.faults.FieldFault.{FieldFault}
+use Rattle.sb_members.specs.Rows.{threat_row, platform_row, entry_row}
+use Rattle.sb_members.specs.Lists.{ReadsList}
 use Rattle.rice_coding.specs.declared.record.RiceRecord.{RiceRecord}
 use Rattle.update_messages.specs.declared.sets.Compression.TheVariants as compression
 use Rattle.update_messages.specs.declared.sets.Additions.{Additions}
@@ -12,21 +14,8 @@ use Rattle.update_messages.specs.declared.sets.Removals.TheVariants as removed
 use Rattle.update_messages.specs.declared.response.FetchResponse.{FetchResponse}
 use Rattle.update_messages.specs.declared.client.ClientInfo.{ClientInfo}
 use Rattle.update_messages.specs.Messages.{AskedList, Request, UpdatedList, most_items}
-use Rattle.update_messages.specs.Rows.{threat_row, platform_row, entry_row}
 use Rattle.update_messages.specs.RequestRows as request
 use Rattle.update_messages.specs.ResponseRows as response
-
--- the items of a list and what they are, in order
-abbrev pub EachReads : {A : Type 0} → (Data → A → Type 0) → Items → List A → Type 0
-EachReads Reads no_items [] = Unit {0}
-EachReads Reads no_items (a ∷ rest) = ⊥
-EachReads Reads (item d ds) [] = ⊥
-EachReads Reads (item d ds) (a ∷ rest) = Reads d a × EachReads Reads ds rest
-
--- a list that is read, and its items
-abbrev pub ReadsList : {A : Type 0} → (Data → A → Type 0) → Result Items FieldFault → List A → Type 0
-ReadsList Reads (Ok items) values = EachReads Reads items values
-ReadsList Reads (Err fault) values = ⊥
 
 -- ---- the request
 

@@ -1,14 +1,14 @@
 -- The rows of the fetch request (`threatListUpdates.fetch` of the Safe Browsing Update API, version 4), in the order in which they are looked at.
-use Rattle.std.specs.Prelude.{ℕ, Bool, List, [], Result, Ok}
-use Rattle.std.specs.Str.{bytes_eq, chars}
+use Rattle.std.specs.Prelude.{ℕ, Bool, List, Result}
+use Rattle.std.specs.Str.{bytes_eq}
 use Rattle.std.specs.List.{list_any}
 use Rattle.serde_json.specs.Data.{Data, Items}
-use Rattle.sb_json.specs.Values.{◌>>=◌, field_of, string_in, object_in}
-use Rattle.sb_json.specs.declared.fields.Field.{Field}
+use Rattle.sb_json.specs.Values.{string_in, object_in}
 use Rattle.sb_json.specs.declared.fields.Field.TheVariants as field
 use Rattle.sb_json.specs.declared.faults.FieldFault.{FieldFault}
+use Rattle.sb_members.specs.Rows.{object_or_null, items_or_none, whole_or_zero, text_or_empty}
 use Rattle.update_messages.specs.Messages.{most_i32}
-use Rattle.update_messages.specs.Rows.{or_absent, object_or_null, items_or_none, whole_or_zero, state_or_empty}
+use Rattle.update_messages.specs.Rows.{state_or_empty}
 
 -- the message itself: an object
 abbrev pub root_row : Data → Result Data FieldFault
@@ -17,10 +17,6 @@ root_row message = object_in field.Root message
 -- `client`: an object, without fields where it is absent
 abbrev pub client_row : Data → Result Data FieldFault
 client_row message = object_or_null field.Client message
-
--- a text, empty where it is absent
-abbrev pub text_or_empty : Field → Data → Result (List ℕ) FieldFault
-text_or_empty field holder = or_absent [] (λ value. string_in field value >>= λ s. Ok (chars s)) (field_of field holder)
 
 -- `clientId` of `client`
 abbrev pub client_id_row : Data → Result (List ℕ) FieldFault

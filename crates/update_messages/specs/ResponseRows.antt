@@ -2,14 +2,15 @@
 use Rattle.std.specs.Prelude.{ℕ, ◌==◌, ◌%◌, Bool, true, false, nat_le, if◌then◌else◌, List, length, Option, Some, None, Result, Ok, Err, codes}
 use Rattle.std.specs.Str.{bytes_eq}
 use Rattle.serde_json.specs.Data.{Data, Items}
-use Rattle.sb_json.specs.Values.{◌>>=◌, field_of, or_fault, whole_in, whole_of, string_of, object_in, object_of, bytes_of, duration_in}
+use Rattle.sb_json.specs.Values.{◌>>=◌, or_fault, whole_in, whole_of, string_of, object_in, object_of, bytes_of}
 use Rattle.sb_json.specs.declared.fields.Field.TheVariants as field
 use Rattle.sb_json.specs.declared.faults.FieldFault.{FieldFault}
 use Rattle.sb_json.specs.declared.faults.FieldFault.TheVariants.{Name, Number, Size}
+use Rattle.sb_members.specs.Rows.{items_or_none, bytes_or_none, whole_or_zero, duration_or_zero}
 use Rattle.update_messages.specs.declared.sets.Compression.{Compression}
 use Rattle.update_messages.specs.declared.sets.Compression.TheVariants as compression
 use Rattle.update_messages.specs.Messages.{most_i32, most_i64}
-use Rattle.update_messages.specs.Rows.{or_absent, items_or_none, bytes_or_none, whole_or_zero, state_or_empty}
+use Rattle.update_messages.specs.Rows.{state_or_empty}
 
 -- `listUpdateResponses`: the items, none where it is absent
 abbrev pub updates_row : Data → Result Items FieldFault
@@ -138,4 +139,4 @@ digest_row update = checksum_row update >>= sha256_row
 
 -- `minimumWaitDuration`, after the items: a duration, zero where it is absent
 abbrev pub wait_row : Data → Result ℕ FieldFault
-wait_row message = or_absent 0 (duration_in field.MinimumWaitDuration) (field_of field.MinimumWaitDuration message)
+wait_row message = duration_or_zero field.MinimumWaitDuration message

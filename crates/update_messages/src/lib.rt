@@ -22,7 +22,6 @@ pub use writing_response::write_response;
 
 mod client;
 mod laws;
-mod members;
 mod reading_request;
 mod reading_response;
 mod reading_sets;

@@ -4,16 +4,18 @@ ghost use Rattle.serde_json.specs.View.{view, items_view};
 ghost use Rattle.sb_json.specs.Values.{value_of};
 ghost use Rattle.update_messages.specs.Messages.{Request, most_items};
 ghost use Rattle.update_messages.specs.RequestRows as row;
-ghost use Rattle.update_messages.specs.Reading.{EachReads, TakesCompressions, ReadsAskedList, ReadsClient, ReadsRequest, IsTextOf};
-ghost use Rattle.update_messages.specs.Faults.{first, first_from, fault_of_list, fault_of_name, fault_of_asked, faults_of_client, fault_of_requests, fault_of_request, fault_of_text};
+ghost use Rattle.sb_members.specs.Lists.{EachReads, first, first_from, fault_of_list};
+ghost use Rattle.update_messages.specs.Reading.{TakesCompressions, ReadsAskedList, ReadsClient, ReadsRequest, IsTextOf};
+ghost use Rattle.update_messages.specs.Faults.{fault_of_name, fault_of_asked, faults_of_client, fault_of_requests, fault_of_request, fault_of_text};
 
-use crate::rows::{
-    check_object, entry, i32_or_zero, items_or_none, object_or_null, platform, state_or_empty,
-    threat,
-};
+use crate::rows::{i32_or_zero, state_or_empty};
 use crate::{ClientInfo, FetchRequest, ListRequest};
-use sb_json::{Field, FieldFault, MessageFault, field, read_json, string_item};
-use sb_model::{ListName, Row, Text};
+use sb_json::{Field, FieldFault, MessageFault, read_json, string_item};
+use sb_members::{
+    ReadItem, check_object, entry_type, items_or_none, object_or_null, platform_type,
+    read_numbered_items, text_or_empty, threat_type,
+};
+use sb_model::{ListName, Row};
 use serde_json::Value;
 use std::alloc::Global;
 
@@ -52,9 +54,9 @@ fn asked_list(alloc: Global, item: &Value) -> Result<ListRequest, FieldFault>
         ⊎ (fault_of_asked (view item.now) ≡ Some fault)) }
 {
     check_object(item, Field::ListUpdateRequests)?;
-    let threat = threat(item)?;
-    let platform = platform(item)?;
-    let entry = entry(item)?;
+    let threat = threat_type(item)?;
+    let platform = platform_type(item)?;
+    let entry = entry_type(item)?;
     let state = state_or_empty(alloc, item, Field::State)?;
     let absent = Value::Null;
     let constraints = object_or_null(item, Field::Constraints, &absent)?;
@@ -76,25 +78,24 @@ fn asked_list(alloc: Global, item: &Value) -> Result<ListRequest, FieldFault>
     })
 }
 
-/// The lists that the items ask for, which count from 1.
-fn asked_lists(alloc: Global, items: &[Value]) -> Result<Row<ListRequest>, MessageFault>
-    ensures ok { IfOk result (λ lists. EachReads ReadsAskedList (items_view items.now) lists) }
-    ensures count { IfOk result (λ lists. length lists ≡ length items.now) }
-    ensures clean { IfOk result (λ _. first_from fault_of_asked 1 (items_view items.now) ≡ None) }
-    ensures err { IfErr result (λ fault. (fault ≡ MessageFault.OutOfMemory)
-        ⊎ (first_from fault_of_asked 1 (items_view items.now) ≡ Some fault)) }
-{
-    let mut lists = Row::with_capacity(alloc, items.len())?;
-    for (i, item) in items.iter().enumerate() {
-        match asked_list(alloc, item) {
-            Ok(list) => lists.push(list)?,
-            Err(fault) => return Err(MessageFault::of(fault, i as u64 + 1)),
-        }
+/// The lists that the items ask for.
+struct AskedLists;
+
+impl ReadItem for AskedLists {
+    type Found = ListRequest;
+
+    ghost Reads = { ReadsAskedList };
+
+    ghost Keeps = { λ _. Unit {0} };
+
+    ghost fault = { fault_of_asked };
+
+    fn read_item(alloc: Global, item: &Value) -> Result<ListRequest, FieldFault> {
+        asked_list(alloc, item)
     }
-    Ok(lists)
 }
 
-/// The same, where there are no more items than a request may have.
+/// The lists that the items ask for, where there are no more than a request may have.
 #[tactic(auto, using(crate::proofs::Lists::few_clean, crate::proofs::Lists::too_many))]
 fn few_asked_lists(alloc: Global, items: &[Value]) -> Result<Row<ListRequest>, MessageFault>
     ensures ok { IfOk result (λ lists. EachReads ReadsAskedList (items_view items.now) lists) }
@@ -106,19 +107,7 @@ fn few_asked_lists(alloc: Global, items: &[Value]) -> Result<Row<ListRequest>, M
     if items.len() > MOST_ITEMS {
         return Err(MessageFault::TooManyItems(items.len() as u64));
     }
-    asked_lists(alloc, items)
-}
-
-/// A text, empty where the field is absent.
-fn text_or_empty(alloc: Global, holder: &Value, name: Field) -> Result<Text, FieldFault>
-    ensures ok { IfOk result (λ text. row.text_or_empty name (view holder.now) ≡ Ok text) }
-    ensures err { IfErr result (λ fault. (fault ≡ FieldFault.OutOfMemory)
-        ⊎ (row.text_or_empty name (view holder.now) ≡ Err fault)) }
-{
-    match field(holder, name) {
-        Some(value) => Ok(Text::from_str(alloc, string_item(value, name)?)?),
-        None => Ok(Text::new(alloc)),
-    }
+    read_numbered_items::<AskedLists>(alloc, items)
 }
 
 /// Who asks.

@@ -2,17 +2,20 @@ ghost use Rattle.std.specs.Prelude.{◌≡◌, ◌⊎◌, Ok, Err, Some, None, I
 ghost use Rattle.serde_json.specs.View.{view, items_view};
 ghost use Rattle.sb_json.specs.Values.{value_of};
 ghost use Rattle.update_messages.specs.ResponseRows as row;
-ghost use Rattle.update_messages.specs.Reading.{EachReads, ReadsUpdatedList, ReadsResponse, IsTextOf};
-ghost use Rattle.update_messages.specs.Faults.{first_from, fault_of_update, fault_of_response, fault_of_text};
+ghost use Rattle.sb_members.specs.Lists.{EachReads, first_from};
+ghost use Rattle.update_messages.specs.Reading.{ReadsUpdatedList, ReadsResponse, IsTextOf};
+ghost use Rattle.update_messages.specs.Faults.{fault_of_update, fault_of_response, fault_of_text};
 ghost use Rattle.update_messages.specs.declared.response.FetchResponse.{FetchResponse};
 
-use crate::reading_sets::{additions, removals};
-use crate::rows::{check_object, entry, items_or_none, platform, state_or_empty, threat};
+use crate::reading_sets::{AdditionSets, RemovalSets};
+use crate::rows::state_or_empty;
 use crate::{FetchResponse, ListUpdate};
-use sb_json::{
-    Field, FieldFault, MessageFault, bytes, duration_item, field, object, read_json, string,
+use sb_json::{Field, FieldFault, MessageFault, bytes, object, read_json, string};
+use sb_members::{
+    ReadItem, check_object, duration_or_zero, entry_type, items_or_none, platform_type, read_list,
+    read_numbered_items, threat_type,
 };
-use sb_model::{Duration, ListName, Row};
+use sb_model::ListName;
 use serde_json::Value;
 use std::alloc::Global;
 
@@ -61,12 +64,12 @@ fn list_update(alloc: Global, item: &Value) -> Result<ListUpdate, FieldFault>
         ⊎ (fault_of_update (view item.now) ≡ Some fault)) }
 {
     check_object(item, Field::ListUpdateResponses)?;
-    let threat = threat(item)?;
-    let platform = platform(item)?;
-    let entry = entry(item)?;
+    let threat = threat_type(item)?;
+    let platform = platform_type(item)?;
+    let entry = entry_type(item)?;
     let full = is_full(item)?;
-    let additions = additions(alloc, item)?;
-    let removals = removals(alloc, item)?;
+    let additions = read_list::<AdditionSets>(alloc, item, Field::Additions)?;
+    let removals = read_list::<RemovalSets>(alloc, item, Field::Removals)?;
     let new_state = state_or_empty(alloc, item, Field::NewClientState)?;
     let base = state_or_empty(alloc, item, Field::BaseState)?;
     let checksum = checksum(alloc, item)?;
@@ -86,30 +89,20 @@ fn list_update(alloc: Global, item: &Value) -> Result<ListUpdate, FieldFault>
     })
 }
 
-/// The updates that the items are, which count from 1.
-fn list_updates(alloc: Global, items: &[Value]) -> Result<Row<ListUpdate>, MessageFault>
-    ensures ok { IfOk result (λ updates. EachReads ReadsUpdatedList (items_view items.now) updates) }
-    ensures clean { IfOk result (λ _. first_from fault_of_update 1 (items_view items.now) ≡ None) }
-    ensures err { IfErr result (λ fault. (fault ≡ MessageFault.OutOfMemory)
-        ⊎ (first_from fault_of_update 1 (items_view items.now) ≡ Some fault)) }
-{
-    let mut updates = Row::with_capacity(alloc, items.len())?;
-    for (i, item) in items.iter().enumerate() {
-        match list_update(alloc, item) {
-            Ok(update) => updates.push(update)?,
-            Err(fault) => return Err(MessageFault::of(fault, i as u64 + 1)),
-        }
-    }
-    Ok(updates)
-}
+/// The updates that the items are.
+struct Updates;
 
-/// How long a response bids to wait.
-fn wait(message: &Value) -> Result<Duration, FieldFault>
-    ensures { result ≡ row.wait_row (view message.now) }
-{
-    match field(message, Field::MinimumWaitDuration) {
-        Some(value) => duration_item(value, Field::MinimumWaitDuration),
-        None => Ok(Duration::ZERO),
+impl ReadItem for Updates {
+    type Found = ListUpdate;
+
+    ghost Reads = { ReadsUpdatedList };
+
+    ghost Keeps = { λ _. Unit {0} };
+
+    ghost fault = { fault_of_update };
+
+    fn read_item(alloc: Global, item: &Value) -> Result<ListUpdate, FieldFault> {
+        list_update(alloc, item)
     }
 }
 
@@ -123,10 +116,10 @@ fn response_of(alloc: Global, value: &Value) -> Result<FetchResponse, MessageFau
         return Err(MessageFault::of(fault, 0));
     }
     let items = match items_or_none(value, Field::ListUpdateResponses) {
-        Ok(items) => list_updates(alloc, items)?,
+        Ok(items) => read_numbered_items::<Updates>(alloc, items)?,
         Err(fault) => return Err(MessageFault::of(fault, 0)),
     };
-    match wait(value) {
+    match duration_or_zero(value, Field::MinimumWaitDuration) {
         Ok(wait) => Ok(FetchResponse { items, wait }),
         Err(fault) => Err(MessageFault::of(fault, 0)),
     }

@@ -3,14 +3,16 @@ ghost use Rattle.serde_json.specs.View.{view, items_view};
 ghost use Rattle.sb_json.specs.Values.{object_of};
 ghost use Rattle.update_messages.specs.Messages.{IsAddition, IsRemoval, IsRiceSet, IsRawSet, most_i32};
 ghost use Rattle.update_messages.specs.ResponseRows as row;
-ghost use Rattle.update_messages.specs.Reading.{ReadsAddition, ReadsRemoval, ReadsIndex, ReadsRaw, ReadsRice, ReadsList};
-ghost use Rattle.update_messages.specs.Faults.{first, faults_of_rice, faults_of_raw_hashes, fault_of_addition, fault_of_index, fault_of_removal, fault_of_list};
+ghost use Rattle.sb_members.specs.Lists.{ReadsList, first, fault_of_list};
+ghost use Rattle.update_messages.specs.Reading.{ReadsAddition, ReadsRemoval, ReadsIndex, ReadsRaw, ReadsRice};
+ghost use Rattle.update_messages.specs.Faults.{faults_of_rice, faults_of_raw_hashes, fault_of_addition, fault_of_index, fault_of_removal};
 
-use crate::rows::{bytes_or_none, check_object, i32_or_zero, items_or_none, whole_or_zero};
+use crate::rows::i32_or_zero;
 use crate::{Additions, Compression, Removals};
 use rice_coding::RiceRecord;
 use sb_json::{Field, FieldFault, object, string, whole, whole_item};
-use sb_model::{Bytes, Row};
+use sb_members::{ReadItem, bytes_or_none, check_object, read_list, whole_or_zero};
+use sb_model::Bytes;
 use serde_json::Value;
 use std::alloc::Global;
 
@@ -119,19 +121,20 @@ fn addition(alloc: Global, set: &Value) -> Result<Additions, FieldFault>
 }
 
 /// The sets of additions of an update.
-pub(crate) fn additions(alloc: Global, update: &Value) -> Result<Row<Additions>, FieldFault>
-    ensures ok { IfOk result (λ sets. ReadsList ReadsAddition (row.additions_row (view update.now)) sets) }
-    ensures range { IfOk result (λ sets. All IsAddition sets) }
-    ensures clean { IfOk result (λ _. fault_of_list fault_of_addition (row.additions_row (view update.now)) ≡ None) }
-    ensures err { IfErr result (λ fault. (fault ≡ FieldFault.OutOfMemory)
-        ⊎ (fault_of_list fault_of_addition (row.additions_row (view update.now)) ≡ Some fault)) }
-{
-    let items = items_or_none(update, Field::Additions)?;
-    let mut sets = Row::with_capacity(alloc, items.len())?;
-    for item in items {
-        sets.push(addition(alloc, item)?)?;
+pub(crate) struct AdditionSets;
+
+impl ReadItem for AdditionSets {
+    type Found = Additions;
+
+    ghost Reads = { ReadsAddition };
+
+    ghost Keeps = { IsAddition };
+
+    ghost fault = { fault_of_addition };
+
+    fn read_item(alloc: Global, item: &Value) -> Result<Additions, FieldFault> {
+        addition(alloc, item)
     }
-    Ok(sets)
 }
 
 /// One place of a set of removals.
@@ -143,19 +146,20 @@ fn index(item: &Value) -> Result<u32, FieldFault>
 }
 
 /// The places of a set of removals that is not compressed.
-fn indices(alloc: Global, raw: &Value) -> Result<Row<u32>, FieldFault>
-    ensures ok { IfOk result (λ places. ReadsList ReadsIndex (row.indices_row (view raw.now)) places) }
-    ensures range { IfOk result (λ places. All (λ place. place ≤ most_i32) places) }
-    ensures clean { IfOk result (λ _. fault_of_list fault_of_index (row.indices_row (view raw.now)) ≡ None) }
-    ensures err { IfErr result (λ fault. (fault ≡ FieldFault.OutOfMemory)
-        ⊎ (fault_of_list fault_of_index (row.indices_row (view raw.now)) ≡ Some fault)) }
-{
-    let items = items_or_none(raw, Field::Indices)?;
-    let mut places = Row::with_capacity(alloc, items.len())?;
-    for item in items {
-        places.push(index(item)?)?;
+struct Places;
+
+impl ReadItem for Places {
+    type Found = u32;
+
+    ghost Reads = { ReadsIndex };
+
+    ghost Keeps = { λ place. place ≤ most_i32 };
+
+    ghost fault = { fault_of_index };
+
+    fn read_item(_alloc: Global, item: &Value) -> Result<u32, FieldFault> {
+        index(item)
     }
-    Ok(places)
 }
 
 /// A set of removals.
@@ -170,7 +174,7 @@ fn removal(alloc: Global, set: &Value) -> Result<Removals, FieldFault>
     match compression(set)? {
         Compression::Raw => {
             let raw = object(set, Field::RawIndices)?;
-            let places = indices(alloc, raw)?;
+            let places = read_list::<Places>(alloc, raw, Field::Indices)?;
             Ok(Removals::Raw(places))
         }
         Compression::Rice => {
@@ -181,17 +185,18 @@ fn removal(alloc: Global, set: &Value) -> Result<Removals, FieldFault>
 }
 
 /// The sets of removals of an update.
-pub(crate) fn removals(alloc: Global, update: &Value) -> Result<Row<Removals>, FieldFault>
-    ensures ok { IfOk result (λ sets. ReadsList ReadsRemoval (row.removals_row (view update.now)) sets) }
-    ensures range { IfOk result (λ sets. All IsRemoval sets) }
-    ensures clean { IfOk result (λ _. fault_of_list fault_of_removal (row.removals_row (view update.now)) ≡ None) }
-    ensures err { IfErr result (λ fault. (fault ≡ FieldFault.OutOfMemory)
-        ⊎ (fault_of_list fault_of_removal (row.removals_row (view update.now)) ≡ Some fault)) }
-{
-    let items = items_or_none(update, Field::Removals)?;
-    let mut sets = Row::with_capacity(alloc, items.len())?;
-    for item in items {
-        sets.push(removal(alloc, item)?)?;
+pub(crate) struct RemovalSets;
+
+impl ReadItem for RemovalSets {
+    type Found = Removals;
+
+    ghost Reads = { ReadsRemoval };
+
+    ghost Keeps = { IsRemoval };
+
+    ghost fault = { fault_of_removal };
+
+    fn read_item(alloc: Global, item: &Value) -> Result<Removals, FieldFault> {
+        removal(alloc, item)
     }
-    Ok(sets)
 }

@@ -3,13 +3,15 @@ ghost use Rattle.serde_json.specs.View.{view, members_view};
 ghost use Rattle.update_messages.specs.Messages.{Request};
 ghost use Rattle.update_messages.specs.Ranges.{IsClientInRange, IsAskedInRange, IsRequestInRange};
 ghost use Rattle.update_messages.specs.Reading.{ReadsRequest, IsTextOf};
+ghost use Rattle.sb_members.specs.Writing.{values_written};
 ghost use Rattle.update_messages.specs.Writing as spec;
 
-use crate::members::{
-    bytes_value, list_value, number_value, object_value, put_member, string_value, text_value,
-};
 use crate::{ClientInfo, FetchRequest, ListRequest};
 use sb_json::Field;
+use sb_members::{
+    bytes_value, list_value, members_are_as_their_values, number_value, object_value, put_member,
+    string_value, text_value, written_members_read_again,
+};
 use sb_model::{Bytes, OutOfMemory};
 use serde_json::{Map, Value};
 use std::alloc::Global;
@@ -42,7 +44,7 @@ fn push_word(
 }
 
 fn compression_values(alloc: Global, raw: bool, rice: bool) -> Result<Vec<Value>, OutOfMemory>
-    ensures { IfOk result (λ words. spec.values_written (map view words.items) ≡ spec.compressions_written raw rice) }
+    ensures { IfOk result (λ words. values_written (map view words.items) ≡ spec.compressions_written raw rice) }
 {
     let mut words = Vec::new(alloc);
     push_word(alloc, &mut words, raw, "RAW")?;
@@ -86,10 +88,10 @@ fn asked_value(alloc: Global, asked: &ListRequest) -> Result<Value, OutOfMemory>
     let state = bytes_value(alloc, asked.state.as_slice())?;
     let platform = string_value(alloc, asked.name.platform.word())?;
     let constraints = constraint_members(alloc, asked)?;
-    put_member(alloc, &mut members, Field::ThreatType, threat)?;
-    put_member(alloc, &mut members, Field::ThreatEntryType, entry)?;
+    put_member(alloc, &mut members, Field::ThreatType, Some(threat))?;
+    put_member(alloc, &mut members, Field::ThreatEntryType, Some(entry))?;
     put_member(alloc, &mut members, Field::State, state)?;
-    put_member(alloc, &mut members, Field::PlatformType, platform)?;
+    put_member(alloc, &mut members, Field::PlatformType, Some(platform))?;
     put_member(
         alloc,
         &mut members,
@@ -130,12 +132,13 @@ fn request_value(alloc: Global, message: &FetchRequest) -> Result<Value, OutOfMe
 /// Writes a fetch request in its one spelling: compact JSON, whose keys stand in byte order, and in which empty
 /// texts, bytes and lists, zero numbers, and a client or constraints without fields are left out.
 /// The text reads as the message, and as no other.
-#[tactic(auto, using(crate::proofs::Floats::request_has_none))]
 pub fn write_request(alloc: Global, message: &FetchRequest) -> Result<Bytes, OutOfMemory>
     ensures spelling { IfOk result (λ text. text ≡ spec.spelling_of_request message.now) }
     ensures read_again { IfOk result (λ text. IsTextOf ReadsRequest text message.now) }
     ensures no_other { IfOk result (λ text. (other : Request) → IsTextOf ReadsRequest text other → other ≡ message.now) }
 {
+    written_members_read_again();
+    members_are_as_their_values();
     let value = request_value(alloc, message)?;
     let text = value.to_string(alloc)?;
     Ok(Bytes::from_vec(text.into_bytes()))

@@ -4,14 +4,16 @@ ghost use Rattle.serde_json.specs.View.{view, members_view};
 ghost use Rattle.base64.specs.GeneralPurpose.{IsBytes};
 ghost use Rattle.update_messages.specs.Ranges.{IsAdditionOfBytes, IsRemovalOfBytes, IsUpdateInRange, IsResponseInRange};
 ghost use Rattle.update_messages.specs.Reading.{ReadsResponse, IsTextOf};
+ghost use Rattle.sb_members.specs.Writing.{list_written};
 ghost use Rattle.update_messages.specs.Writing as spec;
 
-use crate::members::{
-    bytes_value, duration_value, list_value, long_value, number_value, put_member, string_value,
-};
 use crate::{Additions, FetchResponse, ListUpdate, Removals};
 use rice_coding::RiceRecord;
 use sb_json::Field;
+use sb_members::{
+    bytes_value, duration_value, list_value, long_value, members_are_as_their_values, number_value,
+    put_member, string_value, written_members_read_again,
+};
 use sb_model::{Bytes, OutOfMemory};
 use serde_json::{Map, Value};
 use std::alloc::Global;
@@ -81,7 +83,12 @@ fn set_value(alloc: Global, word: &str, name: Field, value: Value) -> Result<Val
     let mut members = Map::new(alloc);
     let compression = string_value(alloc, word)?;
     put_member(alloc, &mut members, name, Some(value))?;
-    put_member(alloc, &mut members, Field::CompressionType, compression)?;
+    put_member(
+        alloc,
+        &mut members,
+        Field::CompressionType,
+        Some(compression),
+    )?;
     Ok(Value::Object(members))
 }
 
@@ -164,7 +171,7 @@ fn later_members(
     update: &ListUpdate,
     removals: Option<Value>,
 ) -> Result<Map<String, Value>, OutOfMemory>
-    requires { option_map view removals ≡ spec.list_written spec.removal_written update.now.removals }
+    requires { option_map view removals ≡ list_written spec.removal_written update.now.removals }
     ensures { IfOk result (λ members. members_view members.entries ≡ spec.later_members update.now) }
 {
     let mut members = Map::new(alloc);
@@ -172,11 +179,11 @@ fn later_members(
     let entry = string_value(alloc, update.name.entry.word())?;
     let full = string_value(alloc, response_type_word(update.full))?;
     let platform = string_value(alloc, update.name.platform.word())?;
-    put_member(alloc, &mut members, Field::ThreatType, threat)?;
-    put_member(alloc, &mut members, Field::ThreatEntryType, entry)?;
-    put_member(alloc, &mut members, Field::ResponseType, full)?;
+    put_member(alloc, &mut members, Field::ThreatType, Some(threat))?;
+    put_member(alloc, &mut members, Field::ThreatEntryType, Some(entry))?;
+    put_member(alloc, &mut members, Field::ResponseType, Some(full))?;
     put_member(alloc, &mut members, Field::Removals, removals)?;
-    put_member(alloc, &mut members, Field::PlatformType, platform)?;
+    put_member(alloc, &mut members, Field::PlatformType, Some(platform))?;
     Ok(members)
 }
 
@@ -228,12 +235,13 @@ fn response_value(alloc: Global, message: &FetchResponse) -> Result<Value, OutOf
 /// Writes the answer to a fetch request in its one spelling: compact JSON, whose keys stand in byte order, and
 /// in which empty bytes and lists, zero numbers and a zero duration are left out. The text reads as the message,
 /// and as no other.
-#[tactic(auto, using(crate::proofs::Floats::response_has_none))]
 pub fn write_response(alloc: Global, message: &FetchResponse) -> Result<Bytes, OutOfMemory>
     ensures spelling { IfOk result (λ text. text ≡ spec.spelling_of_response message.now) }
     ensures read_again { IfOk result (λ text. IsTextOf ReadsResponse text message.now) }
     ensures no_other { IfOk result (λ text. (other : FetchResponse) → IsTextOf ReadsResponse text other → other ≡ message.now) }
 {
+    written_members_read_again();
+    members_are_as_their_values();
     let value = response_value(alloc, message)?;
     let text = value.to_string(alloc)?;
     Ok(Bytes::from_vec(text.into_bytes()))

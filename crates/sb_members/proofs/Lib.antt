@@ -1,0 +1,7 @@
+pub mod DurationBytes
+pub mod Floats
+pub mod FoundMembers
+pub mod ReadUpTo
+pub mod Written
+pub mod WrittenNames
+pub mod WrittenRows

@@ -1,0 +1,6 @@
+pub mod Laws
+pub mod Lists
+pub mod Parts
+pub mod Ranges
+pub mod Rows
+pub mod Writing
