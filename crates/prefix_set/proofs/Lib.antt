@@ -13,3 +13,4 @@ pub mod SortRising
 pub mod SortedQuads
 pub mod PackedSorted
 pub mod PackedEqual
+pub mod SizeFacts

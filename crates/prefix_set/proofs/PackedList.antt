@@ -70,7 +70,7 @@ pub none_from_bytes : (ms : List (List ℕ)) (bytes : List ℕ) (layout : Layout
 none_from_bytes [] bytes layout p none = refl
 none_from_bytes (m ∷ ms) bytes layout p none = absurd (omega (arith, four_each (m ∷ ms) p.sizes, ap length p.joined))
 
-even_of : (ms : List (List ℕ)) (size : ℕ) (bytes : List ℕ) (layout : Layout) → Packs ms bytes layout → layout ≡ Even size → IsPrefixSize size × HaveSize size ms
+pub even_of : (ms : List (List ℕ)) (size : ℕ) (bytes : List ℕ) (layout : Layout) → Packs ms bytes layout → layout ≡ Even size → IsPrefixSize size × HaveSize size ms
 even_of ms size bytes layout p is = subst (λ (l : Layout). LaysOut l ms) is p.laid_out
 
 -- ---- how many there are, and where they stand

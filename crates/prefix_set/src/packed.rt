@@ -1,4 +1,5 @@
-ghost use Rattle.std.specs.Prelude.{◌≡◌, ℕ, ◌+◌, ◌<◌, ◌≤◌, ◌-◌, ◌%◌, ◌↔◌, List, [], ◌∷◌, ◌++◌, length, take, drop, slice_get, nat_eq, All, Some, IsTrue, IfOk, OnOk, OnErr, Contains};
+ghost use Rattle.std.specs.Prelude.{◌≡◌, ℕ, ◌+◌, ◌<◌, ◌≤◌, ◌-◌, ◌%◌, ◌↔◌, List, [], ◌∷◌, ◌++◌, length, take, drop, slice_get, slice_index_or, nat_eq, filter, false, All, Some, IsTrue, IfOk, OnOk, OnErr, Contains};
+ghost use Rattle.std.specs.List.{list_any};
 ghost use Rattle.std.specs.Cmp.{partial_equiv_from_equiv};
 ghost use Rattle.std.specs.Cmp.Lexicographic.{pointwise, lists_equiv, nat_list_eq_equiv};
 ghost use Rattle.sb_model.specs.Prefixes.{IsRising, set_of, concatenation};
@@ -11,7 +12,7 @@ use crate::iteration::Members;
 use crate::layout::Layout;
 use crate::sorting::{precedes, quads_of, quads_rise, sort_quads};
 use hash_prefixes::Prefix;
-use sb_model::OutOfMemory;
+use sb_model::{Bytes, OutOfMemory};
 use sha2::{Digest, Sha256};
 use std::alloc::Global;
 use std::marker::Model;
@@ -234,6 +235,64 @@ impl PackedPrefixes {
         match &self.layout {
             Layout::Even { size: own } => *own == size && !self.bytes.is_empty(),
             Layout::Mixed { .. } => self.iter().any(|member| member.len() == size as usize),
+        }
+    }
+
+    // For each number up to 32 whether some prefix has so many bytes, each looked at.
+    fn sizes_met(&self) -> [bool; 33]
+        ensures occurs { (size : ℕ) → size < 33 → slice_index_or result size false
+            ≡ list_any (λ member. nat_eq (length member) size) self.now }
+        ensures length { length result ≡ 33 }
+    {
+        let mut sizes = [false; 33];
+        for i in 0..self.len() {
+            sizes[self.at(i).len()] = true;
+        }
+        sizes
+    }
+
+    /// For each number up to 32 whether some prefix has so many bytes. It takes no time in the number
+    /// of prefixes where all have one size.
+    pub(crate) fn sizes(&self) -> [bool; 33]
+        ensures occurs { (size : ℕ) → size < 33 → slice_index_or result size false
+            ≡ list_any (λ member. nat_eq (length member) size) self.now }
+        ensures length { length result ≡ 33 }
+    {
+        match &self.layout {
+            Layout::Even { size } => {
+                let mut sizes = [false; 33];
+                sizes[*size as usize] = !self.bytes.is_empty();
+                sizes
+            }
+            Layout::Mixed { .. } => self.sizes_met(),
+        }
+    }
+
+    // The bytes of the prefixes of one size, each looked at.
+    fn gathered(&self, alloc: Global, size: u8) -> Result<Bytes, OutOfMemory>
+        ensures { IfOk result (λ bytes. bytes
+            ≡ concatenation (filter (λ member. nat_eq (length member) size) self.now)) }
+    {
+        let mut bytes = Bytes::new(alloc);
+        for i in 0..self.len() {
+            let member = self.at(i);
+            if member.len() == size as usize {
+                bytes.append(member)?;
+            }
+        }
+        Ok(bytes)
+    }
+
+    /// The bytes of the prefixes of one size, one after the other. Where all have one size they are
+    /// copied at once.
+    pub(crate) fn bytes_of_size(&self, alloc: Global, size: u8) -> Result<Bytes, OutOfMemory>
+        ensures { IfOk result (λ bytes. bytes
+            ≡ concatenation (filter (λ member. nat_eq (length member) size) self.now)) }
+    {
+        match &self.layout {
+            Layout::Even { size: own } if *own == size => Bytes::from_slice(alloc, &self.bytes),
+            Layout::Even { .. } => Ok(Bytes::new(alloc)),
+            Layout::Mixed { .. } => self.gathered(alloc, size),
         }
     }
 

@@ -1,4 +1,5 @@
-ghost use Rattle.std.specs.Prelude.{◌≡◌, ◌<◌, ◌≤◌, ◌+◌, ◌*◌, ◌^◌, ℕ, ◌↔◌, ◌⊎◌, List, [], ◌++◌, length, nat_eq, slice_get, slice_index_or, Some, None, Option, Contains, IsTrue, IfOk, OnOk, IfErr};
+ghost use Rattle.std.specs.Prelude.{◌≡◌, ◌<◌, ◌≤◌, ◌+◌, ◌*◌, ◌^◌, ℕ, ◌↔◌, ◌⊎◌, List, [], ◌++◌, length, nat_eq, filter, false, slice_get, slice_index_or, Some, None, Option, Contains, IsTrue, IfOk, OnOk, IfErr};
+ghost use Rattle.std.specs.List.{list_any};
 ghost use Rattle.std.specs.Cmp.{partial_equiv_from_equiv};
 ghost use Rattle.std.specs.Cmp.Lexicographic.{pointwise, lists_equiv, nat_list_eq_equiv};
 ghost use Rattle.sb_model.specs.Prefixes.{IsRising, set_of, concatenation};
@@ -20,7 +21,7 @@ use crate::search::place_between;
 use crate::store::PackedStore;
 use crate::{ApplyFault, Members};
 use hash_prefixes::Prefix;
-use sb_model::{OutOfMemory, Steps};
+use sb_model::{Bytes, OutOfMemory, Steps};
 use sha2::{Digest, Sha256};
 use std::alloc::Global;
 use std::cmp::Ordering;
@@ -300,6 +301,25 @@ impl PrefixSet {
             ↔ ((member : List ℕ) × Contains self.now member × (length member ≡ size)) }
     {
         self.store.packed().has_size(size)
+    }
+
+    /// For each number up to 32 whether some member has so many bytes. It takes no memory, and no time
+    /// in the number of members where all have one size.
+    pub fn sizes(&self) -> [bool; 33]
+        ensures occurs { (size : ℕ) → size < 33 → slice_index_or result size false
+            ≡ list_any (λ member. nat_eq (length member) size) self.now }
+        ensures length { length result ≡ 33 }
+    {
+        self.store.packed().sizes()
+    }
+
+    /// The bytes of the members that have this many each, one after the other. Where all members have
+    /// one size they are copied at once.
+    pub fn bytes_of_size(&self, alloc: Global, size: u8) -> Result<Bytes, OutOfMemory>
+        ensures { IfOk result (λ bytes. bytes
+            ≡ concatenation (filter (λ member. nat_eq (length member) size) self.now)) }
+    {
+        self.store.packed().bytes_of_size(alloc, size)
     }
 
     /// The members in packed bytes.
