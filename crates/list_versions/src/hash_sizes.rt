@@ -8,9 +8,8 @@ ghost use Rattle.sb_model.specs.Prefixes.{IsRising, set_of};
 ghost use Rattle.list_versions.specs.HashSizes.{IsMapOf, Sets, line_size, rising_sizes};
 ghost use Rattle.list_versions.specs.Live.{IsPublishable};
 
-use crate::hash_key::HashKey;
 use crate::listing::{entries_of, prefixes_of};
-use hash_prefixes::FullHash;
+use hash_prefixes::{FullHash, HashKey};
 use prefix_set::{PrefixSet, sets_go_by_members};
 use sb_model::{Added, OutOfMemory, Steps};
 use std::alloc::Global;

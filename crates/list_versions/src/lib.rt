@@ -18,7 +18,6 @@ mod checkpoints;
 mod draft;
 mod fault;
 mod growing;
-mod hash_key;
 mod hash_sizes;
 mod heads;
 mod hex_digits;

@@ -9,11 +9,10 @@ ghost use Rattle.list_versions.specs.HashSizes.{IsMapOf, entry_at, shown_entry};
 ghost use Rattle.list_versions.specs.Live.{IsPublishable};
 ghost use Rattle.list_versions.specs.Lookup.{begins};
 
-use crate::hash_key::HashKey;
 use crate::hash_sizes::Folding;
 use crate::lookup::is_begun;
 use crate::published::shown_prefix;
-use hash_prefixes::{FullHash, Prefix};
+use hash_prefixes::{FullHash, HashKey, Prefix};
 use prefix_set::{PrefixSet, sets_go_by_members};
 use sb_model::{Added, OutOfMemory, Row};
 use std::alloc::Global;

@@ -2,16 +2,14 @@ ghost use Rattle.std.specs.Prelude.{◌≡◌, ◌++◌, decimal, OnOk};
 ghost use Rattle.list_versions.specs.Printed.{cause_text};
 
 use crate::JournalFault;
-use itoa::Buffer;
 use sb_model::{Bytes, OutOfMemory};
 
 // Appends a word and a number.
 fn push_counted(page: &mut Bytes, word: &str, number: u64) -> Result<(), OutOfMemory>
     ensures { OnOk result (page.new ≡ page.old ++ (word.now ++ decimal number)) }
 {
-    let mut buffer = Buffer::new();
     page.append(word.as_bytes())?;
-    page.append(buffer.format(number).as_bytes())
+    page.append_decimal(number)
 }
 
 /// Appends the cause of a journal that is not read, as it is printed.
