@@ -1,4 +1,4 @@
-ghost use Rattle.std.specs.Prelude.{◌≡◌, ◌++◌, decimal, OnOk};
+ghost use Rattle.std.specs.Prelude.{◌≡◌, ◌++◌, length, take, decimal, OnOk, OnErr};
 ghost use Rattle.list_versions.specs.Printed.{cause_text};
 
 use crate::JournalFault;
@@ -6,15 +6,17 @@ use sb_model::{Bytes, OutOfMemory};
 
 // Appends a word and a number.
 fn push_counted(page: &mut Bytes, word: &str, number: u64) -> Result<(), OutOfMemory>
-    ensures { OnOk result (page.new ≡ page.old ++ (word.now ++ decimal number)) }
+    ensures ok { OnOk result (page.new ≡ page.old ++ (word.now ++ decimal number)) }
+    ensures front { OnErr result (take (length page.old) page.new ≡ page.old) }
 {
     page.append(word.as_bytes())?;
     page.append_decimal(number)
 }
 
-/// Appends the cause of a journal that is not read, as it is printed.
+/// Appends the cause of a journal that is not read, as it is printed. After an `Err` the page begins as it was.
 pub fn push_journal_cause(page: &mut Bytes, fault: JournalFault) -> Result<(), OutOfMemory>
-    ensures { OnOk result (page.new ≡ page.old ++ cause_text fault) }
+    ensures ok { OnOk result (page.new ≡ page.old ++ cause_text fault) }
+    ensures front { OnErr result (take (length page.old) page.new ≡ page.old) }
 {
     match fault {
         JournalFault::ReadFault => page.append(b"read-fault"),
