@@ -48,7 +48,7 @@ impl time::Clock for Sleeping {
     }
 
     fn sleep(&self, duration: Duration) {
-        let slept = duration.as_millis() as u64;
+        let slept = u64::try_from(duration.as_millis()).unwrap_or(u64::MAX);
         self.millis.set(self.millis.get().saturating_add(slept));
         self.sleeps.set(self.sleeps.get().saturating_add(1));
     }
