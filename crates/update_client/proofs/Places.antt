@@ -18,7 +18,7 @@ use Rattle.update_client.specs.Step.{list_step, held_after, first_fault, after_u
 use Rattle.update_client.specs.declared.fault.UpdateFault.{UpdateFault}
 use Rattle.update_client.specs.declared.pending.Fresh.{Fresh}
 use Rattle.update_client.specs.declared.pending.Change.{Change}
-use Rattle.update_client.specs.Taking.{no_change, with_fresh, changed, all_changed}
+use Rattle.update_client.specs.Applying.{no_change, with_fresh, changed, all_changed}
 use Rattle.update_client.proofs.NameOrder.{apart}
 
 -- a change keeps the name

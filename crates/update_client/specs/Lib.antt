@@ -5,4 +5,4 @@ pub mod Held
 pub mod Printed
 pub mod Replica
 pub mod Step
-pub mod Taking
+pub mod Applying

@@ -127,6 +127,17 @@ result_after held update (Some fault) = Refused fault
 abbrev pub result_of : Held → UpdatedList → ListResult
 result_of held update = result_after held update (first_fault held update)
 
+-- what became of an update: it was installed, or it was refused
+abbrev pub is_installed : ListResult → Bool
+is_installed (Installed entries) = true
+is_installed (Refused fault) = false
+is_installed NotKept = false
+
+abbrev pub is_refused : ListResult → Bool
+is_refused (Installed entries) = false
+is_refused (Refused fault) = true
+is_refused NotKept = false
+
 -- An update changes the held list of its name alone.
 abbrev pub after_update : List Held → UpdatedList → List Held
 after_update lists update = map (λ held. if same_name held.name update.name then list_step held update else held) lists

@@ -1,5 +1,5 @@
 ghost use Rattle.std.specs.Prelude.{◌≡◌, ◌≤◌, map, vec_len, IfOk};
-ghost use Rattle.update_client.specs.Taking.{no_change, changed, all_changed};
+ghost use Rattle.update_client.specs.Applying.{no_change, changed, all_changed};
 
 use crate::HeldList;
 use crate::pending::{Change, Fresh};
@@ -54,7 +54,7 @@ fn put(held: &mut HeldList, change: Change)
 }
 
 /// Puts the changes in place, the last one first.
-pub(crate) fn put_each(lists: &mut Vec<HeldList>, changes: Vec<Change>)
+pub(crate) fn put_changes(lists: &mut Vec<HeldList>, changes: Vec<Change>)
     requires { vec_len changes ≤ vec_len lists.old }
     ensures { lists.new.items ≡ all_changed lists.old.items changes.items }
 {

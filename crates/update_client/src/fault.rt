@@ -1,3 +1,5 @@
+ghost use Rattle.std.specs.Prelude.{◌≡◌};
+
 use rice_coding::RiceFault;
 use sb_model::Bytes;
 
@@ -27,4 +29,22 @@ pub enum ListResult {
     Refused(UpdateFault),
     /// No held list has the name.
     NotKept,
+}
+
+impl ListResult {
+    ghost use Rattle.update_client.specs.Step.{is_installed, is_refused};
+
+    /// Whether the update was installed.
+    pub fn is_installed(&self) -> bool
+        ensures { result ≡ is_installed self.now }
+    {
+        matches!(self, ListResult::Installed(_))
+    }
+
+    /// Whether the update was refused.
+    pub fn is_refused(&self) -> bool
+        ensures { result ≡ is_refused self.now }
+    {
+        matches!(self, ListResult::Refused(_))
+    }
 }

@@ -11,16 +11,16 @@ pub use lists::ClientLists;
 pub use options::FetchOptions;
 pub use printing::{push_token, push_update_cause};
 
+mod applying;
 mod asking;
 mod change;
+mod examining;
 mod fault;
 mod feeding;
 mod held;
-mod judging;
 mod laws;
 mod lists;
 mod options;
 mod ordering;
 mod pending;
 mod printing;
-mod taking;

@@ -7,10 +7,10 @@ ghost use Rattle.update_client.specs.Held.{Held, IsHeld, AreHeldLists, most_list
 ghost use Rattle.update_client.specs.Asked.{request_asked};
 ghost use Rattle.update_client.specs.Step.{list_named, after_updates, results_of};
 
+use crate::applying::{apply_updates, has_name};
 use crate::asking::asked_lists;
-use crate::change::{no_changes, put_each};
+use crate::change::{no_changes, put_changes};
 use crate::ordering::ordered;
-use crate::taking::{has_name, take_items};
 use crate::{FetchOptions, HeldList, ListResult, UpdateFault};
 use prefix_set::PrefixSet;
 use rice_coding::{RiceFault, decoding_goes_by_the_record};
@@ -71,10 +71,11 @@ fn copies(alloc: Global, lists: &[HeldList]) -> Result<Vec<HeldList>, OutOfMemor
 }
 
 // Each token is short, as each list keeps to.
-fn know_each(lists: &[HeldList])
+fn know_tokens(lists: &[HeldList])
     ensures { All IsHeld lists.now }
 {
     for held in lists {
+        // A list that is read is known to keep to it.
         let _ = &held.token;
     }
 }
@@ -112,7 +113,7 @@ impl ClientLists {
         ensures tokens { All IsHeld result.items }
     {
         let ClientLists { lists } = self;
-        know_each(&lists);
+        know_tokens(&lists);
         lists
     }
 
@@ -125,7 +126,7 @@ impl ClientLists {
         ensures rising { IsStrictlySortedBy name_cmp (map (λ (held : Held). held.name) self.now) }
         ensures tokens { All IsHeld self.now }
     {
-        know_each(&self.lists);
+        know_tokens(&self.lists);
         self.lists.as_slice()
     }
 
@@ -192,8 +193,8 @@ impl ClientLists {
     {
         decoding_goes_by_the_record();
         let mut changes = no_changes(alloc, &self.lists)?;
-        let results = take_items(alloc, &self.lists, &mut changes, response.items.as_slice())?;
-        put_each(&mut self.lists, changes);
+        let results = apply_updates(alloc, &self.lists, &mut changes, response.items.as_slice())?;
+        put_changes(&mut self.lists, changes);
         Ok(results)
     }
 }

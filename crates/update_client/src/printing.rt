@@ -3,7 +3,6 @@ ghost use Rattle.update_client.specs.Printed.{token_text, rice_text, cause_text}
 
 use crate::UpdateFault;
 use hash_prefixes::append_hex;
-use itoa::Buffer;
 use rice_coding::RiceFault;
 use sb_model::{Bytes, OutOfMemory};
 
@@ -11,9 +10,8 @@ use sb_model::{Bytes, OutOfMemory};
 fn push_counted(page: &mut Bytes, word: &str, number: u64) -> Result<(), OutOfMemory>
     ensures { OnOk result (page.new ≡ page.old ++ (word.now ++ decimal number)) }
 {
-    let mut buffer = Buffer::new();
     page.append(word.as_bytes())?;
-    page.append(buffer.format(number).as_bytes())
+    page.append_decimal(number)
 }
 
 /// Appends a state token in hexadecimal, and for an empty one a dash.

@@ -1,5 +1,5 @@
 use Rattle.std.proofs.Common.{◌≡◌, map, take}
-use Rattle.update_client.specs.Taking.{no_change}
+use Rattle.update_client.specs.Applying.{no_change}
 use Rattle.update_client.proofs.change.no_changes.Given as goal
 
 abbrev pub invariant-loop-held : goal.invariant-loop-held

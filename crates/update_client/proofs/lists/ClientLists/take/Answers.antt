@@ -6,7 +6,7 @@ use Rattle.update_client.specs.declared.fault.ListResult.{ListResult}
 use Rattle.update_client.specs.declared.pending.Change.{Change}
 use Rattle.update_client.specs.Held.{Held}
 use Rattle.update_client.specs.Step.{after_updates, results_of}
-use Rattle.update_client.specs.Taking.{no_change, all_changed}
+use Rattle.update_client.specs.Applying.{no_change, all_changed}
 use Rattle.update_client.proofs.Births.{renamed}
 use Rattle.update_client.proofs.NoMemory.{IsTold, IsTold-each}
 use Rattle.update_client.proofs.Places.{changed_nothing, names-after_updates}
@@ -34,14 +34,14 @@ returns-clause-lists c =
     let again : c.deref-2.result.now ≡ c.args.self.now = c.deref-2.ensures.value ∙ c.self.view_is in
     let start : all_changed c.deref-2.result.now c.deref_mut.result.now ≡ c.args.self.now
     = started c.args.self.now c.deref.result.now c.deref-2.result.now c.in_ok-changes.changes.items c.deref_mut.result.now own again c.in_ok-changes.ensures c.deref_mut.ensures.value in
-    let count : length c.take_items.new.changes ≡ c.in_ok-changes.changes.len = omega (arith, ap length c.deref_mut.ensures.value) in
-    let put : List Change = take c.in_ok-changes.changes.len (c.take_items.new.changes ++ drop (length c.take_items.new.changes) c.in_ok-changes.changes.items) in
-    let kept : put ≡ c.take_items.new.changes
-    = take_at c.take_items.new.changes (drop (length c.take_items.new.changes) c.in_ok-changes.changes.items) c.in_ok-changes.changes.len count in
-    let taken : all_changed c.deref-2.result.now c.take_items.new.changes ≡ after_updates c.args.self.now c.args.response.now.items
+    let count : length c.apply_updates.new.changes ≡ c.in_ok-changes.changes.len = omega (arith, ap length c.deref_mut.ensures.value) in
+    let put : List Change = take c.in_ok-changes.changes.len (c.apply_updates.new.changes ++ drop (length c.apply_updates.new.changes) c.in_ok-changes.changes.items) in
+    let kept : put ≡ c.apply_updates.new.changes
+    = take_at c.apply_updates.new.changes (drop (length c.apply_updates.new.changes) c.in_ok-changes.changes.items) c.in_ok-changes.changes.len count in
+    let taken : all_changed c.deref-2.result.now c.apply_updates.new.changes ≡ after_updates c.args.self.now c.args.response.now.items
     = c.in_ok-results.ensures.lists ∙ ap (λ lists. after_updates lists c.as_slice.result.now) start ∙ ap (after_updates c.args.self.now) c.as_slice.ensures in
-    ended c.args.self.now c.deref-2.result.now c.put_each.new.lists.items c.take_items.new.changes put c.args.response.now.items again
-    (c.put_each.ensures ∙ ap (λ lists. all_changed lists put) c.self.view_is) kept taken
+    ended c.args.self.now c.deref-2.result.now c.put_changes.new.lists.items c.apply_updates.new.changes put c.args.response.now.items again
+    (c.put_changes.ensures ∙ ap (λ lists. all_changed lists put) c.self.view_is) kept taken
 
 pub returns-clause-results : goal.returns-clause-results
 returns-clause-results c =
@@ -59,5 +59,5 @@ returns-clause-no_memory c =
 pub invariant_of-self : goal.invariant_of-self
 invariant_of-self c =
     let names = map (λ (held : Held). held.name) in
-    renamed c.self.inside.lists.items c.put_each.new.lists.items
+    renamed c.self.inside.lists.items c.put_changes.new.lists.items
     (ap names (returns-clause-lists c) ∙ names-after_updates c.args.self.now c.args.response.now.items ∙ sym (ap names c.self.view_is)) c.self.invariant

@@ -3,9 +3,9 @@ ghost use Rattle.std.specs.List.Sorted.{IsStrictlySortedBy};
 ghost use Rattle.sb_model.specs.Names.{same_name, name_cmp};
 ghost use Rattle.update_client.specs.Held.{Held};
 ghost use Rattle.update_client.specs.Step.{list_step, result_of, after_update, after_updates, result_among, results_of};
-ghost use Rattle.update_client.specs.Taking.{changed, all_changed};
+ghost use Rattle.update_client.specs.Applying.{changed, all_changed};
 
-use crate::judging::{Judgement, judge};
+use crate::examining::{Finding, examine};
 use crate::pending::{Change, Fresh};
 use crate::{HeldList, ListResult};
 use sb_model::{ListName, OutOfMemory, Row};
@@ -29,8 +29,8 @@ pub(crate) fn place_of(lists: &[HeldList], name: ListName) -> Option<usize>
     lists.iter().position(|held| has_name(held, name))
 }
 
-// Takes an update for its held list.
-fn take_update(
+// Applies an update to its held list.
+fn apply_update(
     alloc: Global,
     held: &HeldList,
     change: &mut Change,
@@ -40,23 +40,23 @@ fn take_update(
         (changed held.now change.new ≡ list_step (changed held.now change.old) update.now) }
     ensures outcome { IfOk result (λ outcome. outcome ≡ result_of (changed held.now change.old) update.now) }
 {
-    match judge(alloc, held, change, update)? {
-        Judgement::Fit(set) => {
+    match examine(alloc, held, change, update)? {
+        Finding::Fit(set) => {
             let token = update.new_state.copy()?;
             let entries = set.len();
             change.fresh = Some(Fresh { token, set });
             change.resync = false;
             Ok(ListResult::Installed(entries))
         }
-        Judgement::Unfit(fault) => {
+        Finding::Unfit(fault) => {
             change.resync = true;
             Ok(ListResult::Refused(fault))
         }
     }
 }
 
-// Takes an update for the held list of its name, if there is one.
-fn take_item(
+// Applies an update to the held list of its name, if there is one.
+fn apply_to_named(
     alloc: Global,
     lists: &[HeldList],
     changes: &mut [Change],
@@ -70,13 +70,13 @@ fn take_item(
         outcome ≡ result_among (all_changed lists.now changes.old) update.now) }
 {
     match place_of(lists, update.name) {
-        Some(place) => take_update(alloc, &lists[place], &mut changes[place], update),
+        Some(place) => apply_update(alloc, &lists[place], &mut changes[place], update),
         None => Ok(ListResult::NotKept),
     }
 }
 
-/// Takes updates one by one.
-pub(crate) fn take_items(
+/// Applies updates one by one.
+pub(crate) fn apply_updates(
     alloc: Global,
     lists: &[HeldList],
     changes: &mut [Change],
@@ -91,7 +91,7 @@ pub(crate) fn take_items(
 {
     let mut results = Row::with_capacity(alloc, updates.len())?;
     for update in updates {
-        results.push(take_item(alloc, lists, changes, update)?)?;
+        results.push(apply_to_named(alloc, lists, changes, update)?)?;
     }
     Ok(results)
 }

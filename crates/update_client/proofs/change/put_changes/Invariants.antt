@@ -1,6 +1,6 @@
 use Rattle.std.proofs.Common.{◌≡◌, ◌≤◌, vec_len}
-use Rattle.update_client.specs.Taking.{all_changed}
-use Rattle.update_client.proofs.change.put_each.Given as goal
+use Rattle.update_client.specs.Applying.{all_changed}
+use Rattle.update_client.proofs.change.put_changes.Given as goal
 
 abbrev pub invariant-loop-change : goal.invariant-loop-change
 invariant-loop-change l = record {

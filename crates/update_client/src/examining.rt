@@ -4,7 +4,7 @@ ghost use Rattle.prefix_set.specs.Apply.{applied, apply_fault};
 ghost use Rattle.update_client.specs.Held.{digest_of};
 ghost use Rattle.update_client.specs.Step.{meaning_of, stale_fault};
 ghost use Rattle.update_client.specs.Feeding.{meant_by, cause_of as cause_of_fault};
-ghost use Rattle.update_client.specs.Taking.{changed, IsChecked, IsWeighed, IsJudged};
+ghost use Rattle.update_client.specs.Applying.{changed, IsChecked, IsWeighed, IsExamined};
 
 use crate::change::{set_of, token_of};
 use crate::feeding::edit_of;
@@ -18,7 +18,7 @@ use update_messages::ListUpdate;
 
 /// What is found of an update: the set that it proposes, or why it is refused.
 #[derive(Drop)]
-pub(crate) enum Judgement {
+pub(crate) enum Finding {
     Fit(PrefixSet),
     Unfit(UpdateFault),
 }
@@ -78,7 +78,7 @@ fn cause_of(fault: ApplyFault) -> Option<UpdateFault>
 }
 
 // Compares the digest of a set with the given one.
-fn checked(merged: Merged, given: [u8; 32]) -> Judgement
+fn checked(merged: Merged, given: [u8; 32]) -> Finding
     requires { merged.digest ≡ digest_of merged.set }
     ensures { IsChecked merged.set given result }
 {
@@ -87,9 +87,9 @@ fn checked(merged: Merged, given: [u8; 32]) -> Judgement
         digest: computed,
     } = merged;
     if computed != given {
-        return Judgement::Unfit(UpdateFault::Checksum { computed, given });
+        return Finding::Unfit(UpdateFault::Checksum { computed, given });
     }
-    Judgement::Fit(set)
+    Finding::Fit(set)
 }
 
 // Weighs what an update says against a held list.
@@ -99,34 +99,34 @@ fn weigh(
     change: &Change,
     update: &ListUpdate,
     edit: Edit,
-) -> Result<Judgement, OutOfMemory>
+) -> Result<Finding, OutOfMemory>
     requires { meaning_of update.now ≡ Ok (meant_by update.now edit) }
     ensures { IfOk result (IsWeighed (changed held.now change.now) update.now) }
 {
     match merged(alloc, set_of(held, change), update.full, edit) {
         Ok(merged) => Ok(checked(merged, update.checksum)),
         Err(fault) => match cause_of(fault) {
-            Some(cause) => Ok(Judgement::Unfit(cause)),
+            Some(cause) => Ok(Finding::Unfit(cause)),
             None => Err(OutOfMemory),
         },
     }
 }
 
-/// Judges an update where it meets a held list after a change.
-pub(crate) fn judge(
+/// Examines an update where it meets a held list after a change.
+pub(crate) fn examine(
     alloc: Global,
     held: &HeldList,
     change: &Change,
     update: &ListUpdate,
-) -> Result<Judgement, OutOfMemory>
-    ensures { IfOk result (IsJudged (changed held.now change.now) update.now) }
+) -> Result<Finding, OutOfMemory>
+    ensures { IfOk result (IsExamined (changed held.now change.now) update.now) }
 {
     if let Some(fault) = stale(held, change, update)? {
-        return Ok(Judgement::Unfit(fault));
+        return Ok(Finding::Unfit(fault));
     }
     match edit_of(alloc, update) {
         Ok(edit) => weigh(alloc, held, change, update, edit),
         Err(RiceFault::OutOfMemory) => Err(OutOfMemory),
-        Err(fault) => Ok(Judgement::Unfit(UpdateFault::Rice(fault))),
+        Err(fault) => Ok(Finding::Unfit(UpdateFault::Rice(fault))),
     }
 }

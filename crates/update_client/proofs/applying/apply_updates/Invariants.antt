@@ -1,7 +1,7 @@
 use Rattle.std.proofs.Common.{◌≡◌, ◌++◌, drop}
 use Rattle.update_client.specs.Step.{after_updates, results_of}
-use Rattle.update_client.specs.Taking.{all_changed}
-use Rattle.update_client.proofs.taking.take_items.Given as goal
+use Rattle.update_client.specs.Applying.{all_changed}
+use Rattle.update_client.proofs.applying.apply_updates.Given as goal
 
 abbrev pub invariant-loop-update : goal.invariant-loop-update
 invariant-loop-update l = record {

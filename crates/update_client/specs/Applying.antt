@@ -5,8 +5,8 @@ use Rattle.update_messages.specs.Messages.{UpdatedList}
 use Rattle.update_client.specs.declared.fault.UpdateFault.TheVariants.{Checksum}
 use Rattle.update_client.specs.declared.pending.Fresh.{Fresh}
 use Rattle.update_client.specs.declared.pending.Change.{Change}
-use Rattle.update_client.specs.declared.judging.Judgement.{Judgement}
-use Rattle.update_client.specs.declared.judging.Judgement.TheVariants.{Fit, Unfit}
+use Rattle.update_client.specs.declared.examining.Finding.{Finding}
+use Rattle.update_client.specs.declared.examining.Finding.TheVariants.{Fit, Unfit}
 use Rattle.update_client.specs.Held.{Held, digest_of}
 use Rattle.update_client.specs.Step.{meaning_of, candidate_of, change_fault, first_fault, fault_if}
 
@@ -30,16 +30,16 @@ all_changed (held ∷ lists) [] = held ∷ lists
 all_changed (held ∷ lists) (change ∷ changes) = changed held change ∷ all_changed lists changes
 
 -- a set was checked against a digest
-abbrev pub IsChecked : List (List ℕ) → List ℕ → Judgement → Type 0
+abbrev pub IsChecked : List (List ℕ) → List ℕ → Finding → Type 0
 IsChecked proposal given (Fit set) = (set ≡ proposal) × (fault_if (not (bytes_eq (digest_of proposal) given)) (Checksum (digest_of proposal) given) ≡ None)
 IsChecked proposal given (Unfit fault) = fault_if (not (bytes_eq (digest_of proposal) given)) (Checksum (digest_of proposal) given) ≡ Some fault
 
 -- what an update says was weighed against a held list
-abbrev pub IsWeighed : Held → UpdatedList → Judgement → Type 0
+abbrev pub IsWeighed : Held → UpdatedList → Finding → Type 0
 IsWeighed held update (Fit set) = (set ≡ candidate_of update held.set) × (change_fault held (meaning_of update) ≡ None)
 IsWeighed held update (Unfit fault) = change_fault held (meaning_of update) ≡ Some fault
 
--- an update was judged where it meets a held list
-abbrev pub IsJudged : Held → UpdatedList → Judgement → Type 0
-IsJudged held update (Fit set) = (set ≡ candidate_of update held.set) × (first_fault held update ≡ None)
-IsJudged held update (Unfit fault) = first_fault held update ≡ Some fault
+-- an update was examined where it meets a held list
+abbrev pub IsExamined : Held → UpdatedList → Finding → Type 0
+IsExamined held update (Fit set) = (set ≡ candidate_of update held.set) × (first_fault held update ≡ None)
+IsExamined held update (Unfit fault) = first_fault held update ≡ Some fault

@@ -1,8 +1,8 @@
 use Rattle.std.proofs.Common.{◌≡◌, ◌<◌, [], ◌∷◌, ◌++◌, length, sym, ◌∙◌, ap, append-nil, arith}
 use Rattle.std.proofs.lemmas.List.{nil_from_length}
-use Rattle.update_client.specs.Taking.{all_changed}
+use Rattle.update_client.specs.Applying.{all_changed}
 use Rattle.update_client.proofs.Places.{changed_last, changed_none}
-use Rattle.update_client.proofs.change.put_each.Goals as goal
+use Rattle.update_client.proofs.change.put_changes.Goals as goal
 
 pub loop-change-preserved : goal.loop-change-preserved
 loop-change-preserved c =
