@@ -1,4 +1,4 @@
-ghost use Rattle.std.specs.Prelude.{◌≡◌, ◌++◌, decimal, OnOk};
+ghost use Rattle.std.specs.Prelude.{◌≡◌, ◌++◌, length, take, decimal, OnOk, OnErr};
 ghost use Rattle.update_client.specs.Printed.{token_text, rice_text, cause_text};
 
 use crate::UpdateFault;
@@ -8,15 +8,17 @@ use sb_model::{Bytes, OutOfMemory};
 
 // Appends a word and a number.
 fn push_counted(page: &mut Bytes, word: &str, number: u64) -> Result<(), OutOfMemory>
-    ensures { OnOk result (page.new ≡ page.old ++ (word.now ++ decimal number)) }
+    ensures ok { OnOk result (page.new ≡ page.old ++ (word.now ++ decimal number)) }
+    ensures front { OnErr result (take (length page.old) page.new ≡ page.old) }
 {
     page.append(word.as_bytes())?;
     page.append_decimal(number)
 }
 
-/// Appends a state token in hexadecimal, and for an empty one a dash.
+/// Appends a state token in hexadecimal, and for an empty one a dash. After an `Err` the page begins as it was.
 pub fn push_token(page: &mut Bytes, token: &[u8]) -> Result<(), OutOfMemory>
-    ensures { OnOk result (page.new ≡ page.old ++ token_text token.now) }
+    ensures ok { OnOk result (page.new ≡ page.old ++ token_text token.now) }
+    ensures front { OnErr result (take (length page.old) page.new ≡ page.old) }
 {
     if token.is_empty() {
         return page.append(b"-");
@@ -26,7 +28,8 @@ pub fn push_token(page: &mut Bytes, token: &[u8]) -> Result<(), OutOfMemory>
 
 // Appends the cause of a Rice record.
 fn push_rice(page: &mut Bytes, fault: RiceFault) -> Result<(), OutOfMemory>
-    ensures { OnOk result (page.new ≡ page.old ++ rice_text fault) }
+    ensures ok { OnOk result (page.new ≡ page.old ++ rice_text fault) }
+    ensures front { OnErr result (take (length page.old) page.new ≡ page.old) }
 {
     match fault {
         RiceFault::Parameter(parameter) => {
@@ -42,7 +45,8 @@ fn push_rice(page: &mut Bytes, fault: RiceFault) -> Result<(), OutOfMemory>
 
 // Appends both digests.
 fn push_digests(page: &mut Bytes, computed: &[u8], given: &[u8]) -> Result<(), OutOfMemory>
-    ensures { OnOk result (page.new ≡ page.old ++ cause_text (UpdateFault.Checksum computed.now given.now)) }
+    ensures ok { OnOk result (page.new ≡ page.old ++ cause_text (UpdateFault.Checksum computed.now given.now)) }
+    ensures front { OnErr result (take (length page.old) page.new ≡ page.old) }
 {
     page.append(b"checksum ")?;
     append_hex(page, computed)?;
@@ -52,7 +56,8 @@ fn push_digests(page: &mut Bytes, computed: &[u8], given: &[u8]) -> Result<(), O
 
 // Appends both tokens.
 fn push_tokens(page: &mut Bytes, held: &[u8], given: &[u8]) -> Result<(), OutOfMemory>
-    ensures { OnOk result (page.new ≡ page.old ++ cause_text (UpdateFault.StaleBase held.now given.now)) }
+    ensures ok { OnOk result (page.new ≡ page.old ++ cause_text (UpdateFault.StaleBase held.now given.now)) }
+    ensures front { OnErr result (take (length page.old) page.new ≡ page.old) }
 {
     page.append(b"stale-base ")?;
     push_token(page, held)?;
@@ -60,9 +65,10 @@ fn push_tokens(page: &mut Bytes, held: &[u8], given: &[u8]) -> Result<(), OutOfM
     push_token(page, given)
 }
 
-/// Appends the cause of a refusal as it is printed.
+/// Appends the cause of a refusal as it is printed. After an `Err` the page begins as it was.
 pub fn push_update_cause(page: &mut Bytes, fault: &UpdateFault) -> Result<(), OutOfMemory>
-    ensures { OnOk result (page.new ≡ page.old ++ cause_text fault.now) }
+    ensures ok { OnOk result (page.new ≡ page.old ++ cause_text fault.now) }
+    ensures front { OnErr result (take (length page.old) page.new ≡ page.old) }
 {
     match fault {
         UpdateFault::Rice(fault) => push_rice(page, *fault),
