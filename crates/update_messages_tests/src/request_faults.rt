@@ -30,259 +30,196 @@ fn read_state(alloc: Global, count: usize) -> Result<(), MessageFault> {
     Ok(())
 }
 
-fn takes(rt: &impl Abort, alloc: Global, members: &str) {
-    assert_eq!(rt; read_asked(alloc, members).err(), None);
+// Sees that a request is refused, in the item with this number.
+fn refuses(rt: &impl Abort, alloc: Global, text: &str, fault: FieldFault, item: u64) {
+    let wanted = Some(MessageFault::Field(fault, item));
+    assert_eq!(rt; read(alloc, text).err(), wanted, "{text}");
 }
 
-fn refuses(rt: &impl Abort, alloc: Global, members: &str, fault: FieldFault) {
-    assert_eq!(rt;
-        read_asked(alloc, members).err(),
-        Some(MessageFault::Field(fault, 1))
-    );
+// Sees that one whose asked list has these members is refused.
+fn refuses_asked(rt: &impl Abort, alloc: Global, members: &str, fault: FieldFault) {
+    let wanted = Some(MessageFault::Field(fault, 1));
+    assert_eq!(rt; read_asked(alloc, members).err(), wanted, "{members}");
 }
 
-// What is refused outside an item, or in the item that is given.
-fn message(rt: &impl Abort, alloc: Global, text: &str, fault: FieldFault, item: u64) {
-    assert_eq!(rt;
-        read(alloc, text).err(),
-        Some(MessageFault::Field(fault, item))
-    );
+#[test]
+fn no_json(rt: HostRuntime) {
+    let fault = read(rt.alloc(), "{'client'}").err();
+    assert_eq!(rt; fault, Some(MessageFault::NotJson));
 }
 
 #[test]
 fn messages(rt: HostRuntime) {
-    let alloc = rt.alloc();
-    let root = FieldFault::WrongKind(Field::Root);
-    let list = FieldFault::WrongKind(Field::ListUpdateRequests);
-    assert_eq!(rt;
-        read(alloc, "{'client'}").err(),
-        Some(MessageFault::NotJson)
-    );
-    message(&rt, alloc, "1", root, 0);
-    message(&rt, alloc, "{'listUpdateRequests':'x'}", list, 0);
-    message(&rt, alloc, "{'listUpdateRequests':[[]]}", list, 1);
-    assert_eq!(rt;
-        read(alloc, "{'listUpdateRequests':null,'client':null}").err(),
-        None
-    );
+    for (text, fault, item) in [
+        ("1", FieldFault::WrongKind(Field::Root), 0),
+        (
+            "{'listUpdateRequests':'x'}",
+            FieldFault::WrongKind(Field::ListUpdateRequests),
+            0,
+        ),
+        (
+            "{'listUpdateRequests':[[]]}",
+            FieldFault::WrongKind(Field::ListUpdateRequests),
+            1,
+        ),
+        (
+            "{'client':'x','listUpdateRequests':1}",
+            FieldFault::WrongKind(Field::Client),
+            0,
+        ),
+        (
+            "{'client':{'clientVersion':1,'clientId':1}}",
+            FieldFault::WrongKind(Field::ClientId),
+            0,
+        ),
+        (
+            "{'client':{'clientVersion':[],'clientId':null}}",
+            FieldFault::WrongKind(Field::ClientVersion),
+            0,
+        ),
+        (
+            "{'listUpdateRequests':[{},{},{},{},{},{},{},{}]}",
+            FieldFault::Missing(Field::ThreatType),
+            1,
+        ),
+        (
+            "{'listUpdateRequests':[1,2,3,4,5,6,7,8,9],'client':1}",
+            FieldFault::WrongKind(Field::Client),
+            0,
+        ),
+        (
+            "{'listUpdateRequests':[{'threatType':'MALWARE','platformType':'IOS','threatEntryType':'EXECUTABLE'},7,{}]}",
+            FieldFault::WrongKind(Field::ListUpdateRequests),
+            2,
+        ),
+    ] {
+        refuses(&rt, rt.alloc(), text, fault, item);
+    }
 }
 
 #[test]
-fn clients(rt: HostRuntime) {
-    let alloc = rt.alloc();
-    let client = FieldFault::WrongKind(Field::Client);
-    let id = FieldFault::WrongKind(Field::ClientId);
-    let version = FieldFault::WrongKind(Field::ClientVersion);
-    message(
-        &rt,
-        alloc,
-        "{'client':'x','listUpdateRequests':1}",
-        client,
-        0,
-    );
-    message(
-        &rt,
-        alloc,
-        "{'client':{'clientVersion':1,'clientId':1}}",
-        id,
-        0,
-    );
-    message(
-        &rt,
-        alloc,
-        "{'client':{'clientVersion':[],'clientId':null}}",
-        version,
-        0,
-    );
-    assert_eq!(rt; read(alloc, "{'client':{}}").err(), None);
+fn what_messages_may_have(rt: HostRuntime) {
+    for text in ["{'listUpdateRequests':null,'client':null}", "{'client':{}}"] {
+        assert_eq!(rt; read(rt.alloc(), text).err(), None, "{text}");
+    }
 }
 
 #[test]
-fn eight_items_are_the_most(rt: HostRuntime) {
-    let alloc = rt.alloc();
-    let missing = FieldFault::Missing(Field::ThreatType);
-    message(
-        &rt,
-        alloc,
-        "{'listUpdateRequests':[{},{},{},{},{},{},{},{}]}",
-        missing,
-        1,
+fn nine_items_are_too_many(rt: HostRuntime) {
+    let nine = read(
+        rt.alloc(),
+        "{'listUpdateRequests':[{},{},{},{},{},{},{},{},{}]}",
     );
-    let nine = read(alloc, "{'listUpdateRequests':[{},{},{},{},{},{},{},{},{}]}");
     assert_eq!(rt; nine.err(), Some(MessageFault::TooManyItems(9)));
-    let client = FieldFault::WrongKind(Field::Client);
-    message(
-        &rt,
-        alloc,
-        "{'listUpdateRequests':[1,2,3,4,5,6,7,8,9],'client':1}",
-        client,
-        0,
-    );
 }
 
 #[test]
 fn names(rt: HostRuntime) {
-    let alloc = rt.alloc();
-    refuses(
-        &rt,
-        alloc,
-        "'threatType':null",
-        FieldFault::Missing(Field::ThreatType),
-    );
-    refuses(
-        &rt,
-        alloc,
-        "'threatType':1",
-        FieldFault::WrongKind(Field::ThreatType),
-    );
-    refuses(
-        &rt,
-        alloc,
-        "'threatType':'X'",
-        FieldFault::Name(Field::ThreatType),
-    );
-    refuses(
-        &rt,
-        alloc,
-        "'platformType':null",
-        FieldFault::Missing(Field::PlatformType),
-    );
-    refuses(
-        &rt,
-        alloc,
-        "'platformType':{}",
-        FieldFault::WrongKind(Field::PlatformType),
-    );
-    refuses(
-        &rt,
-        alloc,
-        "'platformType':''",
-        FieldFault::Name(Field::PlatformType),
-    );
-    refuses(
-        &rt,
-        alloc,
-        "'threatEntryType':null",
-        FieldFault::Missing(Field::ThreatEntryType),
-    );
-    refuses(
-        &rt,
-        alloc,
-        "'threatEntryType':2",
-        FieldFault::WrongKind(Field::ThreatEntryType),
-    );
-    refuses(
-        &rt,
-        alloc,
-        "'threatEntryType':'url'",
-        FieldFault::Name(Field::ThreatEntryType),
-    );
+    for (members, fault) in [
+        ("'threatType':null", FieldFault::Missing(Field::ThreatType)),
+        ("'threatType':1", FieldFault::WrongKind(Field::ThreatType)),
+        ("'threatType':'X'", FieldFault::Name(Field::ThreatType)),
+        (
+            "'platformType':null",
+            FieldFault::Missing(Field::PlatformType),
+        ),
+        (
+            "'platformType':{}",
+            FieldFault::WrongKind(Field::PlatformType),
+        ),
+        ("'platformType':''", FieldFault::Name(Field::PlatformType)),
+        (
+            "'threatEntryType':null",
+            FieldFault::Missing(Field::ThreatEntryType),
+        ),
+        (
+            "'threatEntryType':2",
+            FieldFault::WrongKind(Field::ThreatEntryType),
+        ),
+        (
+            "'threatEntryType':'url'",
+            FieldFault::Name(Field::ThreatEntryType),
+        ),
+    ] {
+        refuses_asked(&rt, rt.alloc(), members, fault);
+    }
 }
 
 #[test]
-fn states(rt: HostRuntime) {
-    let alloc = rt.alloc();
-    refuses(&rt, alloc, "'state':1", FieldFault::WrongKind(Field::State));
-    refuses(&rt, alloc, "'state':'='", FieldFault::Base64(Field::State));
-    takes(&rt, alloc, "'state':null");
-    assert_eq!(rt; read_state(alloc, 5462).err(), None);
-    let long = FieldFault::Size(Field::State, 4097);
-    assert_eq!(rt;
-        read_state(alloc, 5463).err(),
-        Some(MessageFault::Field(long, 1))
-    );
+fn states_and_constraints(rt: HostRuntime) {
+    for (members, fault) in [
+        ("'state':1", FieldFault::WrongKind(Field::State)),
+        ("'state':'='", FieldFault::Base64(Field::State)),
+        (
+            "'constraints':[]",
+            FieldFault::WrongKind(Field::Constraints),
+        ),
+        (
+            "'constraints':{'maxUpdateEntries':true}",
+            FieldFault::WrongKind(Field::MaxUpdateEntries),
+        ),
+        (
+            "'constraints':{'maxUpdateEntries':2147483648}",
+            FieldFault::Number(Field::MaxUpdateEntries),
+        ),
+        (
+            "'constraints':{'maxDatabaseEntries':[]}",
+            FieldFault::WrongKind(Field::MaxDatabaseEntries),
+        ),
+        (
+            "'constraints':{'maxDatabaseEntries':-1}",
+            FieldFault::Number(Field::MaxDatabaseEntries),
+        ),
+        (
+            "'constraints':{'supportedCompressions':'RAW'}",
+            FieldFault::WrongKind(Field::SupportedCompressions),
+        ),
+        (
+            "'constraints':{'supportedCompressions':['RAW',null]}",
+            FieldFault::WrongKind(Field::SupportedCompressions),
+        ),
+        (
+            "'constraints':{'supportedCompressions':[1]}",
+            FieldFault::WrongKind(Field::SupportedCompressions),
+        ),
+    ] {
+        refuses_asked(&rt, rt.alloc(), members, fault);
+    }
 }
 
 #[test]
-fn limits(rt: HostRuntime) {
-    let alloc = rt.alloc();
-    let update = Field::MaxUpdateEntries;
-    let database = Field::MaxDatabaseEntries;
-    refuses(
-        &rt,
-        alloc,
-        "'constraints':[]",
-        FieldFault::WrongKind(Field::Constraints),
-    );
-    refuses(
-        &rt,
-        alloc,
-        "'constraints':{'maxUpdateEntries':true}",
-        FieldFault::WrongKind(update),
-    );
-    refuses(
-        &rt,
-        alloc,
-        "'constraints':{'maxUpdateEntries':2147483648}",
-        FieldFault::Number(update),
-    );
-    refuses(
-        &rt,
-        alloc,
-        "'constraints':{'maxDatabaseEntries':[]}",
-        FieldFault::WrongKind(database),
-    );
-    refuses(
-        &rt,
-        alloc,
-        "'constraints':{'maxDatabaseEntries':-1}",
-        FieldFault::Number(database),
-    );
-    takes(
-        &rt,
-        alloc,
+fn a_state_has_at_most_4096_bytes(rt: HostRuntime) {
+    let most = read_state(rt.alloc(), 5462).err();
+    assert_eq!(rt; most, None);
+    let more = read_state(rt.alloc(), 5463).err();
+    let wanted = Some(MessageFault::Field(FieldFault::Size(Field::State, 4097), 1));
+    assert_eq!(rt; more, wanted);
+}
+
+#[test]
+fn what_asked_lists_may_have(rt: HostRuntime) {
+    for members in [
+        "'state':null",
         "'constraints':{'maxUpdateEntries':2147483647,'maxDatabaseEntries':'2147483647'}",
-    );
-    takes(
-        &rt,
-        alloc,
         "'constraints':{'maxUpdateEntries':0,'maxDatabaseEntries':null}",
-    );
-}
-
-#[test]
-fn compressions(rt: HostRuntime) {
-    let alloc = rt.alloc();
-    let wrong = FieldFault::WrongKind(Field::SupportedCompressions);
-    refuses(
-        &rt,
-        alloc,
-        "'constraints':{'supportedCompressions':'RAW'}",
-        wrong,
-    );
-    refuses(
-        &rt,
-        alloc,
-        "'constraints':{'supportedCompressions':['RAW',null]}",
-        wrong,
-    );
-    refuses(
-        &rt,
-        alloc,
-        "'constraints':{'supportedCompressions':[1]}",
-        wrong,
-    );
-    takes(
-        &rt,
-        alloc,
         "'constraints':{'supportedCompressions':['RAW','ZIP','RAW']}",
-    );
+    ] {
+        assert_eq!(rt; read_asked(rt.alloc(), members).err(), None, "{members}");
+    }
 }
 
 #[test]
 fn the_first_fault_is_told(rt: HostRuntime) {
-    let alloc = rt.alloc();
-    let state = FieldFault::WrongKind(Field::State);
-    refuses(&rt, alloc, "'constraints':1,'state':1", state);
-    let update = FieldFault::WrongKind(Field::MaxUpdateEntries);
-    refuses(
-        &rt,
-        alloc,
-        "'constraints':{'supportedCompressions':1,'maxUpdateEntries':[]}",
-        update,
-    );
-    let second = FieldFault::WrongKind(Field::ListUpdateRequests);
-    let text =
-        "{'listUpdateRequests':[{'threatType':'MALWARE','platformType':'IOS','threatEntryType':'EXECUTABLE'},7,{}]}";
-    message(&rt, alloc, text, second, 2);
+    for (members, fault) in [
+        (
+            "'constraints':1,'state':1",
+            FieldFault::WrongKind(Field::State),
+        ),
+        (
+            "'constraints':{'supportedCompressions':1,'maxUpdateEntries':[]}",
+            FieldFault::WrongKind(Field::MaxUpdateEntries),
+        ),
+    ] {
+        refuses_asked(&rt, rt.alloc(), members, fault);
+    }
 }

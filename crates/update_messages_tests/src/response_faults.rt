@@ -8,6 +8,13 @@ use update_messages::read_response;
 const UPDATE: &str =
     "{'listUpdateResponses':[{'threatType':'MALWARE','platformType':'ANY_PLATFORM','threatEntryType':'URL','responseType':'FULL_UPDATE','checksum':{'sha256':'A6xnQhbz4Vx2HuGl4lXwZ5U2I8iziLRFnhP5eNfIRvQ='},";
 
+// What stands in an update before the value of its only set.
+const RAW_HASHES: &str = "'additions':[{'compressionType':'RAW','rawHashes':";
+
+const RAW_INDICES: &str = "'removals':[{'compressionType':'RAW','rawIndices':";
+
+const RICE_HASHES: &str = "'additions':[{'compressionType':'RICE','riceHashes':";
+
 fn read(alloc: Global, text: &str) -> Result<(), MessageFault> {
     let text = json(alloc, text)?;
     let _ = read_response(alloc, text.as_slice())?;
@@ -16,6 +23,14 @@ fn read(alloc: Global, text: &str) -> Result<(), MessageFault> {
 
 fn read_update(alloc: Global, members: &str) -> Result<(), MessageFault> {
     let text = between(alloc, UPDATE, members, "}]}")?;
+    let _ = read_response(alloc, text.as_slice())?;
+    Ok(())
+}
+
+fn read_set(alloc: Global, set: &str, value: &str) -> Result<(), MessageFault> {
+    let mut text = json(alloc, UPDATE)?;
+    let members = between(alloc, set, value, "}]}]}")?;
+    text.append(members.as_slice())?;
     let _ = read_response(alloc, text.as_slice())?;
     Ok(())
 }
@@ -30,468 +45,389 @@ fn read_state(alloc: Global, member: &str, count: usize) -> Result<(), MessageFa
     Ok(())
 }
 
-fn takes(rt: &impl Abort, alloc: Global, members: &str) {
-    assert_eq!(rt; read_update(alloc, members).err(), None);
+// Sees that a response is refused, in the item with this number.
+fn refuses(rt: &impl Abort, alloc: Global, text: &str, fault: FieldFault, item: u64) {
+    let wanted = Some(MessageFault::Field(fault, item));
+    assert_eq!(rt; read(alloc, text).err(), wanted, "{text}");
 }
 
-fn refuses(rt: &impl Abort, alloc: Global, members: &str, fault: FieldFault) {
-    assert_eq!(rt;
-        read_update(alloc, members).err(),
-        Some(MessageFault::Field(fault, 1))
-    );
+// Sees that one whose update has these members is refused.
+fn refuses_update(rt: &impl Abort, alloc: Global, members: &str, fault: FieldFault) {
+    let wanted = Some(MessageFault::Field(fault, 1));
+    assert_eq!(rt; read_update(alloc, members).err(), wanted, "{members}");
 }
 
-fn missing(rt: &impl Abort, alloc: Global, members: &str, field: Field) {
-    refuses(rt, alloc, members, FieldFault::Missing(field));
+// Sees that one whose update has a set of this value is refused.
+fn refuses_set(rt: &impl Abort, alloc: Global, set: &str, value: &str, fault: FieldFault) {
+    let wanted = Some(MessageFault::Field(fault, 1));
+    assert_eq!(rt; read_set(alloc, set, value).err(), wanted, "{set}{value}");
 }
 
-fn wrong_kind(rt: &impl Abort, alloc: Global, members: &str, field: Field) {
-    refuses(rt, alloc, members, FieldFault::WrongKind(field));
-}
-
-fn number(rt: &impl Abort, alloc: Global, members: &str, field: Field) {
-    refuses(rt, alloc, members, FieldFault::Number(field));
-}
-
-fn base64(rt: &impl Abort, alloc: Global, members: &str, field: Field) {
-    refuses(rt, alloc, members, FieldFault::Base64(field));
-}
-
-fn unnamed(rt: &impl Abort, alloc: Global, members: &str, field: Field) {
-    refuses(rt, alloc, members, FieldFault::Name(field));
-}
-
-fn sized(rt: &impl Abort, alloc: Global, members: &str, field: Field, size: u64) {
-    refuses(rt, alloc, members, FieldFault::Size(field, size));
-}
-
-// What is refused outside an update: the item is given.
-fn message(rt: &impl Abort, alloc: Global, text: &str, fault: FieldFault, item: u64) {
-    assert_eq!(rt;
-        read(alloc, text).err(),
-        Some(MessageFault::Field(fault, item))
-    );
+#[test]
+fn no_json(rt: HostRuntime) {
+    for text in ["[", ""] {
+        let fault = read(rt.alloc(), text).err();
+        assert_eq!(rt; fault, Some(MessageFault::NotJson), "{text}");
+    }
 }
 
 #[test]
 fn messages(rt: HostRuntime) {
-    let alloc = rt.alloc();
-    assert_eq!(rt; read(alloc, "[").err(), Some(MessageFault::NotJson));
-    assert_eq!(rt; read(alloc, "").err(), Some(MessageFault::NotJson));
-    assert_eq!(rt;
-        read(alloc, "{'listUpdateResponses':null,'x':1}").err(),
-        None
-    );
-    message(&rt, alloc, "[]", FieldFault::WrongKind(Field::Root), 0);
-    message(&rt, alloc, "null", FieldFault::WrongKind(Field::Root), 0);
-    message(
-        &rt,
-        alloc,
-        "{'listUpdateResponses':{}}",
-        FieldFault::WrongKind(Field::ListUpdateResponses),
-        0,
-    );
-    message(
-        &rt,
-        alloc,
-        "{'listUpdateResponses':[null]}",
-        FieldFault::WrongKind(Field::ListUpdateResponses),
-        1,
-    );
+    for (text, fault, item) in [
+        ("[]", FieldFault::WrongKind(Field::Root), 0),
+        ("null", FieldFault::WrongKind(Field::Root), 0),
+        (
+            "{'listUpdateResponses':{}}",
+            FieldFault::WrongKind(Field::ListUpdateResponses),
+            0,
+        ),
+        (
+            "{'listUpdateResponses':[null]}",
+            FieldFault::WrongKind(Field::ListUpdateResponses),
+            1,
+        ),
+        (
+            "{'minimumWaitDuration':1}",
+            FieldFault::WrongKind(Field::MinimumWaitDuration),
+            0,
+        ),
+        (
+            "{'minimumWaitDuration':'1'}",
+            FieldFault::Duration(Field::MinimumWaitDuration),
+            0,
+        ),
+        (
+            "{'minimumWaitDuration':'315576000001s'}",
+            FieldFault::Duration(Field::MinimumWaitDuration),
+            0,
+        ),
+        (
+            "{'minimumWaitDuration':1,'listUpdateResponses':[1]}",
+            FieldFault::WrongKind(Field::ListUpdateResponses),
+            1,
+        ),
+    ] {
+        refuses(&rt, rt.alloc(), text, fault, item);
+    }
 }
 
 #[test]
-fn durations(rt: HostRuntime) {
-    let alloc = rt.alloc();
-    let field = Field::MinimumWaitDuration;
-    assert_eq!(rt;
-        read(alloc, "{'minimumWaitDuration':'315576000000s'}").err(),
-        None
-    );
-    assert_eq!(rt; read(alloc, "{'minimumWaitDuration':null}").err(), None);
-    message(
-        &rt,
-        alloc,
-        "{'minimumWaitDuration':1}",
-        FieldFault::WrongKind(field),
-        0,
-    );
-    message(
-        &rt,
-        alloc,
-        "{'minimumWaitDuration':'1'}",
-        FieldFault::Duration(field),
-        0,
-    );
-    message(
-        &rt,
-        alloc,
-        "{'minimumWaitDuration':'315576000001s'}",
-        FieldFault::Duration(field),
-        0,
-    );
+fn what_messages_may_have(rt: HostRuntime) {
+    for text in [
+        "{'listUpdateResponses':null,'x':1}",
+        "{'minimumWaitDuration':'315576000000s'}",
+        "{'minimumWaitDuration':null}",
+    ] {
+        assert_eq!(rt; read(rt.alloc(), text).err(), None, "{text}");
+    }
 }
 
 #[test]
 fn names(rt: HostRuntime) {
-    let alloc = rt.alloc();
-    missing(&rt, alloc, "'threatType':null", Field::ThreatType);
-    wrong_kind(&rt, alloc, "'threatType':1", Field::ThreatType);
-    unnamed(&rt, alloc, "'threatType':'malware'", Field::ThreatType);
-    missing(&rt, alloc, "'platformType':null", Field::PlatformType);
-    wrong_kind(&rt, alloc, "'platformType':true", Field::PlatformType);
-    unnamed(&rt, alloc, "'platformType':'ANY'", Field::PlatformType);
-    missing(&rt, alloc, "'threatEntryType':null", Field::ThreatEntryType);
-    wrong_kind(&rt, alloc, "'threatEntryType':[]", Field::ThreatEntryType);
-    unnamed(&rt, alloc, "'threatEntryType':''", Field::ThreatEntryType);
-    missing(&rt, alloc, "'responseType':null", Field::ResponseType);
-    wrong_kind(&rt, alloc, "'responseType':{}", Field::ResponseType);
-    unnamed(&rt, alloc, "'responseType':'FULL'", Field::ResponseType);
-    takes(&rt, alloc, "'responseType':'PARTIAL_UPDATE','more':[{}]");
+    for (members, fault) in [
+        ("'threatType':null", FieldFault::Missing(Field::ThreatType)),
+        ("'threatType':1", FieldFault::WrongKind(Field::ThreatType)),
+        (
+            "'threatType':'malware'",
+            FieldFault::Name(Field::ThreatType),
+        ),
+        (
+            "'platformType':null",
+            FieldFault::Missing(Field::PlatformType),
+        ),
+        (
+            "'platformType':true",
+            FieldFault::WrongKind(Field::PlatformType),
+        ),
+        (
+            "'platformType':'ANY'",
+            FieldFault::Name(Field::PlatformType),
+        ),
+        (
+            "'threatEntryType':null",
+            FieldFault::Missing(Field::ThreatEntryType),
+        ),
+        (
+            "'threatEntryType':[]",
+            FieldFault::WrongKind(Field::ThreatEntryType),
+        ),
+        (
+            "'threatEntryType':''",
+            FieldFault::Name(Field::ThreatEntryType),
+        ),
+        (
+            "'responseType':null",
+            FieldFault::Missing(Field::ResponseType),
+        ),
+        (
+            "'responseType':{}",
+            FieldFault::WrongKind(Field::ResponseType),
+        ),
+        (
+            "'responseType':'FULL'",
+            FieldFault::Name(Field::ResponseType),
+        ),
+    ] {
+        refuses_update(&rt, rt.alloc(), members, fault);
+    }
 }
 
 #[test]
 fn sets(rt: HostRuntime) {
-    let alloc = rt.alloc();
-    wrong_kind(&rt, alloc, "'additions':{}", Field::Additions);
-    wrong_kind(&rt, alloc, "'additions':[null]", Field::Additions);
-    wrong_kind(&rt, alloc, "'removals':1", Field::Removals);
-    wrong_kind(&rt, alloc, "'removals':['RAW']", Field::Removals);
-    missing(&rt, alloc, "'additions':[{}]", Field::CompressionType);
-    wrong_kind(
-        &rt,
-        alloc,
-        "'removals':[{'compressionType':1}]",
-        Field::CompressionType,
-    );
-    unnamed(
-        &rt,
-        alloc,
-        "'additions':[{'compressionType':'Raw'}]",
-        Field::CompressionType,
-    );
-    missing(
-        &rt,
-        alloc,
-        "'additions':[{'compressionType':'RAW'}]",
-        Field::RawHashes,
-    );
-    missing(
-        &rt,
-        alloc,
-        "'removals':[{'compressionType':'RAW'}]",
-        Field::RawIndices,
-    );
-    missing(
-        &rt,
-        alloc,
-        "'additions':[{'compressionType':'RICE'}]",
-        Field::RiceHashes,
-    );
-    missing(
-        &rt,
-        alloc,
-        "'removals':[{'compressionType':'RICE'}]",
-        Field::RiceIndices,
-    );
-    takes(&rt, alloc, "'additions':null,'removals':[]");
-}
-
-fn raw(alloc: Global, hashes: &str) -> Result<(), MessageFault> {
-    let hashes = between(
-        alloc,
-        "'additions':[{'compressionType':'RAW','rawHashes':",
-        hashes,
-        "}]",
-    )?;
-    let mut text = json(alloc, UPDATE)?;
-    text.append(hashes.as_slice())?;
-    text.append(b"}]}")?;
-    let _ = read_response(alloc, text.as_slice())?;
-    Ok(())
-}
-
-fn refuses_raw(rt: &impl Abort, alloc: Global, hashes: &str, fault: FieldFault) {
-    assert_eq!(rt;
-        raw(alloc, hashes).err(),
-        Some(MessageFault::Field(fault, 1))
-    );
+    for (members, fault) in [
+        ("'additions':{}", FieldFault::WrongKind(Field::Additions)),
+        (
+            "'additions':[null]",
+            FieldFault::WrongKind(Field::Additions),
+        ),
+        ("'removals':1", FieldFault::WrongKind(Field::Removals)),
+        ("'removals':['RAW']", FieldFault::WrongKind(Field::Removals)),
+        (
+            "'additions':[{}]",
+            FieldFault::Missing(Field::CompressionType),
+        ),
+        (
+            "'removals':[{'compressionType':1}]",
+            FieldFault::WrongKind(Field::CompressionType),
+        ),
+        (
+            "'additions':[{'compressionType':'Raw'}]",
+            FieldFault::Name(Field::CompressionType),
+        ),
+        (
+            "'additions':[{'compressionType':'RAW'}]",
+            FieldFault::Missing(Field::RawHashes),
+        ),
+        (
+            "'removals':[{'compressionType':'RAW'}]",
+            FieldFault::Missing(Field::RawIndices),
+        ),
+        (
+            "'additions':[{'compressionType':'RICE'}]",
+            FieldFault::Missing(Field::RiceHashes),
+        ),
+        (
+            "'removals':[{'compressionType':'RICE'}]",
+            FieldFault::Missing(Field::RiceIndices),
+        ),
+        (
+            "'removals':[{'compressionType':'RICE','riceIndices':true}]",
+            FieldFault::WrongKind(Field::RiceIndices),
+        ),
+    ] {
+        refuses_update(&rt, rt.alloc(), members, fault);
+    }
 }
 
 #[test]
 fn raw_hashes(rt: HostRuntime) {
-    let alloc = rt.alloc();
-    refuses_raw(&rt, alloc, "[]", FieldFault::WrongKind(Field::RawHashes));
-    refuses_raw(&rt, alloc, "{}", FieldFault::Missing(Field::PrefixSize));
-    refuses_raw(
-        &rt,
-        alloc,
-        "{'prefixSize':[]}",
-        FieldFault::WrongKind(Field::PrefixSize),
-    );
-    refuses_raw(
-        &rt,
-        alloc,
-        "{'prefixSize':3}",
-        FieldFault::Number(Field::PrefixSize),
-    );
-    refuses_raw(
-        &rt,
-        alloc,
-        "{'prefixSize':33}",
-        FieldFault::Number(Field::PrefixSize),
-    );
-    refuses_raw(
-        &rt,
-        alloc,
-        "{'prefixSize':4.0}",
-        FieldFault::Number(Field::PrefixSize),
-    );
-    refuses_raw(
-        &rt,
-        alloc,
-        "{'prefixSize':'04'}",
-        FieldFault::Number(Field::PrefixSize),
-    );
-    assert_eq!(rt; raw(alloc, "{'prefixSize':'4'}").err(), None);
-    assert_eq!(rt; raw(alloc, "{'prefixSize':32}").err(), None);
-}
-
-#[test]
-fn raw_bytes(rt: HostRuntime) {
-    let alloc = rt.alloc();
-    let field = Field::RawHashBytes;
-    let wrong = FieldFault::WrongKind(field);
-    refuses_raw(&rt, alloc, "{'prefixSize':4,'rawHashes':4}", wrong);
-    let coded = FieldFault::Base64(field);
-    refuses_raw(&rt, alloc, "{'prefixSize':4,'rawHashes':'A'}", coded);
-    let short = FieldFault::Size(field, 3);
-    refuses_raw(&rt, alloc, "{'prefixSize':4,'rawHashes':'MTIz'}", short);
-    let small = FieldFault::Size(field, 4);
-    refuses_raw(
-        &rt,
-        alloc,
-        "{'prefixSize':32,'rawHashes':'MTIzNA=='}",
-        small,
-    );
-    assert_eq!(rt;
-        raw(alloc, "{'prefixSize':4,'rawHashes':'MTIzNA'}").err(),
-        None
-    );
-}
-
-fn indices(alloc: Global, items: &str) -> Result<(), MessageFault> {
-    let set = between(
-        alloc,
-        "'removals':[{'compressionType':'RAW','rawIndices':",
-        items,
-        "}]",
-    )?;
-    let mut text = json(alloc, UPDATE)?;
-    text.append(set.as_slice())?;
-    text.append(b"}]}")?;
-    let _ = read_response(alloc, text.as_slice())?;
-    Ok(())
-}
-
-fn refuses_indices(rt: &impl Abort, alloc: Global, items: &str, fault: FieldFault) {
-    assert_eq!(rt;
-        indices(alloc, items).err(),
-        Some(MessageFault::Field(fault, 1))
-    );
+    for (value, fault) in [
+        ("[]", FieldFault::WrongKind(Field::RawHashes)),
+        ("{}", FieldFault::Missing(Field::PrefixSize)),
+        (
+            "{'prefixSize':[]}",
+            FieldFault::WrongKind(Field::PrefixSize),
+        ),
+        ("{'prefixSize':3}", FieldFault::Number(Field::PrefixSize)),
+        ("{'prefixSize':33}", FieldFault::Number(Field::PrefixSize)),
+        ("{'prefixSize':4.0}", FieldFault::Number(Field::PrefixSize)),
+        ("{'prefixSize':'04'}", FieldFault::Number(Field::PrefixSize)),
+        (
+            "{'prefixSize':4,'rawHashes':4}",
+            FieldFault::WrongKind(Field::RawHashBytes),
+        ),
+        (
+            "{'prefixSize':4,'rawHashes':'A'}",
+            FieldFault::Base64(Field::RawHashBytes),
+        ),
+        (
+            "{'prefixSize':4,'rawHashes':'MTIz'}",
+            FieldFault::Size(Field::RawHashBytes, 3),
+        ),
+        (
+            "{'prefixSize':32,'rawHashes':'MTIzNA=='}",
+            FieldFault::Size(Field::RawHashBytes, 4),
+        ),
+        (
+            "{'prefixSize':3,'rawHashes':1}",
+            FieldFault::Number(Field::PrefixSize),
+        ),
+    ] {
+        refuses_set(&rt, rt.alloc(), RAW_HASHES, value, fault);
+    }
 }
 
 #[test]
 fn raw_indices(rt: HostRuntime) {
-    let alloc = rt.alloc();
-    let field = Field::Indices;
-    refuses_indices(&rt, alloc, "1", FieldFault::WrongKind(Field::RawIndices));
-    refuses_indices(&rt, alloc, "{'indices':{}}", FieldFault::WrongKind(field));
-    refuses_indices(
-        &rt,
-        alloc,
-        "{'indices':[0,null]}",
-        FieldFault::WrongKind(field),
-    );
-    refuses_indices(
-        &rt,
-        alloc,
-        "{'indices':[2147483648]}",
-        FieldFault::Number(field),
-    );
-    refuses_indices(&rt, alloc, "{'indices':[1,-1]}", FieldFault::Number(field));
-    assert_eq!(rt;
-        indices(alloc, "{'indices':[2147483647,'0',1]}").err(),
-        None
-    );
-    assert_eq!(rt; indices(alloc, "{}").err(), None);
-}
-
-fn rice(alloc: Global, record: &str) -> Result<(), MessageFault> {
-    let set = between(
-        alloc,
-        "'additions':[{'compressionType':'RICE','riceHashes':",
-        record,
-        "}]",
-    )?;
-    let mut text = json(alloc, UPDATE)?;
-    text.append(set.as_slice())?;
-    text.append(b"}]}")?;
-    let _ = read_response(alloc, text.as_slice())?;
-    Ok(())
-}
-
-fn refuses_rice(rt: &impl Abort, alloc: Global, record: &str, fault: FieldFault) {
-    assert_eq!(rt;
-        rice(alloc, record).err(),
-        Some(MessageFault::Field(fault, 1))
-    );
+    for (value, fault) in [
+        ("1", FieldFault::WrongKind(Field::RawIndices)),
+        ("{'indices':{}}", FieldFault::WrongKind(Field::Indices)),
+        (
+            "{'indices':[0,null]}",
+            FieldFault::WrongKind(Field::Indices),
+        ),
+        (
+            "{'indices':[2147483648]}",
+            FieldFault::Number(Field::Indices),
+        ),
+        ("{'indices':[1,-1]}", FieldFault::Number(Field::Indices)),
+    ] {
+        refuses_set(&rt, rt.alloc(), RAW_INDICES, value, fault);
+    }
 }
 
 #[test]
-fn rice_kinds(rt: HostRuntime) {
-    let alloc = rt.alloc();
-    refuses_rice(&rt, alloc, "[]", FieldFault::WrongKind(Field::RiceHashes));
-    refuses_rice(
-        &rt,
-        alloc,
-        "{'firstValue':true}",
-        FieldFault::WrongKind(Field::FirstValue),
-    );
-    refuses_rice(
-        &rt,
-        alloc,
-        "{'riceParameter':[]}",
-        FieldFault::WrongKind(Field::RiceParameter),
-    );
-    refuses_rice(
-        &rt,
-        alloc,
-        "{'numEntries':{}}",
-        FieldFault::WrongKind(Field::NumEntries),
-    );
-    refuses_rice(
-        &rt,
-        alloc,
-        "{'encodedData':1}",
-        FieldFault::WrongKind(Field::EncodedData),
-    );
-    refuses_rice(
-        &rt,
-        alloc,
-        "{'encodedData':'sQ='}",
-        FieldFault::Base64(Field::EncodedData),
-    );
-    wrong_kind(
-        &rt,
-        alloc,
-        "'removals':[{'compressionType':'RICE','riceIndices':true}]",
-        Field::RiceIndices,
-    );
+fn rice_records(rt: HostRuntime) {
+    for (value, fault) in [
+        ("[]", FieldFault::WrongKind(Field::RiceHashes)),
+        (
+            "{'firstValue':true}",
+            FieldFault::WrongKind(Field::FirstValue),
+        ),
+        (
+            "{'riceParameter':[]}",
+            FieldFault::WrongKind(Field::RiceParameter),
+        ),
+        (
+            "{'numEntries':{}}",
+            FieldFault::WrongKind(Field::NumEntries),
+        ),
+        (
+            "{'encodedData':1}",
+            FieldFault::WrongKind(Field::EncodedData),
+        ),
+        (
+            "{'encodedData':'sQ='}",
+            FieldFault::Base64(Field::EncodedData),
+        ),
+        (
+            "{'firstValue':'9223372036854775808'}",
+            FieldFault::Number(Field::FirstValue),
+        ),
+        (
+            "{'riceParameter':2147483648}",
+            FieldFault::Number(Field::RiceParameter),
+        ),
+        ("{'numEntries':-1}", FieldFault::Number(Field::NumEntries)),
+    ] {
+        refuses_set(&rt, rt.alloc(), RICE_HASHES, value, fault);
+    }
 }
 
 #[test]
-fn rice_ranges(rt: HostRuntime) {
-    let alloc = rt.alloc();
-    let first = FieldFault::Number(Field::FirstValue);
-    refuses_rice(&rt, alloc, "{'firstValue':'9223372036854775808'}", first);
-    let parameter = FieldFault::Number(Field::RiceParameter);
-    refuses_rice(&rt, alloc, "{'riceParameter':2147483648}", parameter);
-    let count = FieldFault::Number(Field::NumEntries);
-    refuses_rice(&rt, alloc, "{'numEntries':-1}", count);
-    assert_eq!(rt;
-        rice(alloc, "{'firstValue':'9223372036854775807'}").err(),
-        None
-    );
-    assert_eq!(rt;
-        rice(
-            alloc,
-            "{'riceParameter':2147483647,'numEntries':2147483647}"
-        )
-        .err(),
-        None
-    );
-    assert_eq!(rt; rice(alloc, "{}").err(), None);
+fn what_sets_may_have(rt: HostRuntime) {
+    for (set, value) in [
+        (RAW_HASHES, "{'prefixSize':'4'}"),
+        (RAW_HASHES, "{'prefixSize':32}"),
+        (RAW_HASHES, "{'prefixSize':4,'rawHashes':'MTIzNA'}"),
+        (RAW_INDICES, "{'indices':[2147483647,'0',1]}"),
+        (RAW_INDICES, "{}"),
+        (RICE_HASHES, "{'firstValue':'9223372036854775807'}"),
+        (
+            RICE_HASHES,
+            "{'riceParameter':2147483647,'numEntries':2147483647}",
+        ),
+        (RICE_HASHES, "{}"),
+    ] {
+        assert_eq!(rt;
+            read_set(rt.alloc(), set, value).err(),
+            None,
+            "{set}{value}"
+        );
+    }
 }
 
 #[test]
-fn states(rt: HostRuntime) {
-    let alloc = rt.alloc();
-    wrong_kind(&rt, alloc, "'newClientState':1", Field::NewClientState);
-    base64(&rt, alloc, "'newClientState':'A==='", Field::NewClientState);
-    wrong_kind(&rt, alloc, "'baseState':{}", Field::BaseState);
-    base64(&rt, alloc, "'baseState':'AR=='", Field::BaseState);
-    takes(&rt, alloc, "'newClientState':null,'baseState':'_-8'");
-    let new_state = FieldFault::Size(Field::NewClientState, 4097);
-    assert_eq!(rt; read_state(alloc, "'newClientState'", 5462).err(), None);
-    assert_eq!(rt;
-        read_state(alloc, "'newClientState'", 5463).err(),
-        Some(MessageFault::Field(new_state, 1))
-    );
-    let base = FieldFault::Size(Field::BaseState, 4097);
-    assert_eq!(rt; read_state(alloc, "'baseState'", 5462).err(), None);
-    assert_eq!(rt;
-        read_state(alloc, "'baseState'", 5463).err(),
-        Some(MessageFault::Field(base, 1))
-    );
+fn states_and_checksums(rt: HostRuntime) {
+    for (members, fault) in [
+        (
+            "'newClientState':1",
+            FieldFault::WrongKind(Field::NewClientState),
+        ),
+        (
+            "'newClientState':'A==='",
+            FieldFault::Base64(Field::NewClientState),
+        ),
+        ("'baseState':{}", FieldFault::WrongKind(Field::BaseState)),
+        ("'baseState':'AR=='", FieldFault::Base64(Field::BaseState)),
+        ("'checksum':null", FieldFault::Missing(Field::Checksum)),
+        ("'checksum':'A6xn'", FieldFault::WrongKind(Field::Checksum)),
+        ("'checksum':{}", FieldFault::Missing(Field::Sha256)),
+        (
+            "'checksum':{'sha256':1}",
+            FieldFault::WrongKind(Field::Sha256),
+        ),
+        (
+            "'checksum':{'sha256':'?'}",
+            FieldFault::Base64(Field::Sha256),
+        ),
+        (
+            "'checksum':{'sha256':'AQ=='}",
+            FieldFault::Size(Field::Sha256, 1),
+        ),
+        (
+            "'checksum':{'sha256':''}",
+            FieldFault::Size(Field::Sha256, 0),
+        ),
+    ] {
+        refuses_update(&rt, rt.alloc(), members, fault);
+    }
 }
 
 #[test]
-fn checksums(rt: HostRuntime) {
-    let alloc = rt.alloc();
-    missing(&rt, alloc, "'checksum':null", Field::Checksum);
-    wrong_kind(&rt, alloc, "'checksum':'A6xn'", Field::Checksum);
-    missing(&rt, alloc, "'checksum':{}", Field::Sha256);
-    wrong_kind(&rt, alloc, "'checksum':{'sha256':1}", Field::Sha256);
-    base64(&rt, alloc, "'checksum':{'sha256':'?'}", Field::Sha256);
-    sized(&rt, alloc, "'checksum':{'sha256':'AQ=='}", Field::Sha256, 1);
-    sized(&rt, alloc, "'checksum':{'sha256':''}", Field::Sha256, 0);
+fn a_state_has_at_most_4096_bytes(rt: HostRuntime) {
+    for (member, field) in [
+        ("'newClientState'", Field::NewClientState),
+        ("'baseState'", Field::BaseState),
+    ] {
+        let most = read_state(rt.alloc(), member, 5462).err();
+        assert_eq!(rt; most, None, "{member}");
+        let more = read_state(rt.alloc(), member, 5463).err();
+        let wanted = Some(MessageFault::Field(FieldFault::Size(field, 4097), 1));
+        assert_eq!(rt; more, wanted, "{member}");
+    }
+}
+
+#[test]
+fn what_updates_may_have(rt: HostRuntime) {
+    for members in [
+        "'responseType':'PARTIAL_UPDATE','more':[{}]",
+        "'additions':null,'removals':[]",
+        "'newClientState':null,'baseState':'_-8'",
+    ] {
+        assert_eq!(rt; read_update(rt.alloc(), members).err(), None, "{members}");
+    }
 }
 
 #[test]
 fn the_first_fault_is_told(rt: HostRuntime) {
-    let alloc = rt.alloc();
-    missing(
-        &rt,
-        alloc,
-        "'platformType':null,'threatType':null",
-        Field::ThreatType,
-    );
-    missing(
-        &rt,
-        alloc,
-        "'checksum':null,'additions':[{}]",
-        Field::CompressionType,
-    );
-    wrong_kind(&rt, alloc, "'removals':1,'additions':1", Field::Additions);
-    wrong_kind(
-        &rt,
-        alloc,
-        "'baseState':1,'newClientState':1",
-        Field::NewClientState,
-    );
-    message(
-        &rt,
-        alloc,
-        "{'minimumWaitDuration':1,'listUpdateResponses':[1]}",
-        FieldFault::WrongKind(Field::ListUpdateResponses),
-        1,
-    );
-    refuses_raw(
-        &rt,
-        alloc,
-        "{'prefixSize':3,'rawHashes':1}",
-        FieldFault::Number(Field::PrefixSize),
-    );
+    for (members, fault) in [
+        (
+            "'platformType':null,'threatType':null",
+            FieldFault::Missing(Field::ThreatType),
+        ),
+        (
+            "'checksum':null,'additions':[{}]",
+            FieldFault::Missing(Field::CompressionType),
+        ),
+        (
+            "'removals':1,'additions':1",
+            FieldFault::WrongKind(Field::Additions),
+        ),
+        (
+            "'baseState':1,'newClientState':1",
+            FieldFault::WrongKind(Field::NewClientState),
+        ),
+    ] {
+        refuses_update(&rt, rt.alloc(), members, fault);
+    }
 }
 
 #[test]
 fn items_count_from_1(rt: HostRuntime) {
-    let alloc = rt.alloc();
     let end = "},{'threatType':'MALWARE'},1]}";
-    let text = between(alloc, UPDATE, "'x':1", end);
-    let told = match text {
-        Ok(text) => read_response(alloc, text.as_slice()).err(),
+    let told = match between(rt.alloc(), UPDATE, "'x':1", end) {
+        Ok(text) => read_response(rt.alloc(), text.as_slice()).err(),
         Err(_) => None,
     };
     let fault = FieldFault::Missing(Field::PlatformType);
