@@ -2,7 +2,7 @@
 use crate::CaseFault;
 use crate::book::{Book, Reader};
 use crate::case_link::CaseLink;
-use crate::fields::{field, fields, lasting_field, numbers};
+use crate::fields::{field, fields, lasting_field, numbers, own_field};
 use crate::plays::{has_server, sessions};
 use crate::sheet::{Scope, rest_of, word_of};
 use crate::words::{low_word, number_of, size_of_number};
@@ -53,6 +53,15 @@ impl<'a> Place<'a> {
         field(&self.book.sheet, &self.scope, name)
     }
 
+    /// The line that says what the keeper keeps at first: of a further run, its own alone.
+    fn store_field(&self) -> Option<usize> {
+        let is_first = self.scope.before.from >= self.scope.before.to;
+        if is_first {
+            return self.field(b"store");
+        }
+        own_field(&self.book.sheet, &self.scope, b"store")
+    }
+
     /// The lines of fields that may stand several times.
     pub fn fields(&self, reader: &Reader, names: &[&[u8]]) -> Result<Row<usize>, OutOfMemory> {
         fields(reader.alloc, &self.book.sheet, &self.scope, names)
@@ -70,7 +79,7 @@ impl<'a> Place<'a> {
     }
 }
 
-/// The objects of a run. The keeper keeps this text, or nothing.
+/// The objects of a run. This is what the keeper kept at the end of the run before, if it kept anything.
 pub fn objects_of(
     reader: &mut Reader,
     place: &Place<'_>,
@@ -128,10 +137,9 @@ fn keeper_of(
     for line in place.fields(reader, &[b"keeper-fails"])?.iter() {
         failing.push(failure_of(place.book.sheet.rest(*line), *line)?)?;
     }
-    let kept = match (store, place.field(b"store")) {
-        (Some(text), _) => Some(text),
-        (None, Some(line)) => Some(reader.text(place.book, line)?),
-        (None, None) => None,
+    let kept = match place.store_field() {
+        Some(line) => Some(reader.text(place.book, line)?),
+        None => store,
     };
     Ok(MemoryKeeper::new(reader.alloc, kept, failing))
 }

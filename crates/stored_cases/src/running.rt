@@ -22,7 +22,7 @@ pub struct Left {
     pub sent: Row<Bytes>,
 }
 
-/// Makes a run, whose keeper keeps this text or what the run's fields say.
+/// Makes a run. This is what the keeper kept at the end of the run before, if it kept anything.
 pub fn run(
     reader: &mut Reader,
     place: &Place<'_>,
