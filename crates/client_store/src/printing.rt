@@ -3,16 +3,14 @@ ghost use Rattle.client_store.specs.Printed.{cause_text};
 
 use crate::StoreFault;
 use hash_prefixes::append_hex;
-use itoa::Buffer;
 use sb_model::{Bytes, OutOfMemory};
 
 // Appends a word and a number.
 fn push_counted(page: &mut Bytes, word: &str, number: u64) -> Result<(), OutOfMemory>
     ensures { OnOk result (page.new ≡ page.old ++ (word.now ++ decimal number)) }
 {
-    let mut buffer = Buffer::new();
     page.append(word.as_bytes())?;
-    page.append(buffer.format(number).as_bytes())
+    page.append_decimal(number)
 }
 
 // Appends both digests.

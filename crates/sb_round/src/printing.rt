@@ -1,18 +1,9 @@
-ghost use Rattle.std.specs.Prelude.{◌≡◌, ◌++◌, decimal, OnOk};
+ghost use Rattle.std.specs.Prelude.{◌≡◌, ◌++◌, OnOk};
 ghost use Rattle.sb_model.specs.Names.{text_of};
 ghost use Rattle.sb_round.specs.Printed.{result_text, taken_text};
 
-use itoa::Buffer;
 use sb_model::{Bytes, ListName, OutOfMemory};
 use update_client::{ListResult, push_update_cause};
-
-/// Appends a number in decimal.
-pub fn push_number(page: &mut Bytes, number: u64) -> Result<(), OutOfMemory>
-    ensures { OnOk result (page.new ≡ page.old ++ decimal number) }
-{
-    let mut buffer = Buffer::new();
-    page.append(buffer.format(number).as_bytes())
-}
 
 /// Appends a list's name.
 pub fn push_name(page: &mut Bytes, name: ListName) -> Result<(), OutOfMemory>
@@ -31,7 +22,7 @@ fn push_result(page: &mut Bytes, update: &ListResult) -> Result<(), OutOfMemory>
     match update {
         ListResult::Installed(entries) => {
             page.append(b"installed ")?;
-            push_number(page, u64::from(*entries))
+            page.append_decimal(u64::from(*entries))
         }
         ListResult::Refused(fault) => {
             page.append(b"refused ")?;

@@ -3,7 +3,7 @@ ghost use Rattle.std.specs.List.{flat_map};
 ghost use Rattle.sb_json.specs.Printed.{cause_text};
 ghost use Rattle.sb_round.specs.Printed.{round_line, fault_text, ending_text, end_text, update_line, update_lines, round_lines, taken_text};
 
-use crate::printing::{push_number, push_taken};
+use crate::printing::push_taken;
 use crate::rounds::{RoundEnd, RoundFault, Taken};
 use http_edge::push_exchange_cause;
 use sb_json::{MessageFault, push_message_cause};
@@ -14,7 +14,7 @@ fn push_round_number(page: &mut Bytes, number: u64) -> Result<(), OutOfMemory>
     ensures { OnOk result (page.new ≡ page.old ++ (codes "round " ++ decimal number ++ codes " ")) }
 {
     page.append(b"round ")?;
-    push_number(page, number)?;
+    page.append_decimal(number)?;
     page.push(b' ')
 }
 
@@ -55,7 +55,7 @@ fn push_end(page: &mut Bytes, end: &RoundEnd) -> Result<(), OutOfMemory>
     ensures { OnOk result (page.new ≡ page.old ++ end_text end.now) }
 {
     page.append(b"at ")?;
-    push_number(page, end.begun.0)?;
+    page.append_decimal(end.begun.0)?;
     page.push(b' ')?;
     push_ending(page, &end.taken)
 }
@@ -79,7 +79,7 @@ pub fn push_update_line(page: &mut Bytes, number: u64, taken: &Taken) -> Result<
 }
 
 // Appends the lines of the updates, in order.
-fn push_each(page: &mut Bytes, number: u64, taken: &[Taken]) -> Result<(), OutOfMemory>
+fn push_each_update(page: &mut Bytes, number: u64, taken: &[Taken]) -> Result<(), OutOfMemory>
     ensures { OnOk result (page.new ≡ page.old ++ flat_map (update_line number) taken.now) }
 {
     for item in taken {
@@ -97,7 +97,7 @@ fn push_update_lines(
     ensures { OnOk result (page.new ≡ page.old ++ update_lines number taken.now) }
 {
     match taken {
-        Ok(taken) => push_each(page, number, taken.as_slice()),
+        Ok(taken) => push_each_update(page, number, taken.as_slice()),
         Err(_) => Ok(()),
     }
 }

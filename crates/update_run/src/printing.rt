@@ -4,7 +4,7 @@ ghost use Rattle.update_run.specs.Printed.{list_line, saved_line};
 
 use client_store::{StoreFault, push_store_cause};
 use sb_model::{Bytes, OutOfMemory};
-use sb_round::{push_name, push_number};
+use sb_round::push_name;
 use update_client::{HeldList, push_token};
 
 /// Appends the line of a store that is ignored.
@@ -21,7 +21,7 @@ pub(crate) fn push_saved_line(page: &mut Bytes, number: u64) -> Result<(), OutOf
     ensures { OnOk result (page.new ≡ page.old ++ saved_line number) }
 {
     page.append(b"round ")?;
-    push_number(page, number)?;
+    page.append_decimal(number)?;
     page.append(b" saved\n")
 }
 
@@ -32,7 +32,7 @@ pub fn push_list_line(page: &mut Bytes, held: &HeldList) -> Result<(), OutOfMemo
     page.append(b"list ")?;
     push_name(page, held.name)?;
     page.push(b' ')?;
-    push_number(page, u64::from(held.set.len()))?;
+    page.append_decimal(u64::from(held.set.len()))?;
     page.push(b' ')?;
     push_token(page, held.token.as_slice())?;
     page.push(b'\n')

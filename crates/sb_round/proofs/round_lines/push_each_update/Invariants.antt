@@ -1,7 +1,7 @@
 use Rattle.std.proofs.Common.{◌≡◌, ◌++◌, drop}
 use Rattle.std.specs.List.{flat_map}
 use Rattle.sb_round.specs.Printed.{update_line}
-use Rattle.sb_round.proofs.round_lines.push_each.Given as goal
+use Rattle.sb_round.proofs.round_lines.push_each_update.Given as goal
 
 -- the lines so far, and those that are left, are all lines
 abbrev pub invariant-loop-item : goal.invariant-loop-item
