@@ -42,8 +42,10 @@ else
 	@bash demo/run.sh
 endif
 
-# A second program of the same rules, in Python, has to print what sbupdate, sbcheck and sblistd print.
+# A second program of the same rules, in Python, has to print what sbupdate, sbcheck and sblistd print, and what the stored
+# cases say.
 compare: all
+	python3 compare/cases.py
 	python3 compare/compare.py
 
 # Drives sblistd over loopback with curl, and shows what the programs say of what they cannot use.

@@ -4,10 +4,6 @@
 #[cfg(test)]
 mod broken;
 #[cfg(test)]
-mod large;
-#[cfg(test)]
-mod names;
-#[cfg(test)]
 mod printing;
 #[cfg(test)]
 mod selecting;

@@ -1,4 +1,3 @@
-use client_store::{StoreFault, read_store};
 use sb_model::{Bytes, EntryType, ListName, OutOfMemory, PlatformType, ThreatType};
 use sha2::{Digest, Sha256};
 use std::alloc::Global;
@@ -30,12 +29,6 @@ pub fn sealed(alloc: Global, body: &[u8]) -> Result<Bytes, OutOfMemory> {
     let mut text = Bytes::from_slice(alloc, body)?;
     text.append(&Sha256::digest(body))?;
     Ok(text)
-}
-
-/// Why a body with its digest is not read, if it is not.
-pub fn fault_of(alloc: Global, body: &[u8]) -> Result<Option<StoreFault>, OutOfMemory> {
-    let text = sealed(alloc, body)?;
-    Ok(read_store(alloc, text.as_slice()).err())
 }
 
 /// Whether two lists are the same.

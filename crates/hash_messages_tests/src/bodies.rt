@@ -20,19 +20,6 @@ pub fn between(alloc: Global, before: &str, text: &str, after: &str) -> Result<B
     Ok(bytes)
 }
 
-// A text so many times, with a comma after each but the last.
-pub fn listed(alloc: Global, text: &str, count: usize) -> Result<Bytes, OutOfMemory> {
-    let item = json(alloc, text)?;
-    let mut bytes = Bytes::new(alloc);
-    for place in 0..count {
-        if place > 0 {
-            bytes.push(b',')?;
-        }
-        bytes.append(item.as_slice())?;
-    }
-    Ok(bytes)
-}
-
 // So many zero bits as base64 without padding, six for each letter.
 pub fn letters(alloc: Global, count: usize) -> Result<Bytes, OutOfMemory> {
     let mut bytes = Bytes::with_capacity(alloc, count)?;

@@ -6,8 +6,6 @@ mod bodies;
 #[cfg(test)]
 mod limits;
 #[cfg(test)]
-mod request_faults;
-#[cfg(test)]
 mod requests;
 #[cfg(test)]
 mod response_faults;

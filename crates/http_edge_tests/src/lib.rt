@@ -4,11 +4,7 @@
 #[cfg(test)]
 mod asking;
 #[cfg(test)]
-mod chunks;
-#[cfg(test)]
 mod exchanges;
-#[cfg(test)]
-mod limits;
 #[cfg(test)]
 mod requests;
 #[cfg(test)]

@@ -2,7 +2,7 @@
 ghost use Rattle.std.specs.Prelude.{◌≡◌, ◌<◌};
 
 use crate::journals::{MIXED, loaded, name};
-use crate::limits::many_changes;
+use crate::many_changes::changes_of;
 use hash_prefixes::FullHash;
 use list_versions::History;
 use sb_model::{Bytes, OutOfMemory, Row, Steps};
@@ -63,7 +63,7 @@ fn the_full_hashes_of_a_version_rise(rt: HostRuntime) {
 
 // 65,536 hash lines, which make a checkpoint of version 64, and two changes more.
 fn past_a_checkpoint(alloc: Global) -> Result<Bytes, OutOfMemory> {
-    let mut text = many_changes(alloc, 64)?;
+    let mut text = changes_of(alloc, 64)?;
     text.append(REMOVED_AND_ADDED)?;
     Ok(text)
 }

@@ -1,4 +1,4 @@
-use crate::journals::{FIRST, MIXED, SECOND, cut_at, grown, joined, loaded, name, source};
+use crate::journals::{FIRST, MIXED, SECOND, grown, joined, loaded, name};
 use hash_prefixes::{FullHash, Prefix};
 use list_versions::{History, JournalFault};
 use prefix_set::PrefixSet;
@@ -52,18 +52,6 @@ fn a_record_that_has_not_ended_is_the_rest(rt: HostRuntime) {
 }
 
 #[test]
-fn every_cut_comes_to_the_same(rt: HostRuntime) {
-    let journal = joined(rt.alloc(), FIRST, SECOND).expect(&rt, "memory");
-    for at in 26..=journal.len() {
-        let history = cut_at(rt.alloc(), journal.as_slice(), at).expect(&rt, "a journal");
-        assert!(rt; history.len() == 2 && history.rest_len() == 0);
-        let newest = history.newest(name()).expect(&rt, "a declared list");
-        assert!(rt; has(&newest.set, &[b"1234"]));
-        assert!(rt; newest.digest == newest.set.digest());
-    }
-}
-
-#[test]
 fn a_refused_growth_leaves_the_history(rt: HostRuntime) {
     let journal = joined(rt.alloc(), FIRST, &SECOND[..40]).expect(&rt, "memory");
     let mut history = loaded(rt.alloc(), journal.as_slice()).expect(&rt, "a journal");
@@ -83,51 +71,6 @@ fn a_refused_growth_leaves_the_history(rt: HostRuntime) {
         has(
             &history.newest(name()).expect(&rt, "a list").set,
             &[b"1234"]
-        )
-    );
-}
-
-#[test]
-fn a_bad_line_before_a_read_fault_is_told(rt: HostRuntime) {
-    let mut failing = source(rt.alloc(), FIRST, &[2]).expect(&rt, "memory");
-    let failed = History::load(rt.alloc(), &mut failing);
-    assert!(rt; matches!(failed, Err(JournalFault::ReadFault)));
-    let journal = joined(rt.alloc(), FIRST, b"list X/Y/Z 4\n").expect(&rt, "memory");
-    let mut failing = source(rt.alloc(), journal.as_slice(), &[2]).expect(&rt, "memory");
-    let bad = History::load(rt.alloc(), &mut failing);
-    assert!(rt; matches!(bad, Err(JournalFault::Line(6))));
-}
-
-#[test]
-fn each_fault_has_its_line(rt: HostRuntime) {
-    for (line, fault) in [
-        (&b"list X/Y/Z 4\n"[..], JournalFault::Line(6)),
-        (
-            b"change MALWARE/ANY_PLATFORM/URL 0 0\n",
-            JournalFault::Line(6),
-        ),
-        (
-            b"change MALWARE/LINUX/URL 1 0\n",
-            JournalFault::UnknownList(6),
-        ),
-        (
-            b"list MALWARE/ANY_PLATFORM/URL 8\n",
-            JournalFault::ListTwice(6),
-        ),
-        (
-            b"change MALWARE/ANY_PLATFORM/URL 1 0\n-\n",
-            JournalFault::Line(7),
-        ),
-    ] {
-        let mut history = loaded(rt.alloc(), FIRST).expect(&rt, "a journal");
-        let refused = grown(rt.alloc(), &mut history, line);
-        assert!(rt; refused == Err(fault));
-    }
-    assert!(rt; matches!(loaded(rt.alloc(), b"sblist 1"), Err(JournalFault::Header)));
-    assert!(rt;
-        matches!(
-            loaded(rt.alloc(), b"sblist 3 0000000000000001\n"),
-            Err(JournalFault::Header)
         )
     );
 }

@@ -1,5 +1,3 @@
-ghost use Rattle.std.specs.Prelude.{◌≤◌, length};
-
 use list_versions::{History, JournalFault};
 use sb_model::{Bytes, EntryType, ListName, OutOfMemory, PlatformType, Row, ThreatType};
 use sb_outside::MemorySource;
@@ -62,13 +60,4 @@ pub(crate) fn joined(alloc: Global, first: &[u8], second: &[u8]) -> Result<Bytes
     let mut text = Bytes::from_slice(alloc, first)?;
     text.append(second)?;
     Ok(text)
-}
-
-/// The history of the front of a journal, grown by the rest.
-pub(crate) fn cut_at(alloc: Global, journal: &[u8], at: usize) -> Result<History, JournalFault>
-    requires { at ≤ length journal.now }
-{
-    let mut history = loaded(alloc, &journal[..at])?;
-    grown(alloc, &mut history, &journal[at..])?;
-    Ok(history)
 }

@@ -10,8 +10,6 @@ mod histories;
 #[cfg(test)]
 mod journals;
 #[cfg(test)]
-mod largest;
-#[cfg(test)]
-mod limits;
+mod many_changes;
 #[cfg(test)]
 mod tests;

@@ -1,7 +1,5 @@
-//! The tests of `sb_service` that speak HTTP: one connection in memory, and a server that runs at a port of this machine.
+//! The tests of `sb_service` at a port of this machine. What one connection is answered is shown by the stored cases.
 #![tactic(auto)]
 
-#[cfg(test)]
-mod connection;
 #[cfg(test)]
 mod loopback;

@@ -1,7 +1,7 @@
 //! Fields that are absent, and values of each kind where another should stand.
 use sb_json::{
-    Field, FieldFault, MessageFault, bytes, bytes_item, duration, duration_item, field, items,
-    items_item, object, object_item, read_json, string, string_item, text, whole, whole_item,
+    Field, FieldFault, bytes, bytes_item, duration, duration_item, field, items, items_item,
+    object, object_item, read_json, string, string_item, text, whole, whole_item,
 };
 use serde_json::Value;
 use std::alloc::Global;
@@ -198,32 +198,4 @@ fn null_is_no_item(rt: HostRuntime) -> Result<(), Fail> {
         );
     }
     Ok(())
-}
-
-/// Sees that the bytes are no JSON.
-fn is_no_json(rt: &impl Abort, alloc: Global, bytes: &[u8]) {
-    match read_json(alloc, bytes) {
-        Ok(_) => assert!(rt; false, "read"),
-        Err(fault) => assert_eq!(rt; fault, MessageFault::NotJson),
-    }
-}
-
-#[test]
-fn other_bytes_are_no_json(rt: HostRuntime) {
-    for bytes in [
-        b"" as &[u8],
-        b" ",
-        b"[",
-        b"{\"a\":}",
-        b"{\"a\":1,}",
-        b"nul",
-        b"01",
-        b"1 2",
-        b"\"\xff\"",
-        b"'a'",
-        b"{}x",
-        b"\xef\xbb\xbf{}",
-    ] {
-        is_no_json(&rt, rt.alloc(), bytes);
-    }
 }

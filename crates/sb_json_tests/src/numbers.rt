@@ -68,50 +68,6 @@ fn numbers_above_the_limit_are_refused(rt: HostRuntime) -> Result<(), Fail> {
 }
 
 #[test]
-fn numbers_of_other_forms_are_refused(rt: HostRuntime) -> Result<(), Fail> {
-    for json in [
-        "-1",
-        "-0",
-        "1.0",
-        "0.5",
-        "1e2",
-        "1E2",
-        "1e0",
-        "1e-1",
-        "-9223372036854775808",
-    ] {
-        is_refused(&rt, rt.alloc(), json, u64::MAX)?;
-    }
-    Ok(())
-}
-
-#[test]
-fn strings_of_other_forms_are_refused(rt: HostRuntime) -> Result<(), Fail> {
-    for json in [
-        "\"\"",
-        "\"00\"",
-        "\"01\"",
-        "\"0001\"",
-        "\"-1\"",
-        "\"-0\"",
-        "\"+1\"",
-        "\"1.0\"",
-        "\"1e2\"",
-        "\" 1\"",
-        "\"1 \"",
-        "\"1\\n\"",
-        "\"0x1\"",
-        "\"1_0\"",
-        "\"a\"",
-        "\"\u{661}\"",
-        "\"null\"",
-    ] {
-        is_refused(&rt, rt.alloc(), json, u64::MAX)?;
-    }
-    Ok(())
-}
-
-#[test]
 fn an_item_is_read_as_a_number(rt: HostRuntime) -> Result<(), Fail> {
     let value = read_json(rt.alloc(), b"\"12\"")?;
     assert_eq!(rt; whole_item(&value, Field::Indices, 12), Ok(12));

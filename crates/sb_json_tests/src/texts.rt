@@ -1,5 +1,5 @@
-//! Strings, durations, lists, objects, and keys that stand twice.
-use sb_json::{Field, FieldFault, bytes, duration, field, items, object, read_json, string, text};
+//! Strings, durations, lists and objects.
+use sb_json::{Field, FieldFault, bytes, duration, items, object, read_json, string, text};
 use sb_model::Duration;
 use serde_json::Value;
 use std::alloc::Global;
@@ -32,35 +32,6 @@ fn durations_are_read(rt: HostRuntime) -> Result<(), Fail> {
         ("315576000000.000000000s", 315_576_000_000, 0),
     ] {
         lasts(&rt, rt.alloc(), text, seconds, nanos)?;
-    }
-    Ok(())
-}
-
-/// Sees that a text is no duration.
-fn is_no_duration(rt: &impl Abort, alloc: Global, text: &str) -> Result<(), Fail> {
-    let fault = FieldFault::Duration(Field::CacheDuration);
-    assert_eq!(rt; cached(alloc, text)?.err(), Some(fault), "{text}");
-    Ok(())
-}
-
-#[test]
-fn other_texts_are_no_durations(rt: HostRuntime) -> Result<(), Fail> {
-    for text in [
-        "",
-        "s",
-        "1",
-        "1.s",
-        ".5s",
-        "-1s",
-        "+1s",
-        "1 s",
-        "1S",
-        "1e2s",
-        "1.0000000000s",
-        "315576000000.000000001s",
-        "315576000001s",
-    ] {
-        is_no_duration(&rt, rt.alloc(), text)?;
     }
     Ok(())
 }
@@ -104,26 +75,5 @@ fn the_inner_raw_hashes_are_in_the_outer(rt: HostRuntime) -> Result<(), Fail> {
     let inner = object(&value, Field::RawHashes)?;
     let found = bytes(rt.alloc(), inner, Field::RawHashBytes)?;
     assert_eq!(rt; found.as_slice(), b"\x01".as_slice());
-    Ok(())
-}
-
-/// Sees the state of a text.
-fn has_state(rt: &impl Abort, alloc: Global, json: &str, wanted: &str) -> Result<(), Fail> {
-    let value = read_json(alloc, json.as_bytes())?;
-    assert!(rt; field(&value, Field::State).is_some(), "{json}");
-    assert_eq!(rt; string(&value, Field::State)?, wanted, "{json}");
-    Ok(())
-}
-
-#[test]
-fn the_last_of_equal_keys_counts(rt: HostRuntime) -> Result<(), Fail> {
-    for (json, wanted) in [
-        ("{\"state\":\"a\",\"state\":\"b\"}", "b"),
-        ("{\"state\":null,\"state\":\"b\"}", "b"),
-        ("{\"state\":1,\"x\":[],\"state\":\"c\"}", "c"),
-        ("{\"\\u0073tate\":\"d\"}", "d"),
-    ] {
-        has_state(&rt, rt.alloc(), json, wanted)?;
-    }
     Ok(())
 }

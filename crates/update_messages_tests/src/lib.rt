@@ -4,11 +4,7 @@
 #[cfg(test)]
 mod bodies;
 #[cfg(test)]
-mod request_faults;
-#[cfg(test)]
 mod requests;
-#[cfg(test)]
-mod response_faults;
 #[cfg(test)]
 mod responses;
 #[cfg(test)]

@@ -6,9 +6,7 @@ use itoa::Buffer;
 use sb_model::{
     Bytes, EntryType, ListName, Moment, OutOfMemory, PlatformType, Row, Text, ThreatType,
 };
-use sb_outside::{
-    KeepFailure, MemoryKeeper, MemorySink, OpenGate, Play, ScriptClock, ScriptDice, ScriptLink,
-};
+use sb_outside::{MemoryKeeper, MemorySink, OpenGate, Play, ScriptClock, ScriptDice, ScriptLink};
 use std::alloc::Global;
 use update_client::FetchOptions;
 use update_run::{Plan, RunStop, run};
@@ -31,19 +29,15 @@ pub const ONE: (&[u8], &[u8]) = (
     b"+XQNe5L8043rXdIKl9DF8NwfJkrg3mW8YIBNqvwvJ4c=",
 );
 
-/// A message without updates, and its digest.
-pub const NONE: (&[u8], &[u8]) = (b"{}", b"RBNvo1WzZ4oRRq0W9+hknpT7T8If536DEMBg9hyq/4o=");
-
-/// A response with this body, of which the last bytes are cut off.
-pub fn response(alloc: Global, body: (&[u8], &[u8]), cut: usize) -> Result<Bytes, OutOfMemory> {
+/// A response with this body.
+pub fn response(alloc: Global, body: (&[u8], &[u8])) -> Result<Bytes, OutOfMemory> {
     let mut text = Bytes::from_slice(alloc, b"HTTP/1.1 200 OK\r\nContent-Length: ")?;
     let mut buffer = Buffer::new();
     text.append(buffer.format(body.0.len()).as_bytes())?;
     text.append(b"\r\nContent-Digest: sha-256=:")?;
     text.append(body.1)?;
     text.append(b":\r\n\r\n")?;
-    let end = body.0.len().saturating_sub(cut);
-    text.append(&body.0[..end])?;
+    text.append(body.0)?;
     Ok(text)
 }
 
@@ -88,19 +82,8 @@ pub fn run_with(
     keep: &mut MemoryKeeper,
     responses: &[Bytes],
 ) -> Result<Left, OutOfMemory> {
-    run_into(alloc, rounds, Row::new(alloc), keep, responses)
-}
-
-/// The same, where the writes of these numbers fail.
-pub fn run_into(
-    alloc: Global,
-    rounds: u32,
-    failing: Row<u64>,
-    keep: &mut MemoryKeeper,
-    responses: &[Bytes],
-) -> Result<Left, OutOfMemory> {
     let plan = plan_of(alloc, rounds)?;
-    let mut out = MemorySink::new(alloc, 65_536, failing)?;
+    let mut out = MemorySink::new(alloc, 65_536, Row::new(alloc))?;
     let mut link = link_of(alloc, responses)?;
     let readings = Row::from_slice(alloc, &[Moment(1_000_000)])?;
     let mut clock = ScriptClock::new(alloc, readings, 64)?;
@@ -116,7 +99,7 @@ pub fn run_into(
     })
 }
 
-/// A keeper that keeps this text, or nothing, and fails at these calls.
-pub fn keeper_of(alloc: Global, kept: Option<Bytes>, failing: Row<KeepFailure>) -> MemoryKeeper {
-    MemoryKeeper::new(alloc, kept, failing)
+/// A keeper that keeps nothing yet.
+pub fn keeper_of(alloc: Global) -> MemoryKeeper {
+    MemoryKeeper::new(alloc, None, Row::new(alloc))
 }

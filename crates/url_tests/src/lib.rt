@@ -6,5 +6,3 @@
 mod canonical_urls;
 #[cfg(test)]
 mod expressions;
-#[cfg(test)]
-mod international;

@@ -1,0 +1,273 @@
+#!/usr/bin/env python3
+"""Runs the second program over the stored cases, as docs/FORMATS.md says how a case is written.
+
+A case is left out where a run has another command than `sbupdate replay`, `sbcheck show` and `sblistd answer`, an object that
+fails, or a URL whose host has bytes from 128 on. The last case is wrong on purpose, so exactly that one has to differ: else the exit status is 1.
+"""
+
+import base64
+import hashlib
+import itertools
+import os
+import re
+import sys
+
+import server
+import urls
+from compare import REPOSITORY, replay
+
+CASES = os.path.join(REPOSITORY, "crates", "stored_cases", "stdin")
+MOST_INPUT = 201_326_592
+MOST_LINES = 65_536
+SIGNS = "|:~=@%&()"
+
+
+def response(body):
+    digest = base64.b64encode(hashlib.sha256(body).digest())
+    head = b"HTTP/1.1 200 OK\r\nContent-Type: application/json\r\nContent-Length: %d\r\n" % len(body)
+    return head + b"Content-Digest: sha-256=:" + digest + b":\r\nConnection: close\r\n\r\n" + body
+
+
+def expression(text):
+    return b"  " + hashlib.sha256(text).hexdigest().encode() + b" " + text + b"\n"
+
+
+class Book:
+    """The lines of all cases, and the texts that have a name."""
+
+    def __init__(self, data):
+        self.lines = data.split(b"\n")
+        self.named = {}
+        for number, line in enumerate(self.lines):
+            if line.startswith(b"text "):
+                self.named[line[5:]] = self.text(number)[0]
+
+    def text(self, number, cut=0):
+        """The text of the field in a line, and how many strict fronts it is to be run for."""
+        word, _, first = self.lines[number].partition(b" ")
+        writer = Writer(self, cut)
+        if word != b"text" and first:
+            writer.pieces = [first]
+        for line in itertools.islice(self.lines, number + 1, None):
+            if line and not line.startswith(b"--"):
+                if chr(line[0]) not in SIGNS:
+                    break
+                writer.pieces.append(line)
+        return writer.until_bracket(), writer.fronts
+
+
+class Writer:
+    """Puts a text together of its pieces."""
+
+    def __init__(self, book, cut):
+        self.book, self.cut = book, cut
+        self.pieces, self.at, self.number, self.fronts = [], 0, 0, 0
+
+    def until_bracket(self):
+        """The bytes of the pieces up to the bracket that closes, or to the end."""
+        made = []
+        while self.at < len(self.pieces):
+            sign, rest = self.pieces[self.at][:1], self.pieces[self.at][1:]
+            self.at += 1
+            if sign == b")":
+                break
+            made.append(self.bracket(rest) if sign == b"(" else self.piece(sign, rest))
+        return b"".join(made)
+
+    def piece(self, sign, rest):
+        if sign == b"%":
+            return self.counted(rest)
+        if sign == b"@":
+            return self.book.named[rest]
+        if sign == b"=":
+            return bytes.fromhex(rest.decode())
+        return expression(rest) if sign == b"&" else rest + {b":": b"", b"|": b"\n", b"~": b"\r\n"}[sign]
+
+    def counted(self, rest):
+        form, _, count = rest.partition(b" ")
+        if form == b"from":
+            self.number = int(count)
+            return b""
+        numbers = range(self.number, self.number + int(count or 1))
+        self.number = numbers.stop
+        if form == b"bytes":
+            return b"".join((number % 2**32).to_bytes(4, "big") for number in numbers)
+        return (b"%08x" if form == b"hex" else b"%d") % numbers.start
+
+    def bracket(self, rest):
+        work, _, count = rest.partition(b" ")
+        if work == b"repeat":
+            begin, made = self.at, []
+            for _ in range(int(count)):
+                self.at = begin
+                made.append(self.until_bracket())
+            return b"".join(made)
+        inner = self.until_bracket()
+        if work == b"each-front":
+            self.fronts = max(self.fronts, len(inner))
+        return {
+            b"base64": base64.b64encode,
+            b"hex": lambda text: text.hex().encode(),
+            b"sha256": lambda text: hashlib.sha256(text).digest(),
+            b"sealed": lambda text: text + hashlib.sha256(text).digest(),
+            b"response": response,
+            b"front": lambda text: text[: int(count)],
+            b"without": lambda text: text[: max(0, len(text) - int(count))],
+            b"each-front": lambda text: text[: self.cut],
+            b"each-rest": lambda text: text[self.cut :],
+        }[work](inner)
+
+
+# ---- words
+
+
+def options_of(words, values, flags=()):
+    """The options of a command line and its positional words, or None."""
+    options, positional, words = {}, [], list(words)
+    while words:
+        word = words.pop(0)
+        if word == "--":
+            return options, positional + words
+        if not word.startswith("-"):
+            positional.append(word)
+            continue
+        name, equals, value = word.partition("=")
+        if name not in values or name in options:
+            return None
+        if not equals:
+            value = words.pop(0) if words else ""
+        if not value or value.startswith("-"):
+            return None
+        options[name] = value
+    return options, positional
+
+
+def lists_of(words):
+    found = options_of(words, ())
+    if found is None or not 1 <= len(found[1]) <= 8 or len(set(found[1])) < len(found[1]):
+        return None
+    return found[1] if all(server.is_name(word) for word in found[1]) else None
+
+
+def answer_words(words):
+    found = options_of(words, ("--journal", "--kind", "--wait", "--cache", "--negative"))
+    if found is None or found[1] or "--journal" not in found[0] or found[0].get("--kind") not in ("fetch", "find"):
+        return None
+    times = {name: found[0].get("--" + name, seconds) for name, seconds in (("wait", "1800"), ("cache", "300"), ("negative", "300"))}
+    if any(not re.fullmatch("0|[1-9][0-9]{0,4}", seconds) or int(seconds) > 86_400 for seconds in times.values()):
+        return None
+    return found[0]["--kind"], {name: int(seconds) for name, seconds in times.items()}
+
+
+def lines_of(text):
+    lines = text.split(b"\n")
+    return lines[:-1] if lines[-1] == b"" else lines
+
+
+def answer(words, text, journal):
+    """What the second program prints, and its status. None stands for the usage text."""
+    command, rest = words[:2], words[2:]
+    if command == ["sblistd", "answer"]:
+        found = answer_words(rest)
+        return server.answer(journal, text, *found) if found else (None, 1)
+    names = lists_of(rest) if command == ["sbupdate", "replay"] else options_of(rest, ())
+    if not names or command == ["sbcheck", "show"] and names[1]:
+        return None, 1
+    if len(text) > MOST_INPUT or len(lines_of(text)) > MOST_LINES:
+        return b"", 6
+    return replay(text, names)[:2] if command[1] == "replay" else urls.show(lines_of(text))
+
+
+# ---- cases
+
+KNOWN = (["sbupdate", "replay"], ["sbcheck", "show"], ["sblistd", "answer"])
+
+
+class Run:
+    """A run of a case: the lines of its fields, its own or those of its group."""
+
+    def __init__(self, book, own, group, before):
+        self.book, self.own, self.group, self.before = book, own, group, before
+
+    def find(self, name, spans):
+        for span in spans:
+            found = [number for number in span if self.book.lines[number].split(b" ")[0] == name]
+            if found:
+                return found[-1]
+        return None
+
+    def words(self):
+        spans = (self.own, self.before, self.group)
+        number = max(self.find(name, spans) or -1 for name in (b"client", b"server"))
+        words = self.book.lines[number].decode().split(" ")[1:]
+        return ["" if word == '""' else word for word in words]
+
+    def is_known(self):
+        fails = any(re.match(rb"[a-z]+-fails ", self.book.lines[number]) for number in self.own)
+        return self.words()[:2] in KNOWN and not fails
+
+    def text(self, name, cut):
+        number = self.find(name, (self.own, self.group))
+        return (b"", 0) if number is None else self.book.text(number, cut)
+
+    def differs(self, cut):
+        """What is to come, and what comes of the second program, where they differ; and the fronts to run for."""
+        texts = [self.text(name, cut) for name in (b"input", b"journal", b"out")]
+        (text, _), (journal, _), (wanted, _) = texts
+        number = self.find(b"status", (self.own, self.group))
+        status = 0 if number is None else int(self.book.lines[number].split(b" ")[1])
+        printed, found = answer(self.words(), text, journal)
+        usage = printed is None and wanted.startswith(b"usage: ")
+        same = status == found and (usage or printed == wanted)
+        return None if same else (status, wanted, found, printed), max(fronts for _, fronts in texts)
+
+
+def cases_of(book):
+    """The name of each case, and its runs."""
+    group = own = range(0)
+    heads = [number for number, line in enumerate(book.lines) if re.match(rb"##? ", line)] + [len(book.lines)]
+    for head, end in zip(heads, heads[1:]):
+        lines = range(head + 1, end)
+        if book.lines[head].startswith(b"# "):
+            group = lines
+            continue
+        cuts = [head] + [number for number in lines if book.lines[number] == b"again"] + [end]
+        spans = [range(begin + 1, stop) for begin, stop in zip(cuts, cuts[1:])]
+        yield book.lines[head][3:].decode(), [Run(book, own, group, range(head + 1, own.start)) for own in spans]
+
+
+def difference(runs):
+    """What differs first in the runs of a case, or None."""
+    for run in runs:
+        cut, fronts = 0, 1
+        while cut < max(fronts, 1):
+            found, fronts = run.differs(cut)
+            if found:
+                return found
+            cut += 1
+    return None
+
+
+def main():
+    with open(CASES, "rb") as data:
+        book = Book(data.read())
+    names, ran, differing = [], 0, []
+    for name, runs in cases_of(book):
+        names.append(name)
+        if not all(run.is_known() for run in runs):
+            continue
+        try:
+            found = difference(runs)
+        except urls.Skipped:
+            continue
+        ran += 1
+        if found:
+            differing.append(name)
+            print(f"{name}\n  to come {found[0]} {found[1][:400]!r}\n  came    {found[2]} {str(found[3])[:400]}")
+    told = "1 differs" if len(differing) == 1 else f"{len(differing)} differ"
+    print(f"{ran} of {len(names)} stored cases, {told}")
+    return 0 if differing == names[-1:] else 1
+
+
+if __name__ == "__main__":
+    sys.exit(main())

@@ -1,0 +1,87 @@
+//! Where the objects of a command line are.
+use sb_client::{Targets, targets};
+use sb_model::Text;
+use std::alloc::{AllocError, Global};
+use std::process::Abort;
+use std::test::Fail;
+
+const LIST: &str = "MALWARE/ANY_PLATFORM/URL";
+
+/// Words of a command line.
+fn words(alloc: Global, texts: &[&str]) -> Result<Vec<String>, AllocError> {
+    let mut words = Vec::new(alloc);
+    for text in texts {
+        words.push(String::from_str(alloc, text)?)?;
+    }
+    Ok(words)
+}
+
+fn is(text: &Option<Text>, wanted: &str) -> bool {
+    match text {
+        Some(text) => text.as_str() == wanted,
+        None => false,
+    }
+}
+
+// Sees that words have a store and a server.
+fn has_both(rt: &impl Abort, found: &Targets, store: &str, server: &str) {
+    assert!(rt; is(&found.store, store));
+    assert!(rt; is(&found.server, server));
+}
+
+#[test]
+fn a_run_has_a_store_and_a_server(rt: HostRuntime) -> Result<(), Fail> {
+    let words = words(
+        rt.alloc(),
+        &[
+            "sbupdate",
+            "run",
+            "--rounds",
+            "1024",
+            "--server",
+            "a-b.c:65535",
+            LIST,
+            "--store=a/b.sb",
+        ],
+    )?;
+    has_both(
+        &rt,
+        &targets(rt.alloc(), words.as_slice())?,
+        "a/b.sb",
+        "a-b.c:65535",
+    );
+    Ok(())
+}
+
+// Sees that words have neither a store nor a server.
+fn has_none(rt: &impl Abort, alloc: Global, texts: &[&str]) -> Result<(), Fail> {
+    let words = words(alloc, texts)?;
+    let found = targets(alloc, words.as_slice())?;
+    assert!(rt; found.store.is_none());
+    assert!(rt; found.server.is_none());
+    Ok(())
+}
+
+// Words of other commands, and words that are none.
+static OTHERS: [&[&str]; 5] = [
+    &[],
+    &["sbupdate", "replay", LIST],
+    &["sbcheck", "show"],
+    &[
+        "sbcheck",
+        "run",
+        "--store=s",
+        "--server=h:1",
+        "--rounds=1",
+        LIST,
+    ],
+    &["sbupdate", "run", "--store=s", "--server=h:1", "--rounds=1"],
+];
+
+#[test]
+fn other_words_have_no_targets(rt: HostRuntime) -> Result<(), Fail> {
+    for texts in OTHERS.iter() {
+        has_none(&rt, rt.alloc(), texts)?;
+    }
+    Ok(())
+}

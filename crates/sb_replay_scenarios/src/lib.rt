@@ -1,5 +1,0 @@
-//! Tests that stand on both ends: the client replays answers of the list server.
-#![tactic(auto)]
-
-#[cfg(test)]
-mod replays;

@@ -1,0 +1,128 @@
+//! Where the fields of a case stand.
+use crate::CaseFault;
+use crate::pieces::{is_blank, is_piece};
+use crate::sheet::{Scope, Sheet, Span, word_of};
+use crate::words::numbers_of;
+use sb_model::{OutOfMemory, Row};
+use std::alloc::Global;
+
+/// The names of all fields.
+const FIELDS: [&[u8]; 29] = [
+    b"text",
+    b"client",
+    b"server",
+    b"input",
+    b"input-fails",
+    b"journal",
+    b"journal-fails",
+    b"append",
+    b"store",
+    b"keeper-fails",
+    b"session",
+    b"serve",
+    b"session-fails",
+    b"connection",
+    b"read-fails",
+    b"write-fails",
+    b"door-fails",
+    b"out-fails",
+    b"clock",
+    b"dice",
+    b"settings",
+    b"steps",
+    b"status",
+    b"out",
+    b"kept",
+    b"handed",
+    b"sent",
+    b"written",
+    b"moments",
+];
+
+/// The last line of a span that begins with this word.
+fn last_in(sheet: &Sheet, span: Span, name: &[u8]) -> Option<usize> {
+    let mut found = None;
+    for line in span.from..span.to {
+        if word_of(sheet.line(line)) == name {
+            found = Some(line);
+        }
+    }
+    found
+}
+
+/// The line of a field: the run's own, or that of its group.
+pub fn field(sheet: &Sheet, scope: &Scope, name: &[u8]) -> Option<usize> {
+    match last_in(sheet, scope.own, name) {
+        Some(line) => Some(line),
+        None => last_in(sheet, scope.group, name),
+    }
+}
+
+/// The line of a field that a run has from the run before it where it has none of its own.
+pub fn lasting_field(sheet: &Sheet, scope: &Scope, name: &[u8]) -> Option<usize> {
+    if let Some(line) = last_in(sheet, scope.own, name) {
+        return Some(line);
+    }
+    if let Some(line) = last_in(sheet, scope.before, name) {
+        return Some(line);
+    }
+    last_in(sheet, scope.group, name)
+}
+
+/// The lines of a span that begin with one of these words, in order.
+fn all_in(
+    alloc: Global,
+    sheet: &Sheet,
+    span: Span,
+    names: &[&[u8]],
+) -> Result<Row<usize>, OutOfMemory> {
+    let mut lines = Row::new(alloc);
+    for line in span.from..span.to {
+        if is_one_of(word_of(sheet.line(line)), names) {
+            lines.push(line)?;
+        }
+    }
+    Ok(lines)
+}
+
+fn is_one_of(word: &[u8], names: &[&[u8]]) -> bool {
+    for name in names {
+        if word == *name {
+            return true;
+        }
+    }
+    false
+}
+
+/// The lines of fields that may stand several times, in order: the run's own, or those of its group where it has none.
+pub fn fields(
+    alloc: Global,
+    sheet: &Sheet,
+    scope: &Scope,
+    names: &[&[u8]],
+) -> Result<Row<usize>, OutOfMemory> {
+    let own = all_in(alloc, sheet, scope.own, names)?;
+    if own.is_empty() {
+        return all_in(alloc, sheet, scope.group, names);
+    }
+    Ok(own)
+}
+
+/// The numbers of a field, or none where it is not given.
+pub fn numbers(alloc: Global, sheet: &Sheet, line: Option<usize>) -> Result<Row<u64>, CaseFault> {
+    match line {
+        Some(line) => numbers_of(alloc, sheet.rest(line), line),
+        None => Ok(Row::new(alloc)),
+    }
+}
+
+/// Sees that each line of a span is a field, a piece, or blank.
+pub fn check(sheet: &Sheet, span: Span) -> Result<(), CaseFault> {
+    for number in span.from..span.to {
+        let line = sheet.line(number);
+        if !(is_piece(line) || is_blank(line) || is_one_of(word_of(line), &FIELDS)) {
+            return Err(CaseFault::Line(number));
+        }
+    }
+    Ok(())
+}

@@ -1,0 +1,71 @@
+//! Reads cases from its input, has the client and the server run them over objects in memory, and prints each that
+//! comes to something else than the case says.
+#![tactic(auto)]
+
+use book::Book;
+use cases::run_book;
+use fault::CaseFault;
+use sb_model::Bytes;
+use sb_outside::{StdSink, StdSource, read_to_end, write_all};
+use sheet::Sheet;
+use std::alloc::Global;
+use std::process::ExitCode;
+
+mod book;
+mod case_link;
+mod cases;
+mod comparing;
+mod fault;
+mod fields;
+mod frames;
+mod names;
+mod objects;
+mod pieces;
+mod plays;
+mod report;
+mod running;
+mod sheet;
+mod words;
+
+/// How many bytes all cases may have.
+const LIMIT: usize = 67_108_864;
+
+/// What is printed of the cases of a text.
+fn page_of(alloc: Global, text: Bytes) -> Result<Bytes, CaseFault> {
+    let sheet = Sheet::new(alloc, text)?;
+    let book = Book::new(alloc, sheet)?;
+    let summary = run_book(alloc, &book)?;
+    Ok(summary.page)
+}
+
+/// What is printed where the cases could not be run.
+fn fault_page(alloc: Global, fault: CaseFault) -> Bytes {
+    let mut page = Bytes::new(alloc);
+    let _ = match fault {
+        CaseFault::Line(line) => push_line(&mut page, line),
+        CaseFault::OutOfMemory => page.append(b"out of memory\n"),
+    };
+    page
+}
+
+fn push_line(page: &mut Bytes, line: usize) -> Result<(), sb_model::OutOfMemory> {
+    page.append(b"line ")?;
+    page.append_decimal((line as u64).saturating_add(1))?;
+    page.append(b" is of no form\n")
+}
+
+fn main(rt: HostRuntime) -> ExitCode {
+    let alloc = rt.alloc();
+    let Ok(text) = read_to_end(alloc, &mut StdSource::new(rt.stdin()), LIMIT) else {
+        return ExitCode::from(2);
+    };
+    let mut out = StdSink::new(rt.stdout());
+    let (page, status) = match page_of(alloc, text) {
+        Ok(page) => (page, 0),
+        Err(fault) => (fault_page(alloc, fault), 1),
+    };
+    match write_all(&mut out, page.as_slice()) {
+        Ok(()) => ExitCode::from(status),
+        Err(_) => ExitCode::from(3),
+    }
+}

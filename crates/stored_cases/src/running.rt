@@ -1,0 +1,78 @@
+//! One run of a case.
+use crate::CaseFault;
+use crate::book::Reader;
+use crate::fields::lasting_field;
+use crate::objects::{Objects, Place, objects_of};
+use crate::words::words_of;
+use sb_client::run_client;
+use sb_model::{Bytes, OutOfMemory, Row};
+use sb_outside::{MemoryDoor, MemoryKeeper, MemorySink, OpenGate, ScriptClock};
+use sb_service::run_server;
+use std::alloc::Global;
+
+/// What a run left.
+#[derive(Drop)]
+pub struct Left {
+    pub status: u8,
+    pub out: MemorySink,
+    pub keep: MemoryKeeper,
+    pub clock: ScriptClock,
+    pub door: MemoryDoor,
+    /// What each session of the link sent.
+    pub sent: Row<Bytes>,
+}
+
+/// Makes a run, whose keeper keeps this text or what the run's fields say.
+pub fn run(
+    reader: &mut Reader,
+    place: &Place<'_>,
+    store: Option<Bytes>,
+) -> Result<Left, CaseFault> {
+    let objects = objects_of(reader, place, store)?;
+    let sheet = &place.book.sheet;
+    let client = lasting_field(sheet, &place.scope, b"client");
+    let server = lasting_field(sheet, &place.scope, b"server");
+    let (line, is_client) = match (client, server) {
+        (Some(client), Some(server)) => (client.max(server), client > server),
+        (Some(client), None) => (client, true),
+        (None, Some(server)) => (server, false),
+        (None, None) => return Err(CaseFault::Line(place.scope.own.from)),
+    };
+    let words = words_of(reader.alloc, sheet.rest(line), line)?;
+    Ok(run_words(reader.alloc, words.as_slice(), is_client, objects)?)
+}
+
+/// Has the client or the server run these words.
+fn run_words(
+    alloc: Global,
+    words: &[String],
+    is_client: bool,
+    objects: Objects,
+) -> Result<Left, OutOfMemory> {
+    let Objects {
+        mut input,
+        mut journal,
+        mut out,
+        mut keep,
+        mut link,
+        mut clock,
+        mut dice,
+        mut door,
+    } = objects;
+    let status = if is_client {
+        run_client(
+            alloc, words, &mut input, &mut out, &mut keep, &mut link, &mut clock, &mut dice,
+            &OpenGate,
+        )
+    } else {
+        run_server(alloc, words, &mut journal, &mut input, &mut out, &mut door)
+    };
+    Ok(Left {
+        status,
+        out,
+        keep,
+        clock,
+        door,
+        sent: link.into_sent()?,
+    })
+}
