@@ -5,7 +5,8 @@ While a crate's contracts are being changed, its wrong bodies are `must-fail/NAM
 they stand, they are kept as `must-fail/NAME.edit.md`, which the gate leaves alone, and `must-fail/tried.md` says how many
 the prover refused, and over which files.
 
-    wrong_bodies.py check          fails where a crate is not as its tried.md says, or has no wrong body at all
+    wrong_bodies.py check          fails where a crate is not as its tried.md says, has no wrong body at all, or has one whose
+                                   text does not stand once where it says
     wrong_bodies.py try [NAME..]   names the kept ones back in a copy of the tree, tries them there, and writes tried.md
                                    where each was refused; without names those of every crate that keeps some
     wrong_bodies.py open NAME..    names the kept ones back, since the crate's contracts are to be changed
@@ -119,6 +120,28 @@ def read_tried(name):
     return (int(found[1]), found[2], found[3]) if found else None
 
 
+def lacks(name, path):
+    """Whether a wrong body names text that does not stand exactly once where it says."""
+    with open(path, encoding="utf-8") as file:
+        lines = file.read().splitlines()
+    texts, at, old = {}, None, None
+    for line in lines:
+        word, _, rest = line.partition(":")
+        if word == "file":
+            at = os.path.join(CRATES, name, rest.strip())
+            if not os.path.isfile(at):
+                return True
+            with open(at, encoding="utf-8") as file:
+                texts.setdefault(at, file.read())
+        elif word == "old":
+            old = rest[1:]
+        elif word == "new":
+            if at is None or old is None or texts[at].count(old) != 1:
+                return True
+            texts[at] = texts[at].replace(old, rest[1:])
+    return old is None
+
+
 def faults_of(name, uses, without):
     """Why a crate's wrong bodies are not as they have to be, and what is only to be known."""
     kept, opened = bodies_of(name, KEPT), bodies_of(name, OPEN)
@@ -129,6 +152,9 @@ def faults_of(name, uses, without):
         return ["has no wrong body, and is not listed with its reason"], []
     if kept and opened:
         return ["has wrong bodies of both kinds: open or close all of them"], []
+    stale = [os.path.basename(it) for it in kept + opened if lacks(name, it)]
+    if stale:
+        return [f"has wrong bodies that name text which does not stand once: {', '.join(stale)}"], []
     if opened:
         return (["is open, and has a tried.md"] if tried else []), []
     found = read_tried(name)

@@ -1,24 +1,24 @@
-ghost use Rattle.std.specs.Prelude.{◌≡◌, ◌++◌, decimal, OnOk};
+ghost use Rattle.std.specs.Prelude.{◌≡◌, ◌++◌, decimal, length, take, OnOk, OnErr};
 ghost use Rattle.client_store.specs.Printed.{cause_text};
 
 use crate::StoreFault;
 use hash_prefixes::append_hex;
-use itoa::Buffer;
 use sb_model::{Bytes, OutOfMemory};
 
 // Appends a word and a number.
 fn push_counted(page: &mut Bytes, word: &str, number: u64) -> Result<(), OutOfMemory>
-    ensures { OnOk result (page.new ≡ page.old ++ (word.now ++ decimal number)) }
+    ensures ok { OnOk result (page.new ≡ page.old ++ (word.now ++ decimal number)) }
+    ensures front { OnErr result (take (length page.old) page.new ≡ page.old) }
 {
-    let mut buffer = Buffer::new();
     page.append(word.as_bytes())?;
-    page.append(buffer.format(number).as_bytes())
+    page.append_decimal(number)
 }
 
 // Appends both digests.
 fn push_digests(page: &mut Bytes, got: &[u8], given: &[u8]) -> Result<(), OutOfMemory>
-    ensures { OnOk result
+    ensures ok { OnOk result
         (page.new ≡ page.old ++ cause_text (StoreFault.Digest got.now given.now)) }
+    ensures front { OnErr result (take (length page.old) page.new ≡ page.old) }
 {
     page.append(b"digest ")?;
     append_hex(page, got)?;
@@ -26,9 +26,10 @@ fn push_digests(page: &mut Bytes, got: &[u8], given: &[u8]) -> Result<(), OutOfM
     append_hex(page, given)
 }
 
-/// Appends the cause of a text that is no store, as it is printed.
+/// Appends the cause of a text that is no store, as it is printed. After an `Err` the page begins as it was.
 pub fn push_store_cause(page: &mut Bytes, fault: &StoreFault) -> Result<(), OutOfMemory>
-    ensures { OnOk result (page.new ≡ page.old ++ cause_text fault.now) }
+    ensures ok { OnOk result (page.new ≡ page.old ++ cause_text fault.now) }
+    ensures front { OnErr result (take (length page.old) page.new ≡ page.old) }
 {
     match fault {
         StoreFault::Shape(place) => push_counted(page, "shape ", *place),

@@ -1,5 +1,5 @@
 -- Members of one size, their bytes and their numbers, in a walk through the members.
-use Rattle.std.proofs.Common.{◌≡◌, ℕ, zero, suc, ◌+◌, ◌-◌, ◌*◌, ◌<◌, ◌≤◌, Bool, true, false, cond, List, [], ◌∷◌, ◌++◌, length, take, map, get_or, set, replicate, refl, sym, ap, ◌∙◌, arith, append-nil, length-append}
+use Rattle.std.proofs.Common.{◌≡◌, ℕ, zero, suc, ◌+◌, ◌-◌, ◌*◌, ◌/◌, ◌<◌, ◌≤◌, Bool, true, false, cond, List, [], ◌∷◌, ◌++◌, length, take, drop, map, get_or, set, replicate, refl, sym, ap, ◌∙◌, arith, append-nil, length-append}
 use Rattle.std.specs.Prelude.{◌==◌, ◌%◌, ◌||◌, filter}
 use Rattle.std.specs.Int.{w32, from_le_bytes}
 use Rattle.std.specs.List.{list_any, range_with_len}
@@ -7,7 +7,9 @@ use Rattle.std.proofs.lemmas.Bool.{eqb-true, false≢true}
 use Rattle.std.proofs.lemmas.Bool.Decides.{Decides-eqb}
 use Rattle.std.proofs.Math.Bool.{or-false, or-true}
 use Rattle.std.proofs.lemmas.Grind.{get_or-set_at}
-use Rattle.std.proofs.lemmas.List.{map-append, get_or-set_other}
+use Rattle.std.specs.Simd.{first_chunks}
+use Rattle.std.proofs.lemmas.List.{map-append, get_or-set_other, take_at, drop_at}
+use Rattle.std.proofs.lemmas.Nat.{div-mul-add}
 use Rattle.std.proofs.Math.Nat.{mul-mod_left}
 use Rattle.std.proofs.lemmas.List.Concat.{flat_map-append}
 use Rattle.std.proofs.lemmas.List.Elements.{filter-append, filter_more}
@@ -104,18 +106,41 @@ some_kept p (m ∷ ms) h = go (p m) h (some_kept p ms)
 
 -- ---- what the sets of messages keep to
 
+-- how many bytes the members of a size have
+length_of_size : (size : ℕ) (ms : List (List ℕ)) → length (concatenation (filter (has_size size) ms)) ≡ length (filter (has_size size) ms) * size
+length_of_size size [] = omega arith
+length_of_size size (m ∷ ms) = go (length m == size) refl (length_of_size size ms)
+  where
+    go : (b : Bool) → (length m == size) ≡ b → length (concatenation (filter (has_size size) ms)) ≡ length (filter (has_size size) ms) * size
+        → length (concatenation (cond b (m ∷ filter (has_size size) ms) (filter (has_size size) ms))) ≡ length (cond b (m ∷ filter (has_size size) ms) (filter (has_size size) ms)) * size
+    go true is more = omega (arith, length-append m (concatenation (filter (has_size size) ms)), eqb-true (length m) size is, more)
+    go false is more = more
+
 pub whole_pieces : (size : ℕ) (members : List (List ℕ)) → 4 ≤ size → length (concatenation (filter (has_size size) members)) % size ≡ 0
 whole_pieces size members low =
-    let count : length (concatenation (filter (has_size size) members)) ≡ length (filter (has_size size) members) * size = same_lengths members in
-    ap (λ n. n % size) count ∙ mul-mod_left (length (filter (has_size size) members)) size
+    ap (λ n. n % size) (length_of_size size members) ∙ mul-mod_left (length (filter (has_size size) members)) size
+
+-- their bytes in pieces are the members again
+pub chunks_of_size : (size : ℕ) (ms : List (List ℕ)) → 0 < size
+    → first_chunks size (length (concatenation (filter (has_size size) ms)) / size) (concatenation (filter (has_size size) ms)) ≡ filter (has_size size) ms
+chunks_of_size size ms some =
+    let sum : length (concatenation (filter (has_size size) ms)) ≡ length (filter (has_size size) ms) * size + 0 = omega (arith, length_of_size size ms) in
+    ap (λ n. first_chunks size n (concatenation (filter (has_size size) ms))) (ap (λ n. n / size) sum ∙ div-mul-add (length (filter (has_size size) ms)) size 0 some)
+    ∙ joined ms
   where
-    same_lengths : (ms : List (List ℕ)) → length (concatenation (filter (has_size size) ms)) ≡ length (filter (has_size size) ms) * size
-    same_lengths [] = omega arith
-    same_lengths (m ∷ ms) = go (length m == size) refl (same_lengths ms)
+    joined : (ms : List (List ℕ)) → first_chunks size (length (filter (has_size size) ms)) (concatenation (filter (has_size size) ms)) ≡ filter (has_size size) ms
+    joined [] = refl
+    joined (m ∷ ms) = go (length m == size) refl (joined ms)
       where
-        go : (b : Bool) → (length m == size) ≡ b → length (concatenation (filter (has_size size) ms)) ≡ length (filter (has_size size) ms) * size
-            → length (concatenation (cond b (m ∷ filter (has_size size) ms) (filter (has_size size) ms))) ≡ length (cond b (m ∷ filter (has_size size) ms) (filter (has_size size) ms)) * size
-        go true is more = omega (arith, length-append m (concatenation (filter (has_size size) ms)), eqb-true (length m) size is, more)
+        go : (b : Bool) → (length m == size) ≡ b → first_chunks size (length (filter (has_size size) ms)) (concatenation (filter (has_size size) ms)) ≡ filter (has_size size) ms
+            → first_chunks size (length (cond b (m ∷ filter (has_size size) ms) (filter (has_size size) ms))) (concatenation (cond b (m ∷ filter (has_size size) ms) (filter (has_size size) ms)))
+            ≡ cond b (m ∷ filter (has_size size) ms) (filter (has_size size) ms)
+        go true is more =
+            let long : length m ≡ size = eqb-true (length m) size is in
+            let first : take size (m ++ concatenation (filter (has_size size) ms)) ≡ m = take_at m (concatenation (filter (has_size size) ms)) size long in
+            let rest : first_chunks size (length (filter (has_size size) ms)) (drop size (m ++ concatenation (filter (has_size size) ms))) ≡ filter (has_size size) ms
+            = ap (first_chunks size (length (filter (has_size size) ms))) (drop_at m (concatenation (filter (has_size size) ms)) size long) ∙ more in
+            λ i. first i ∷ rest i
         go false is more = more
 
 -- ---- which sizes occur, in a walk through the members

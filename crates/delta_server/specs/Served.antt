@@ -1,5 +1,5 @@
 -- A declared list of a history, as it stands ready to be answered.
-use Rattle.std.specs.Prelude.{◌≡◌, true}
+use Rattle.std.specs.Prelude.{◌≡◌, ℕ, true, List, Option, Some, None}
 use Rattle.sha2.specs.Sha256.{sha256}
 use Rattle.sb_model.specs.declared.names.ListName.{ListName}
 use Rattle.sb_model.specs.Prefixes.{concatenation}
@@ -13,3 +13,8 @@ pub record IsServed (served : Served) (versions : History) (list : ListName) : T
   pub size : served.size ≡ declared_size versions list
   pub set : served.set.now ≡ prefixes_at versions list (version_count versions)
   pub digest : served.digest ≡ sha256 (concatenation served.set.now)
+
+-- the set of a version, and none where it is the newest
+abbrev pub IsOlder : History → ListName → ℕ → Option (List (List ℕ)) → Type 0
+IsOlder versions list version None = version ≡ version_count versions
+IsOlder versions list version (Some set) = set ≡ prefixes_at versions list version

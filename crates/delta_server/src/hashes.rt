@@ -1,57 +1,12 @@
-ghost use Rattle.std.specs.Prelude.{◌≡◌, ◌<◌, ◌^◌, List, [], ◌∷◌, length, take, nat_eq, IfOk, OnOk};
-ghost use Rattle.std.specs.Cmp.{partial_equiv_from_equiv};
-ghost use Rattle.std.specs.Cmp.Lexicographic.{pointwise, nat_list_eq_equiv};
-ghost use Rattle.std.proofs.Common.{ap};
-ghost use Rattle.std.proofs.lemmas.Slice.Eq.{bytes_eq-Decides};
+ghost use Rattle.std.specs.Prelude.{◌≡◌, ◌<◌, ◌^◌, List, [], length, IfOk, OnOk};
 ghost use Rattle.sb_model.specs.declared.history.Added.{Added as Entry};
 ghost use Rattle.sb_model.specs.History.{prefix_of, without_hash, with_added};
 ghost use Rattle.delta_server.specs.Counts.{prefix_at, Knows};
 
-use hash_prefixes::Prefix;
+use hash_prefixes::{HashKey, Prefix};
 use sb_model::OutOfMemory;
 use std::alloc::Global;
 use std::collections::HashMap;
-use std::hash::{Hash, Hasher};
-use std::marker::Model;
-
-/// A full hash as the key of a map, of which the first eight bytes are hashed: no more than 16 of the
-/// full hashes of a version share their first four. Contracts see it as its bytes.
-#[derive(Drop)]
-pub(crate) struct HashKey {
-    bytes: [u8; 32],
-}
-
-impl Model for HashKey {
-    ghost use Rattle.std.specs.Prelude.{ℕ, List};
-
-    ghost Value = { List ℕ };
-
-    ghost view = { λ key. key.bytes };
-}
-
-impl PartialEq for HashKey {
-    ghost eq = { pointwise nat_eq };
-
-    ghost laws = { partial_equiv_from_equiv nat_list_eq_equiv };
-
-    fn eq(&self, other: &HashKey) -> bool {
-        self.bytes == other.bytes
-    }
-}
-
-impl Eq for HashKey {
-    ghost laws = { nat_list_eq_equiv };
-}
-
-impl Hash for HashKey {
-    ghost hash_input = { λ key. take 8 key ∷ [] };
-
-    ghost respects_eq = { λ x y same. ap (λ bytes. take 8 bytes ∷ []) ((bytes_eq-Decides x y).0 same) };
-
-    fn hash<H: Hasher>(&self, state: &mut H) {
-        state.write(&self.bytes[..8]);
-    }
-}
 
 /// The full hashes of a version, each with the prefix that is published of it. They are digests, so
 /// that a fixed seed spreads them well enough.
@@ -95,6 +50,7 @@ impl Hashes {
             → length entries < 2 ^ 63) }
     {
         let gone = self.prefixes.insert(HashKey { bytes: hash }, prefix)?;
+        // looked at for the prover: a map holds fewer than 2^63 entries
         let _ = self.prefixes.len();
         Ok(gone)
     }

@@ -16,8 +16,8 @@ use std::collections::HashMap;
 /// them well enough.
 pub(crate) type HolderCounts = HashMap<Prefix, u64>;
 
-// Counts one more, and gives the count before.
-fn raise(counts: &mut HolderCounts, prefix: Prefix) -> Result<u64, OutOfMemory>
+// Counts one more of a prefix, and gives the count before.
+fn add_holder(counts: &mut HolderCounts, prefix: Prefix) -> Result<u64, OutOfMemory>
     ensures before { IfOk result
         (λ count. count ≡ unwrap_or (found_in counts.old.entries prefix) 0) }
     ensures puts { IfOk result (λ count. Puts counts.old.entries counts.new.entries prefix
@@ -31,8 +31,8 @@ fn raise(counts: &mut HolderCounts, prefix: Prefix) -> Result<u64, OutOfMemory>
     Ok(before)
 }
 
-// Counts one less, and gives the count that is left.
-fn lower(counts: &mut HolderCounts, prefix: Prefix) -> Result<u64, OutOfMemory>
+// Counts one less of a prefix, and gives the count that is left.
+fn remove_holder(counts: &mut HolderCounts, prefix: Prefix) -> Result<u64, OutOfMemory>
     ensures left { IfOk result
         (λ left. left ≡ unwrap_or (found_in counts.old.entries prefix) 0 - 1) }
     ensures puts { IfOk result
@@ -96,8 +96,9 @@ impl<'a> Holders<'a> {
         ensures held { self.new.held.now ≡ self.old.held.now }
     {
         sets_go_by_members();
+        // looked at for the prover: what each set keeps
         let _ = self.held.len();
-        let before = raise(&mut self.counts, prefix)?;
+        let before = add_holder(&mut self.counts, prefix)?;
         if before == 0 && self.held.contains(&prefix) {
             self.shared = self.shared.saturating_add(1);
         }
@@ -111,8 +112,9 @@ impl<'a> Holders<'a> {
         ensures held { self.new.held.now ≡ self.old.held.now }
     {
         sets_go_by_members();
+        // looked at for the prover: what each set keeps
         let _ = self.held.len();
-        let left = lower(&mut self.counts, prefix)?;
+        let left = remove_holder(&mut self.counts, prefix)?;
         if left == 0 && self.held.contains(&prefix) {
             self.shared = self.shared.saturating_sub(1);
         }

@@ -1,16 +1,19 @@
-ghost use Rattle.std.specs.Prelude.{◌≡◌, ◌≤◌, true, Some, None, map, All, IfOk, IfSome};
-ghost use Rattle.sb_model.specs.History.{declares, version_count};
+ghost use Rattle.std.specs.Prelude.{◌≡◌, ◌≤◌, true, Some, None, map, option_copied, All, IfOk, IfSome};
+ghost use Rattle.sha2.specs.Sha256.{sha256};
+ghost use Rattle.sb_model.specs.Prefixes.{concatenation};
+ghost use Rattle.sb_model.specs.History.{declares, prefixes_at, version_count};
 ghost use Rattle.sb_model.specs.Target.{target_version};
 ghost use Rattle.update_messages.specs.Answer.{version_named, update_to, update_for};
-ghost use Rattle.delta_server.specs.Served.{IsServed};
-ghost use Rattle.delta_server.specs.Tokens.{server_naming};
+ghost use Rattle.delta_server.specs.Served.{IsOlder, IsServed};
+ghost use Rattle.delta_server.specs.Tokens.{server_naming, server_token};
 
-use crate::served::{Served, held_at, later_prefixes, prefixes_at, served_list};
+use crate::served::{Held, Served, held_at, later_prefixes, older_prefixes, served_list};
 use crate::target::{Limits, target};
 use crate::tokens::{held_version, state_token};
 use crate::updates::{Sent, full_update, partial_update, unchanged_update};
 use list_versions::History;
-use sb_model::{OutOfMemory, Row};
+use prefix_set::PrefixSet;
+use sb_model::{ListName, OutOfMemory, Row};
 use std::alloc::Global;
 use update_messages::{ListRequest, ListUpdate};
 
@@ -22,6 +25,39 @@ fn limits_of(asked: &ListRequest) -> Limits
     Limits {
         update: asked.max_update,
         database: asked.max_database,
+    }
+}
+
+// A version as it is sent: the set that was made of it, or else the newest with its digest, and the
+// token of the version.
+fn sent_of<'a>(
+    history: &History,
+    list: ListName,
+    version: u64,
+    newest: &'a PrefixSet,
+    digest: [u8; 32],
+    older: Option<&'a PrefixSet>,
+) -> Sent<'a>
+    requires newest { newest.now
+        ≡ prefixes_at history.now.versions list (version_count history.now.versions) }
+    requires digest { digest ≡ sha256 (concatenation newest.now) }
+    requires older { IsOlder history.now.versions list version (option_copied older) }
+    ensures set { result.set.now ≡ prefixes_at history.now.versions list version }
+    ensures digest { result.digest ≡ sha256 (concatenation result.set.now) }
+    ensures token { result.token ≡ server_token history.now.versions.epoch list version }
+{
+    let token = state_token(history.epoch(), list, version);
+    match older {
+        None => Sent {
+            set: newest,
+            digest,
+            token,
+        },
+        Some(set) => Sent {
+            set,
+            digest: set.digest(),
+            token,
+        },
     }
 }
 
@@ -47,23 +83,16 @@ fn whole_answer(
         &nothing,
         limits_of(asked),
     )?;
-    let token = state_token(history.epoch(), list, version);
-    if version == history.len() {
-        let newest = Sent {
-            set: served.set,
-            digest: served.digest,
-            token,
-        };
-        return full_update(alloc, asked, &newest);
-    }
-    let set = prefixes_at(alloc, history, list, version)?;
-    let digest = set.digest();
-    let older = Sent {
-        set: &set,
-        digest,
-        token,
-    };
-    full_update(alloc, asked, &older)
+    let older = older_prefixes(alloc, history, list, version)?;
+    let sent = sent_of(
+        history,
+        list,
+        version,
+        served.set,
+        served.digest,
+        older.as_ref(),
+    );
+    full_update(alloc, asked, &sent)
 }
 
 // The update for one who holds a version of a list: what leads from its set to another.
@@ -84,7 +113,7 @@ fn partial_answer(
         let token = state_token(history.epoch(), list, held);
         return unchanged_update(alloc, asked, served.digest, token);
     }
-    let mut before = held_at(alloc, history, list, held)?;
+    let before = held_at(alloc, history, list, held)?;
     let version = target(
         alloc,
         history,
@@ -94,24 +123,17 @@ fn partial_answer(
         &before,
         limits_of(asked),
     )?;
-    let token = state_token(history.epoch(), list, version);
-    if version == history.len() {
-        let newest = Sent {
-            set: served.set,
-            digest: served.digest,
-            token,
-        };
-        return partial_update(alloc, asked, served.size, &before.set, &newest);
-    }
-    let folding = &mut before.folding;
-    let set = later_prefixes(alloc, history, list, folding, held, version)?;
-    let digest = set.digest();
-    let older = Sent {
-        set: &set,
-        digest,
-        token,
-    };
-    partial_update(alloc, asked, served.size, &before.set, &older)
+    let Held { folding, set } = before;
+    let older = later_prefixes(alloc, history, list, folding, held, version)?;
+    let sent = sent_of(
+        history,
+        list,
+        version,
+        served.set,
+        served.digest,
+        older.as_ref(),
+    );
+    partial_update(alloc, asked, served.size, &set, &sent)
 }
 
 // The version that the asked state names, where it names one.

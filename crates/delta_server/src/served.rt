@@ -1,7 +1,7 @@
 ghost use Rattle.std.specs.Prelude.{◌≡◌, ◌≤◌, true, false, IfOk, IfSome, IfNone};
 ghost use Rattle.sb_model.specs.History.{declares, version_count, sizes_at, prefixes_at};
 ghost use Rattle.list_versions.specs.HashSizes.{IsMapOf};
-ghost use Rattle.delta_server.specs.Served.{IsServed};
+ghost use Rattle.delta_server.specs.Served.{IsOlder, IsServed};
 
 use list_versions::{Folding, History};
 use prefix_set::PrefixSet;
@@ -34,21 +34,24 @@ pub(crate) fn served_list(history: &History, list: ListName) -> Option<Served<'_
     })
 }
 
-/// The prefixes of a declared list at a version.
-pub(crate) fn prefixes_at(
+/// The prefixes of a declared list at a version; `None` where it is the newest, whose set is served.
+pub(crate) fn older_prefixes(
     alloc: Global,
     history: &History,
     list: ListName,
     version: u64,
-) -> Result<PrefixSet, OutOfMemory>
+) -> Result<Option<PrefixSet>, OutOfMemory>
     requires declared { declares history.now.versions list ≡ true }
     requires within { version ≤ version_count history.now.versions }
-    ensures { IfOk result (λ set. set ≡ prefixes_at history.now.versions list version) }
+    ensures { IfOk result (IsOlder history.now.versions list version) }
 {
+    if version == history.len() {
+        return Ok(None);
+    }
     let Some(set) = history.prefixes(alloc, list, version)? else {
         unreachable!()
     };
-    Ok(set)
+    Ok(Some(set))
 }
 
 /// The full hashes of a list at a version that a client holds, and their prefixes.
@@ -74,21 +77,25 @@ pub(crate) fn held_at(
     Ok(Held { folding, set })
 }
 
-/// The prefixes of a list at a version, where its full hashes at an earlier one were folded.
+/// The prefixes of a list at a version, where its full hashes at an earlier one were folded; `None`
+/// where it is the newest, whose set is served.
 pub(crate) fn later_prefixes(
     alloc: Global,
     history: &History,
     list: ListName,
-    folding: &mut Folding,
+    folding: Folding,
     from: u64,
     to: u64,
-) -> Result<PrefixSet, OutOfMemory>
-    requires folding { IsMapOf folding.old (sizes_at history.now.versions list from) }
+) -> Result<Option<PrefixSet>, OutOfMemory>
+    requires folding { IsMapOf folding (sizes_at history.now.versions list from) }
     requires order { from ≤ to }
     requires within { to ≤ version_count history.now.versions }
-    ensures { IfOk result (λ set. set ≡ prefixes_at history.now.versions list to) }
+    ensures { IfOk result (IsOlder history.now.versions list to) }
 {
-    history.fold_on(folding, list, from, to)?;
-    let set = folding.prefixes(alloc)?;
-    Ok(set)
+    if to == history.len() {
+        return Ok(None);
+    }
+    let later = history.fold_on(folding, list, from, to)?;
+    let set = later.prefixes(alloc)?;
+    Ok(Some(set))
 }

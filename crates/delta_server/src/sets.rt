@@ -1,4 +1,4 @@
-ghost use Rattle.std.specs.Prelude.{◌≡◌, ℕ, ◌<◌, ◌≤◌, [], ◌∷◌, false, length, filter, slice_index_or, IfOk, IsTrue, All};
+ghost use Rattle.std.specs.Prelude.{◌≡◌, ℕ, ◌<◌, ◌≤◌, List, [], ◌∷◌, false, length, filter, slice_index_or, IfOk, IsTrue, All};
 ghost use Rattle.std.specs.List.{list_any};
 ghost use Rattle.std.specs.List.Sorted.{IsStrictlyIncreasing};
 ghost use Rattle.sb_model.specs.Prefixes.{concatenation};
@@ -9,6 +9,7 @@ ghost use Rattle.update_messages.specs.Messages.{IsAddition, IsRemoval};
 
 use crate::numbers::rising_numbers;
 use hash_prefixes::Prefix;
+use prefix_set::PrefixSet;
 use rice_coding::encode;
 use sb_model::{Bytes, OutOfMemory, Row};
 use std::alloc::Global;
@@ -40,26 +41,53 @@ fn bytes_of_size(alloc: Global, members: &[Prefix], size: u8) -> Result<Bytes, O
     Ok(bytes)
 }
 
-// The additions of one size that occurs.
-fn addition_set(
-    alloc: Global,
-    members: &[Prefix],
-    size: u8,
-    rice: bool,
-) -> Result<Additions, OutOfMemory>
+// Prefixes of four bytes that stand one after the other.
+fn quads_of(bytes: &[u8]) -> &[[u8; 4]]
+    ensures { (members : List (List ℕ)) → bytes.now ≡ concatenation (filter (has_size 4) members)
+        → result.now ≡ filter (has_size 4) members }
+{
+    bytes.as_chunks::<4>().0
+}
+
+// The additions of one size that occurs, from the bytes of its members.
+fn addition_set(alloc: Global, size: u8, bytes: Bytes, rice: bool) -> Result<Additions, OutOfMemory>
     requires size { IsPrefixSize size }
-    requires occurs { IsTrue (list_any (has_size size) members.now) }
-    requires few { length members.now ≤ MAX_PREFIXES }
-    ensures set { IfOk result (λ set. set ≡ addition_set rice members.now size) }
+    requires members { (members : List (List ℕ)) × (bytes ≡ concatenation (filter (has_size size) members))
+        × IsTrue (list_any (has_size size) members) × (length members ≤ MAX_PREFIXES) }
+    ensures set { IfOk result (λ set. (members : List (List ℕ))
+        → bytes ≡ concatenation (filter (has_size size) members) → set ≡ addition_set rice members size) }
     ensures keeps { IfOk result IsAddition }
 {
     if size == 4 && rice {
-        let numbers = rising_numbers(alloc, members)?;
+        let numbers = rising_numbers(alloc, quads_of(bytes.as_slice()))?;
         Ok(Additions::Rice(encode(alloc, &numbers)?))
     } else {
-        let bytes = bytes_of_size(alloc, members, size)?;
         Ok(Additions::Raw { size, bytes })
     }
+}
+
+/// The additions of a full update, those of all members of a set: one set for each size that occurs,
+/// rising. Prefixes of four bytes are Rice coded where the client takes that. No list of the members
+/// is made.
+pub(crate) fn whole_sets(
+    alloc: Global,
+    set: &PrefixSet,
+    rice: bool,
+) -> Result<Row<Additions>, OutOfMemory>
+    ensures sets { IfOk result (λ sets. sets ≡ addition_sets rice set.now) }
+    ensures keep { IfOk result (All IsAddition) }
+{
+    // looked at for the prover: what each set keeps
+    let _ = set.len();
+    let sizes = set.sizes();
+    let mut sets = Row::new(alloc);
+    for size in 4..33 {
+        if sizes[size as usize] {
+            let bytes = set.bytes_of_size(alloc, size)?;
+            sets.push(addition_set(alloc, size, bytes, rice)?)?;
+        }
+    }
+    Ok(sets)
 }
 
 /// The additions of an update: one set for each size that occurs, rising. Prefixes of four bytes
@@ -77,7 +105,8 @@ pub fn addition_sets(
     let mut sets = Row::new(alloc);
     for size in 4..33 {
         if sizes[size as usize] {
-            sets.push(addition_set(alloc, members, size, rice)?)?;
+            let bytes = bytes_of_size(alloc, members, size)?;
+            sets.push(addition_set(alloc, size, bytes, rice)?)?;
         }
     }
     Ok(sets)

@@ -58,6 +58,7 @@ pub(crate) fn target(
     if may_surely_take(&before.set, served.set, limits) {
         return Ok(history.len());
     }
+    // looked at for the prover: what holds of each history that was read
     let _ = history.len();
     let entries = before.folding.entries(alloc)?;
     target_of(

@@ -4,8 +4,7 @@ ghost use Rattle.sb_model.specs.Difference.{removed_places, added_members};
 ghost use Rattle.sb_model.specs.Prefixes.{concatenation};
 ghost use Rattle.delta_server.specs.Updates.{whole_update, difference_update};
 
-use crate::sets::{addition_sets, removal_sets};
-use hash_prefixes::Prefix;
+use crate::sets::{addition_sets, removal_sets, whole_sets};
 use prefix_set::{Delta, PrefixSet};
 use sb_model::{Bytes, OutOfMemory, Row};
 use std::alloc::Global;
@@ -17,17 +16,6 @@ pub struct Sent<'a> {
     pub set: &'a PrefixSet,
     pub digest: [u8; 32],
     pub token: [u8; 20],
-}
-
-// The members of a set.
-fn members_of(alloc: Global, set: &PrefixSet) -> Result<Row<Prefix>, OutOfMemory>
-    ensures { IfOk result (λ members. members ≡ set.now) }
-{
-    let mut members = Row::with_capacity(alloc, set.len() as usize)?;
-    for i in 0..set.len() {
-        members.push(set.at(i))?;
-    }
-    Ok(members)
 }
 
 // The state that an update is made for.
@@ -54,13 +42,11 @@ pub fn full_update(
     requires { newer.now.digest ≡ sha256 (concatenation newer.now.set.now) }
     ensures { IfOk result (λ update. update ≡ whole_update asked.now newer.now.set.now newer.now.token) }
 {
-    let _ = newer.set.len();
-    let members = members_of(alloc, newer.set)?;
     Ok(ListUpdate {
         name: asked.name,
         full: true,
         base: Bytes::new(alloc),
-        additions: addition_sets(alloc, members.as_slice(), asked.rice)?,
+        additions: whole_sets(alloc, newer.set, asked.rice)?,
         removals: Row::new(alloc),
         new_state: Bytes::from_slice(alloc, newer.token.as_slice())?,
         checksum: newer.digest,
@@ -78,6 +64,7 @@ pub fn partial_update(
     requires { newer.now.digest ≡ sha256 (concatenation newer.now.set.now) }
     ensures { IfOk result (λ update. update ≡ difference_update asked.now size old.now newer.now.set.now newer.now.token) }
 {
+    // looked at for the prover: what each set keeps
     let _ = old.len();
     let _ = newer.set.len();
     let delta = delta_of(alloc, old, newer.set)?;

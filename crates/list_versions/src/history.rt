@@ -303,22 +303,22 @@ impl History {
     }
 
     /// Folds the changes between two versions: the full hashes of a list at the one become those at
-    /// the other. Nothing is said of them after an `Err`.
+    /// the other. They are moved, and dropped where memory is refused.
     pub fn fold_on(
         &self,
-        folding: &mut Folding,
+        folding: Folding,
         list: ListName,
         from: u64,
         to: u64,
-    ) -> Result<(), OutOfMemory>
+    ) -> Result<Folding, OutOfMemory>
         requires order { from ≤ to }
         requires within { to ≤ version_count self.now.versions }
-        ensures map { OnOk result (IsMapOf folding.old (sizes_at self.now.versions list from)
-            → IsMapOf folding.new (sizes_at self.now.versions list to)) }
+        ensures map { IfOk result (λ later. IsMapOf folding (sizes_at self.now.versions list from)
+            → IsMapOf later (sizes_at self.now.versions list to)) }
         ensures publishable { OnOk result (All IsPublishable (sizes_at self.now.versions list to)) }
     {
-        fold_on(folding, &self.draft, list, from as usize, to as usize)?;
-        Ok(())
+        let later = fold_on(folding, &self.draft, list, from as usize, to as usize)?;
+        Ok(later)
     }
 
     /// The full hashes of a declared list at a version that begin with a prefix, rising.

@@ -184,41 +184,42 @@ fn folded_anew<L: Ledger>(
 // Folds the changes between two versions, counted from zero.
 fn fold_anew<L: Ledger>(
     blank: Blank,
-    folding: &mut Folding,
+    folding: Folding,
     draft: &Draft,
     list: ListName,
     from: usize,
     to: usize,
-) -> Result<(), OutOfMemory>
+) -> Result<Folding, OutOfMemory>
     requires name { blank.name ≡ L.name }
     requires parts { blank.parts ≡ L.parts }
     requires some { 0 < blank.parts }
     requires stem { IsStem draft.now }
     requires order { from ≤ to }
     requires within { to ≤ length draft.now.changes.items }
-    ensures { OnOk result (IsMapOf folding.old (sizes_at (history_of draft.now) list from)
-        → IsMapOf folding.new (sizes_at (history_of draft.now) list to)) }
+    ensures { IfOk result (λ later. IsMapOf folding (sizes_at (history_of draft.now) list from)
+        → IsMapOf later (sizes_at (history_of draft.now) list to)) }
 {
+    let mut folding = folding;
     let mut steps = Steps::<L>::new(blank);
     let changes = &draft.changes.as_slice()[..to];
-    fold_changes(folding, list, &changes[from..], &mut steps)?;
-    Ok(())
+    fold_changes(&mut folding, list, &changes[from..], &mut steps)?;
+    Ok(folding)
 }
 
 /// Folds the changes between two versions: the full hashes of a list at the one become those at the
 /// other.
 pub(crate) fn fold_on(
-    folding: &mut Folding,
+    folding: Folding,
     draft: &Draft,
     list: ListName,
     from: usize,
     to: usize,
-) -> Result<(), OutOfMemory>
+) -> Result<Folding, OutOfMemory>
     requires stem { IsStem draft.now }
     requires order { from ≤ to }
     requires within { to ≤ length draft.now.changes.items }
-    ensures { OnOk result (IsMapOf folding.old (sizes_at (history_of draft.now) list from)
-        → IsMapOf folding.new (sizes_at (history_of draft.now) list to)) }
+    ensures { IfOk result (λ later. IsMapOf folding (sizes_at (history_of draft.now) list from)
+        → IsMapOf later (sizes_at (history_of draft.now) list to)) }
 {
     fold_anew::<Brand>(Blank::new(1), folding, draft, list, from, to)
 }

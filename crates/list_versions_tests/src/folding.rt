@@ -17,9 +17,9 @@ fn folded(
     if from > to || to > history.len() {
         return Ok(None);
     }
-    let mut folding = history.folding(alloc, name(), from)?;
-    history.fold_on(&mut folding, name(), from, to)?;
-    Ok(Some(folding))
+    let folding = history.folding(alloc, name(), from)?;
+    let later = history.fold_on(folding, name(), from, to)?;
+    Ok(Some(later))
 }
 
 fn folding_of(rt: &(impl Abort + AllocGlobal), from: u64, to: u64) -> Folding {

@@ -6,19 +6,12 @@ use Rattle.sb_model.specs.History.{History}
 use Rattle.sb_model.specs.Naming.{Naming}
 use Rattle.sb_outside.specs.Outside.{next_piece, left_after_end, appended, Rose}
 use Rattle.sb_outside.specs.Writing.{HasFront}
-use Rattle.update_client.specs.declared.fault.ListResult.{ListResult}
-use Rattle.update_client.specs.declared.fault.ListResult.TheVariants.{Installed, Refused, NotKept}
 use Rattle.update_client.specs.Held.{Held, in_order, nothing_held_of}
-use Rattle.update_client.specs.Step.{after_updates, results_of}
+use Rattle.update_client.specs.Step.{is_refused, after_updates, results_of}
 use Rattle.update_client.specs.Replica.{AreReplicas}
 use Rattle.sb_client.specs.Lines.{lines_of, IsWithinLimits}
 use Rattle.sb_client.specs.Readings.{Reading, AreReadings, updates_of}
 use Rattle.sb_client.specs.Printed.{outcome_lines, list_lines, replay_text}
-
-abbrev pub is_refused : ListResult → Bool
-is_refused (Installed entries) = false
-is_refused (Refused fault) = true
-is_refused NotKept = false
 
 -- whether a body that comes to these lists has no reading, or an update that is refused
 abbrev pub has_refusal : List Held → Reading → Bool

@@ -269,7 +269,7 @@ pub(crate) fn run_line<'a>(
     let [program, command, rest @ ..] = words else {
         return Ok(None);
     };
-    if are(program, command, "sbupdate", "run") {
+    if are_words(program, command, "sbupdate", "run") {
         return run_line_of(alloc, rest);
     }
     Ok(None)
@@ -333,7 +333,7 @@ fn bare_command(
 }
 
 /// Whether the first two words are these.
-fn are(program: &String, command: &String, first: &str, second: &str) -> bool
+fn are_words(program: &String, command: &String, first: &str, second: &str) -> bool
     ensures { result ≡ (bytes_eq (string_bytes program.now) first.now && bytes_eq (string_bytes command.now) second.now) }
 {
     program.as_str() == first && command.as_str() == second
@@ -346,16 +346,16 @@ pub(crate) fn command_of(alloc: Global, words: &[String]) -> Result<Option<Comma
     let [program, command, rest @ ..] = words else {
         return Ok(None);
     };
-    if are(program, command, "sbupdate", "replay") {
+    if are_words(program, command, "sbupdate", "replay") {
         return replay_command(alloc, rest);
     }
-    if are(program, command, "sbupdate", "run") {
+    if are_words(program, command, "sbupdate", "run") {
         return run_command(alloc, rest);
     }
-    if are(program, command, "sbcheck", "show") {
+    if are_words(program, command, "sbcheck", "show") {
         return bare_command(alloc, rest, Command::Show);
     }
-    if are(program, command, "sbcheck", "vectors") {
+    if are_words(program, command, "sbcheck", "vectors") {
         return bare_command(alloc, rest, Command::Vectors);
     }
     Ok(None)

@@ -6,13 +6,13 @@ ghost use Rattle.sb_client.specs.Printed.{numbered, prefix_line};
 use hash_prefixes::append_hex;
 use sb_json::{MessageFault, push_message_cause};
 use sb_model::{Bytes, ListName, OutOfMemory};
-use sb_round::{push_number, push_taken};
+use sb_round::push_taken;
 use update_client::ListResult;
 
 fn push_number_first(page: &mut Bytes, number: u64) -> Result<(), OutOfMemory>
     ensures { OnOk result (page.new ≡ page.old ++ (decimal number ++ codes " ")) }
 {
-    push_number(page, number)?;
+    page.append_decimal(number)?;
     page.push(b' ')
 }
 

@@ -4,7 +4,7 @@ ghost use Rattle.sb_outside.specs.Outside.{Rose, appended};
 ghost use Rattle.sb_outside.specs.Writing.{IsOnItsWay, HasFront};
 ghost use Rattle.sb_json.specs.Printed.{cause_text};
 ghost use Rattle.update_client.specs.Held.{most_lists, nothing_held_of};
-ghost use Rattle.update_client.specs.Step.{after_updates, results_of};
+ghost use Rattle.update_client.specs.Step.{after_updates, is_refused, results_of};
 ghost use Rattle.sb_round.specs.Printed.{taken_text};
 ghost use Rattle.sb_round.specs.Run.{lists_after};
 ghost use Rattle.sb_client.specs.Lines.{lines_of};
@@ -13,7 +13,7 @@ ghost use Rattle.sb_client.specs.Readings.{Reading as ReadingOf, updates_of, bod
 ghost use Rattle.sb_client.specs.Printed.{numbered, taken_lines, body_lines, outcome_lines, list_lines, prefix_line, replay_text};
 ghost use Rattle.sb_client.specs.Input.{GivesWithin, GivesPast};
 ghost use Rattle.sb_client.specs.Writing.{IsStopped, HasPart};
-ghost use Rattle.sb_client.specs.Replay.{is_refused as is_refused_result, has_refusal, has_refusals, IsPrinted, IsPartlyPrinted};
+ghost use Rattle.sb_client.specs.Replay.{has_refusal, has_refusals, IsPrinted, IsPartlyPrinted};
 
 use crate::input::{first_line, read_input};
 use crate::lines::{Reading, read_line};
@@ -27,21 +27,11 @@ use update_client::{ClientLists, HeldList, ListResult};
 use update_messages::{FetchResponse, ListUpdate, values_read_or_have_a_fault};
 use update_run::push_list_line;
 
-/// Whether an update is told with status 5.
-fn is_refused(outcome: &ListResult) -> bool
-    ensures { result ≡ is_refused_result outcome.now }
-{
-    match outcome {
-        ListResult::Installed(_) | ListResult::NotKept => false,
-        ListResult::Refused(_) => true,
-    }
-}
-
-/// Whether one of several updates is.
+/// Whether one of several updates is told with status 5.
 fn any_refused(outcomes: &[ListResult]) -> bool
-    ensures { result ≡ list_any is_refused_result outcomes.now }
+    ensures { result ≡ list_any is_refused outcomes.now }
 {
-    outcomes.iter().any(|outcome| is_refused(outcome))
+    outcomes.iter().any(|outcome| outcome.is_refused())
 }
 
 /// Prints the line of an update.
@@ -120,7 +110,7 @@ fn take_body<O: Sink>(
     page: &mut Bytes,
 ) -> Result<bool, Stop>
     ensures lists { OnOk result (lists.new ≡ after_updates lists.old body.now.items) }
-    ensures refused { IfOk result (λ refused. refused ≡ list_any is_refused_result (results_of lists.old body.now.items)) }
+    ensures refused { IfOk result (λ refused. refused ≡ list_any is_refused (results_of lists.old body.now.items)) }
     ensures text { OnOk result (IsOnItsWay (O.contents out.old) (O.contents out.new) page.new
         (page.old ++ taken_lines number body.now.items (results_of lists.old body.now.items))) }
     ensures kept { OnOk result (O.faults out.new ≡ O.faults out.old) }

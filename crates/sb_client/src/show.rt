@@ -15,11 +15,9 @@ ghost use Rattle.sb_client.specs.Writing.{IsStopped};
 
 use crate::input::{first_line, read_input};
 use crate::stop::Stop;
-use hash_prefixes::append_hex;
+use hash_prefixes::{append_hex, full_hash};
 use sb_model::{Bytes, OutOfMemory};
 use sb_outside::{Sink, Source, flush, flush_if_full};
-use sb_round::push_number;
-use sha2::{Digest, Sha256};
 use std::alloc::Global;
 use url_canon::{CanonicalUrl, UrlFault, canonical};
 use url_expressions::expressions;
@@ -33,7 +31,7 @@ fn push_url_cause(page: &mut Bytes, fault: UrlFault) -> Result<(), OutOfMemory>
         UrlFault::NoHost => page.append(b"no-host"),
         UrlFault::TooLong(len) => {
             page.append(b"too-long ")?;
-            push_number(page, len as u64)
+            page.append_decimal(len as u64)
         }
         UrlFault::OutOfMemory => Ok(()),
     }
@@ -43,7 +41,7 @@ fn push_url_cause(page: &mut Bytes, fault: UrlFault) -> Result<(), OutOfMemory>
 fn push_refused(page: &mut Bytes, number: u64, fault: UrlFault) -> Result<(), OutOfMemory>
     ensures { OnOk result (page.new ≡ page.old ++ numbered number (codes "refused " ++ url_cause fault)) }
 {
-    push_number(page, number)?;
+    page.append_decimal(number)?;
     page.append(b" refused ")?;
     push_url_cause(page, fault)?;
     page.push(b'\n')
@@ -53,7 +51,7 @@ fn push_refused(page: &mut Bytes, number: u64, fault: UrlFault) -> Result<(), Ou
 fn push_url(page: &mut Bytes, number: u64, text: &[u8]) -> Result<(), OutOfMemory>
     ensures { OnOk result (page.new ≡ page.old ++ numbered number text.now) }
 {
-    push_number(page, number)?;
+    page.append_decimal(number)?;
     page.push(b' ')?;
     page.append(text)?;
     page.push(b'\n')
@@ -63,9 +61,9 @@ fn push_url(page: &mut Bytes, number: u64, text: &[u8]) -> Result<(), OutOfMemor
 fn push_expression(page: &mut Bytes, expression: &[u8]) -> Result<(), OutOfMemory>
     ensures { OnOk result (page.new ≡ page.old ++ expression_line expression.now) }
 {
-    let digest = Sha256::digest(expression);
+    let hash = full_hash(expression);
     page.append(b"  ")?;
-    append_hex(page, &digest)?;
+    append_hex(page, &hash.bytes)?;
     page.push(b' ')?;
     page.append(expression)?;
     page.push(b'\n')

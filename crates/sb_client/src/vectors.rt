@@ -7,7 +7,6 @@ use crate::stop::Stop;
 use conformance_vectors::{Case, published_cases, run_table};
 use sb_model::{Bytes, OutOfMemory};
 use sb_outside::{Sink, flush};
-use sb_round::push_number;
 use std::alloc::Global;
 
 /// Appends how many cases of so many are met.
@@ -15,9 +14,9 @@ fn push_count(page: &mut Bytes, passed: usize, all: usize) -> Result<(), OutOfMe
     ensures { OnOk result (page.new ≡ page.old ++ count_text passed all) }
 {
     page.append(b"vectors ")?;
-    push_number(page, passed as u64)?;
+    page.append_decimal(passed as u64)?;
     page.append(b" of ")?;
-    push_number(page, all as u64)?;
+    page.append_decimal(all as u64)?;
     page.push(b'\n')
 }
 

@@ -1,7 +1,7 @@
 //! Fields that are absent, and values of each kind where another should stand.
 use sb_json::{
-    Field, FieldFault, bytes, bytes_item, duration, duration_item, field, items,
-    items_item, object, object_item, read_json, string, string_item, text, whole, whole_item,
+    Field, FieldFault, bytes, bytes_item, duration, duration_item, field, items, items_item,
+    object, object_item, read_json, string, string_item, text, whole, whole_item,
 };
 use serde_json::Value;
 use std::alloc::Global;

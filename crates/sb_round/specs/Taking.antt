@@ -1,15 +1,12 @@
 -- What is known of a round on the way through it.
-use Rattle.std.specs.Prelude.{◌≡◌, ℕ, Bool, List, [], ◌∷◌, Option, Result}
+use Rattle.std.specs.Prelude.{◌≡◌, ℕ, Bool, List, Option, Result}
 use Rattle.sb_model.specs.declared.time.Moment.{Moment}
 use Rattle.sb_outside.specs.Outside.{IfTold, with_entry}
 use Rattle.sb_outside.specs.declared.links.Session.{Session}
 use Rattle.sb_outside.specs.declared.links.Kind.TheVariants.{Update}
-use Rattle.update_messages.specs.Messages.{UpdatedList}
 use Rattle.update_messages.specs.declared.response.FetchResponse.{FetchResponse}
 use Rattle.update_client.specs.Held.{Held}
 use Rattle.update_client.specs.Step.{after_updates}
-use Rattle.update_client.specs.declared.fault.ListResult.{ListResult}
-use Rattle.update_client.specs.declared.fault.ListResult.TheVariants.{NotKept}
 use Rattle.http_edge.specs.Exchanges.{SendsWhole}
 use Rattle.http_edge.specs.Outcomes.{SessionOutcome}
 use Rattle.http_edge.specs.declared.faults.ExchangeFault.{ExchangeFault}
@@ -18,20 +15,6 @@ use Rattle.wait_rules.specs.declared.waits.WaitState.{WaitState}
 use Rattle.sb_round.specs.Round.{RoundSession, IsRoundSession, IsBeginning, IsAnswerOf, IsDrawn, moments_before, moments_of, words_of, updates_of, waits_at_end, taken_from, with_more}
 use Rattle.sb_round.specs.declared.rounds.RoundEnd.{RoundEnd}
 use Rattle.sb_round.specs.declared.rounds.RoundFault.{RoundFault}
-use Rattle.sb_round.specs.declared.rounds.Taken.{Taken}
-
--- the name of an update, before its result is known
-abbrev pub not_taken : UpdatedList → Taken
-not_taken update = record { name = update.name; result = NotKept }
-
-abbrev pub with_result : Taken → ListResult → Taken
-with_result taken result = record { name = taken.name; result = result }
-
--- the results put in place, of which the last may be lacking
-abbrev pub all_put : List Taken → List ListResult → List Taken
-all_put [] results = []
-all_put (taken ∷ more) [] = taken ∷ more
-all_put (taken ∷ more) (result ∷ results) = with_result taken result ∷ all_put more results
 
 -- The clock was read, and waited where it was too early.
 pub record HasBegun (waits : WaitState) (before after : Option (List Moment)) (begun : Moment) : Type 0 where

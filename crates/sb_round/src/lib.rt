@@ -6,7 +6,7 @@
 #![tactic(auto)]
 
 pub use laws::{replicas_stay, rounds_go_on};
-pub use printing::{push_name, push_number, push_taken};
+pub use printing::{push_name, push_taken};
 pub use round_lines::{push_round, push_round_line, push_update_line};
 pub use rounds::{RoundEnd, RoundFault, Taken};
 pub use running::run_round;

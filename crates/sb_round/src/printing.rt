@@ -1,22 +1,14 @@
-ghost use Rattle.std.specs.Prelude.{◌≡◌, ◌++◌, decimal, OnOk};
+ghost use Rattle.std.specs.Prelude.{◌≡◌, ◌++◌, length, take, OnOk, OnErr};
 ghost use Rattle.sb_model.specs.Names.{text_of};
 ghost use Rattle.sb_round.specs.Printed.{result_text, taken_text};
 
-use itoa::Buffer;
 use sb_model::{Bytes, ListName, OutOfMemory};
 use update_client::{ListResult, push_update_cause};
 
-/// Appends a number in decimal.
-pub fn push_number(page: &mut Bytes, number: u64) -> Result<(), OutOfMemory>
-    ensures { OnOk result (page.new ≡ page.old ++ decimal number) }
-{
-    let mut buffer = Buffer::new();
-    page.append(buffer.format(number).as_bytes())
-}
-
-/// Appends a list's name.
+/// Appends a list's name. After an `Err` the page begins as it was.
 pub fn push_name(page: &mut Bytes, name: ListName) -> Result<(), OutOfMemory>
-    ensures { OnOk result (page.new ≡ page.old ++ text_of name) }
+    ensures ok { OnOk result (page.new ≡ page.old ++ text_of name) }
+    ensures front { OnErr result (take (length page.old) page.new ≡ page.old) }
 {
     page.append(name.threat.word().as_bytes())?;
     page.push(b'/')?;
@@ -26,12 +18,13 @@ pub fn push_name(page: &mut Bytes, name: ListName) -> Result<(), OutOfMemory>
 }
 
 fn push_result(page: &mut Bytes, update: &ListResult) -> Result<(), OutOfMemory>
-    ensures { OnOk result (page.new ≡ page.old ++ result_text update.now) }
+    ensures ok { OnOk result (page.new ≡ page.old ++ result_text update.now) }
+    ensures front { OnErr result (take (length page.old) page.new ≡ page.old) }
 {
     match update {
         ListResult::Installed(entries) => {
             page.append(b"installed ")?;
-            push_number(page, u64::from(*entries))
+            page.append_decimal(u64::from(*entries))
         }
         ListResult::Refused(fault) => {
             page.append(b"refused ")?;
@@ -41,9 +34,10 @@ fn push_result(page: &mut Bytes, update: &ListResult) -> Result<(), OutOfMemory>
     }
 }
 
-/// Appends a list's name and what became of its update.
+/// Appends a list's name and what became of its update. After an `Err` the page begins as it was.
 pub fn push_taken(page: &mut Bytes, name: ListName, update: &ListResult) -> Result<(), OutOfMemory>
-    ensures { OnOk result (page.new ≡ page.old ++ taken_text name update.now) }
+    ensures ok { OnOk result (page.new ≡ page.old ++ taken_text name update.now) }
+    ensures front { OnErr result (take (length page.old) page.new ≡ page.old) }
 {
     push_name(page, name)?;
     page.push(b' ')?;

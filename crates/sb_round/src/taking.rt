@@ -1,7 +1,6 @@
-ghost use Rattle.std.specs.Prelude.{◌≡◌, ◌≤◌, ◌≢◌, vec_len, map, All, IfOk, OnOk, OnErr};
+ghost use Rattle.std.specs.Prelude.{◌≡◌, ◌+◌, ◌<◌, ◌≤◌, ◌++◌, [], ◌∷◌, length, vec_len, vec_capacity, IfOk, OnOk, OnErr};
 ghost use Rattle.update_client.specs.Step.{after_updates, results_of};
 ghost use Rattle.sb_round.specs.Round.{named_results};
-ghost use Rattle.sb_round.specs.Taking.{not_taken, with_result, all_put};
 
 use crate::rounds::Taken;
 use sb_model::{OutOfMemory, Row};
@@ -9,34 +8,27 @@ use std::alloc::Global;
 use update_client::{ClientLists, ListResult};
 use update_messages::{FetchResponse, ListUpdate};
 
-// The names of updates, before their results are known.
-fn not_taken(alloc: Global, items: &[ListUpdate]) -> Result<Vec<Taken>, OutOfMemory>
-    ensures { IfOk result (λ taken. taken.items ≡ map not_taken items.now) }
+// Appends where there is room.
+fn push_within(taken: &mut Vec<Taken>, update: Taken)
+    requires { vec_len taken.old < vec_capacity taken.old }
+    ensures items { taken.new.items ≡ taken.old.items ++ update ∷ [] }
+    ensures len { vec_len taken.new ≡ vec_len taken.old + 1 }
+    ensures capacity { vec_capacity taken.old ≤ vec_capacity taken.new }
 {
-    let mut taken = Vec::with_capacity(alloc, items.len())?;
-    for update in items {
-        taken.push(Taken {
-            name: update.name,
-            result: ListResult::NotKept,
-        })?;
-    }
-    Ok(taken)
+    taken.push(update).unwrap();
 }
 
-fn put(taken: &mut Taken, update: ListResult)
-    ensures { taken.new ≡ with_result taken.old update }
+// Appends the name of each update with its result, in order. There is room for them all.
+fn push_named(taken: &mut Vec<Taken>, updates: &[ListUpdate], results: Vec<ListResult>)
+    requires each { vec_len results ≡ length updates.now }
+    requires room { vec_len taken.old + length updates.now ≤ vec_capacity taken.old }
+    ensures { taken.new.items ≡ taken.old.items ++ named_results updates.now results.items }
 {
-    taken.result = update;
-}
-
-// Puts the results in place, the last one first.
-fn put_each(taken: &mut Vec<Taken>, results: Vec<ListResult>)
-    requires { vec_len results ≤ vec_len taken.old }
-    ensures { taken.new.items ≡ all_put taken.old.items results.items }
-{
-    let mut results = results;
-    while let Some(update) = results.pop() {
-        put(&mut taken[results.len()], update);
+    let mut waiting = results.into_iter();
+    for update in updates {
+        let name = update.name;
+        let result = waiting.next().unwrap();
+        push_within(taken, Taken { name, result });
     }
 }
 
@@ -51,8 +43,8 @@ pub(crate) fn take_message(
         taken ≡ named_results message.now.items (results_of lists.old message.now.items)) }
     ensures err { OnErr result (lists.new ≡ lists.old) }
 {
-    let mut taken = not_taken(alloc, message.items.as_slice())?;
+    let mut taken = Vec::with_capacity(alloc, message.items.len())?;
     let results = lists.take(alloc, message)?;
-    put_each(&mut taken, results.into_vec());
+    push_named(&mut taken, message.items.as_slice(), results.into_vec());
     Ok(Row::from_vec(taken))
 }

@@ -13,7 +13,7 @@ ghost use Rattle.sb_service.specs.ConnectionSteps.{IsResponseToMessage, IsBareRe
 use delta_server::{ServeFault, Settings, answer_fetch, answer_find};
 use hash_messages::{FindRequest, find_values_read_one_way, read_find, write_matches};
 use http_edge::{
-    Allow, HttpRequest, RequestFault, ResponseFault, Status, read_request, write_response,
+    Allow, HttpRequest, RequestFault, ResponseFault, Status, kind_of, read_request, write_response,
 };
 use list_versions::History;
 use sb_json::MessageFault;
@@ -36,11 +36,6 @@ pub enum ConnectionEnd {
     /// Memory was refused. Nothing was written.
     OutOfMemory,
 }
-
-/// The paths of requests, by their kind.
-const UPDATES: &[u8] = b"/v4/threatListUpdates:fetch";
-
-const HASHES: &[u8] = b"/v4/fullHashes:find";
 
 /// A status and the body that goes with it.
 #[derive(Debug, Drop)]
@@ -74,20 +69,6 @@ fn path_in(target: &[u8]) -> &[u8]
     match mark_in(target) {
         Some(mark) => &target[..mark],
         None => target,
-    }
-}
-
-/// The kind of requests with a path; `None` where there is no such kind.
-fn kind_of(path: &[u8]) -> Option<Kind>
-    ensures some { IfSome result (λ kind. path.now ≡ path_of kind) }
-    ensures none { IfNone result ((kind : Asked) → path.now ≢ path_of kind) }
-{
-    if path == UPDATES {
-        Some(Kind::Update)
-    } else if path == HASHES {
-        Some(Kind::Find)
-    } else {
-        None
     }
 }
 

@@ -8,7 +8,6 @@ ghost use Rattle.sb_service.specs.Printed.{answer_line, connection_line as line_
 
 use crate::connection::ConnectionEnd;
 use hash_messages::{FindResponse, write_matches};
-use itoa::Buffer;
 use list_versions::{JournalFault, push_journal_cause};
 use sb_json::{MessageFault, push_message_cause};
 use sb_model::{Bytes, OutOfMemory};
@@ -41,11 +40,10 @@ pub(crate) fn message_line(alloc: Global, fault: &MessageFault) -> Result<Bytes,
 pub(crate) fn unknown_line(alloc: Global, place: u32) -> Result<Bytes, OutOfMemory>
     ensures { IfOk result (λ line. line ≡ request_line (serve_cause (ServeFault.UnknownList place))) }
 {
-    let mut buffer = Buffer::new();
     let mut line = Bytes::new(alloc);
     line.append(b"request ")?;
     line.append(b"unknown-list ")?;
-    line.append(buffer.format(place).as_bytes())?;
+    line.append_decimal(u64::from(place))?;
     line.push(b'\n')?;
     Ok(line)
 }
@@ -73,11 +71,10 @@ fn push_end(line: &mut Bytes, end: ConnectionEnd) -> Result<(), OutOfMemory>
     ensures text { OnOk result (line.new ≡ line.old ++ end_text end) }
     ensures some { OnOk result (end ≢ ConnectionEnd.OutOfMemory) }
 {
-    let mut buffer = Buffer::new();
     match end {
         ConnectionEnd::Answered(status) => {
             line.append(b"answered ")?;
-            line.append(buffer.format(status.code()).as_bytes())
+            line.append_decimal(u64::from(status.code()))
         }
         ConnectionEnd::ReadFault => line.append(b"read-fault"),
         ConnectionEnd::WriteFault => line.append(b"write-fault"),
@@ -94,10 +91,9 @@ pub(crate) fn connection_line(
     ensures told { IfOk result (λ line. line ≡ line_of_connection number end) }
     ensures some { IfOk result (λ _. end ≢ ConnectionEnd.OutOfMemory) }
 {
-    let mut buffer = Buffer::new();
     let mut line = Bytes::new(alloc);
     line.append(b"connection ")?;
-    line.append(buffer.format(number).as_bytes())?;
+    line.append_decimal(u64::from(number))?;
     line.push(b' ')?;
     push_end(&mut line, end)?;
     line.push(b'\n')?;

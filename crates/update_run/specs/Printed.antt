@@ -4,8 +4,7 @@ use Rattle.std.specs.List.{list_any, flat_map}
 use Rattle.sb_model.specs.Names.{text_of}
 use Rattle.update_client.specs.Held.{Held}
 use Rattle.update_client.specs.Printed.{token_text}
-use Rattle.update_client.specs.declared.fault.ListResult.{ListResult}
-use Rattle.update_client.specs.declared.fault.ListResult.TheVariants.{Installed, Refused, NotKept}
+use Rattle.update_client.specs.Step.{is_refused}
 use Rattle.client_store.specs.Printed.{cause_text}
 use Rattle.client_store.specs.Reading.{store_reading}
 use Rattle.client_store.specs.declared.fault.StoreFault.{StoreFault}
@@ -70,11 +69,6 @@ abbrev pub run_text : Option (List ℕ) → List Held → List Round → List �
 run_text kept lists rounds = told_rounds kept lists rounds ++ flat_map list_line (lists_after lists (map body_of rounds))
 
 -- ---- what is told with the status
-
-abbrev pub is_refused : ListResult → Bool
-is_refused (Installed entries) = false
-is_refused (Refused fault) = true
-is_refused NotKept = false
 
 -- whether a round brought no message, or an update that was refused
 abbrev pub has_refusal : Result (List Taken) RoundFault → Bool

@@ -2,19 +2,13 @@
 use Rattle.std.specs.Prelude.{◌≡◌, ◌⊎◌, ℕ, Bool, true, false, if◌then◌else◌, List, [], ◌∷◌, ◌++◌, Option, Some, Result, Ok, Err}
 use Rattle.std.specs.List.{list_any, fold}
 use Rattle.update_client.specs.Held.{Held}
-use Rattle.update_client.specs.declared.fault.ListResult.{ListResult}
-use Rattle.update_client.specs.declared.fault.ListResult.TheVariants.{Installed, Refused, NotKept}
+use Rattle.update_client.specs.Step.{is_installed}
 use Rattle.client_store.specs.Store.{store_text}
 use Rattle.sb_outside.specs.Outside.{IfTold, with_entry}
 use Rattle.sb_outside.specs.Keeping.{IsTorn}
 use Rattle.sb_round.specs.Round.{Round, lists_after_round, taken_from, with_more}
 use Rattle.sb_round.specs.declared.rounds.RoundFault.{RoundFault}
 use Rattle.sb_round.specs.declared.rounds.Taken.{Taken}
-
-abbrev pub is_installed : ListResult → Bool
-is_installed (Installed entries) = true
-is_installed (Refused fault) = false
-is_installed NotKept = false
 
 -- whether a list was installed
 abbrev pub has_installed : Result (List Taken) RoundFault → Bool

@@ -4,7 +4,8 @@ ghost use Rattle.sb_outside.specs.Outside.{Rose};
 ghost use Rattle.sb_round.specs.Round.{outside};
 ghost use Rattle.sb_round.specs.declared.rounds.Taken.{Taken as TakenUpdate};
 ghost use Rattle.update_run.specs.Saved.{keeping};
-ghost use Rattle.update_run.specs.Printed.{is_refused as is_refused_result, has_refusal as has_refusal_one};
+ghost use Rattle.update_client.specs.Step.{is_refused};
+ghost use Rattle.update_run.specs.Printed.{has_refusal as has_refusal_one};
 ghost use Rattle.update_run.specs.Run.{seen};
 ghost use Rattle.update_run.specs.Rounding.{TakesRound, StopsRound, TakesAllRounds, StopsRounds};
 
@@ -15,21 +16,11 @@ use sb_model::{OutOfMemory, Row};
 use sb_outside::{Clock, Dice, Gate, Keeper, Link, Point, Sink, flush};
 use sb_round::{RoundFault, Taken, rounds_go_on, run_round};
 use std::alloc::Global;
-use update_client::ListResult;
-
-fn is_refused(taken: &Taken) -> bool
-    ensures { result ≡ is_refused_result taken.now.result }
-{
-    match taken.result {
-        ListResult::Refused(_) => true,
-        ListResult::Installed(_) | ListResult::NotKept => false,
-    }
-}
 
 fn any_refused(taken: &[Taken]) -> bool
-    ensures { result ≡ list_any (λ (one : TakenUpdate). is_refused_result one.result) taken.now }
+    ensures { result ≡ list_any (λ (one : TakenUpdate). is_refused one.result) taken.now }
 {
-    taken.iter().any(|one| is_refused(one))
+    taken.iter().any(|one| one.result.is_refused())
 }
 
 /// Whether a round brought no message, or an update that was refused.
@@ -43,7 +34,7 @@ fn has_refusal(taken: &Result<Row<Taken>, RoundFault>) -> bool
 }
 
 /// Makes the round of this number, tells of it, and saves what it installed. Answers whether it is told with a refusal.
-fn make_round<O: Sink, K: Keeper, L: Link, C: Clock, D: Dice>(
+fn told_round<O: Sink, K: Keeper, L: Link, C: Clock, D: Dice>(
     alloc: Global,
     plan: &Plan,
     number: u32,
@@ -100,7 +91,7 @@ fn make_round<O: Sink, K: Keeper, L: Link, C: Clock, D: Dice>(
 }
 
 /// Writes what waits, and makes the round of this number.
-fn take_round<O: Sink, K: Keeper, L: Link, C: Clock, D: Dice, G: Gate>(
+fn one_round<O: Sink, K: Keeper, L: Link, C: Clock, D: Dice, G: Gate>(
     alloc: Global,
     plan: &Plan,
     number: u32,
@@ -129,11 +120,11 @@ fn take_round<O: Sink, K: Keeper, L: Link, C: Clock, D: Dice, G: Gate>(
 {
     flush(out, &mut client.page)?;
     gate.pass(Point::Round(number));
-    make_round(alloc, plan, number, client, out, keep, link, clock, dice)
+    told_round(alloc, plan, number, client, out, keep, link, clock, dice)
 }
 
 /// Makes the rounds of a run. Answers whether one of them is told with a refusal.
-pub(crate) fn take_rounds<O: Sink, K: Keeper, L: Link, C: Clock, D: Dice, G: Gate>(
+pub(crate) fn all_rounds<O: Sink, K: Keeper, L: Link, C: Clock, D: Dice, G: Gate>(
     alloc: Global,
     plan: &Plan,
     client: &mut Client,
@@ -163,7 +154,7 @@ pub(crate) fn take_rounds<O: Sink, K: Keeper, L: Link, C: Clock, D: Dice, G: Gat
     let mut refused = false;
     for made in 0..plan.rounds {
         let number = made + 1;
-        match take_round(
+        match one_round(
             alloc, plan, number, client, out, keep, link, clock, dice, gate,
         ) {
             Ok(is_refused) => refused |= is_refused,

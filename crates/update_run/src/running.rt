@@ -12,7 +12,7 @@ ghost use Rattle.update_run.specs.Run.{seen, IsRun, StopsAfter, StopsAtKeeper, S
 use crate::client::Client;
 use crate::opening::load_lists;
 use crate::printing::push_list_line;
-use crate::rounding::take_rounds;
+use crate::rounding::all_rounds;
 use crate::{Plan, RunStop};
 use sb_model::{Bytes, OutOfMemory};
 use sb_outside::{Clock, Dice, Gate, Keeper, Link, Sink, flush};
@@ -48,7 +48,7 @@ fn finish<O: Sink>(lists: &[HeldList], out: &mut O, page: &mut Bytes) -> Result<
 }
 
 /// Makes the rounds of a client, and tells of its lists.
-fn run_from<O: Sink, K: Keeper, L: Link, C: Clock, D: Dice, G: Gate>(
+fn run_loaded<O: Sink, K: Keeper, L: Link, C: Clock, D: Dice, G: Gate>(
     alloc: Global,
     plan: &Plan,
     client: &mut Client,
@@ -75,7 +75,7 @@ fn run_from<O: Sink, K: Keeper, L: Link, C: Clock, D: Dice, G: Gate>(
     ensures keeper_failed { IsErrOf result RunStop.KeepFault → Rose (K.faults keep.old) (K.faults keep.new) }
     ensures keeper_kept { result ≢ Err RunStop.KeepFault → K.faults keep.new ≡ K.faults keep.old }
 {
-    match take_rounds(alloc, plan, client, out, keep, link, clock, dice, gate) {
+    match all_rounds(alloc, plan, client, out, keep, link, clock, dice, gate) {
         Ok(refused) => match finish(client.lists.lists(), out, &mut client.page) {
             Ok(()) => Ok(refused),
             Err(stop) => Err(stop),
@@ -138,5 +138,5 @@ pub fn run<O: Sink, K: Keeper, L: Link, C: Clock, D: Dice, G: Gate>(
     };
     let waits = WaitState::first(clock.now(), dice.word());
     let mut client = Client { lists, waits, page };
-    run_from(alloc, plan, &mut client, out, keep, link, clock, dice, gate)
+    run_loaded(alloc, plan, &mut client, out, keep, link, clock, dice, gate)
 }

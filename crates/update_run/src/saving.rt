@@ -2,9 +2,10 @@ ghost use Rattle.std.specs.Prelude.{◌≡◌, ◌≢◌, ◌++◌, ◌∷◌, [
 ghost use Rattle.std.specs.List.{list_any};
 ghost use Rattle.sb_outside.specs.Outside.{Rose};
 ghost use Rattle.sb_outside.specs.Writing.{IsOnItsWay};
+ghost use Rattle.update_client.specs.Step.{is_installed};
 ghost use Rattle.client_store.specs.Store.{store_text};
 ghost use Rattle.sb_round.specs.declared.rounds.Taken.{Taken as TakenUpdate};
-ghost use Rattle.update_run.specs.Saved.{keeping, HasSaved, is_installed as is_installed_result, has_installed as has_installed_one, saved_after};
+ghost use Rattle.update_run.specs.Saved.{keeping, HasSaved, has_installed as has_installed_one, saved_after};
 ghost use Rattle.update_run.specs.Printed.{saved_line, saved_part, told_end};
 ghost use Rattle.update_run.specs.Rounding.{StopsReplacing, StopsTelling};
 
@@ -15,21 +16,12 @@ use sb_model::{Bytes, OutOfMemory, Row};
 use sb_outside::{Keeper, Sink, flush};
 use sb_round::{RoundEnd, RoundFault, Taken, push_round};
 use std::alloc::Global;
-use update_client::{ClientLists, ListResult};
-
-fn is_installed(taken: &Taken) -> bool
-    ensures { result ≡ is_installed_result taken.now.result }
-{
-    match taken.result {
-        ListResult::Installed(_) => true,
-        ListResult::Refused(_) | ListResult::NotKept => false,
-    }
-}
+use update_client::ClientLists;
 
 fn any_installed(taken: &[Taken]) -> bool
-    ensures { result ≡ list_any (λ (one : TakenUpdate). is_installed_result one.result) taken.now }
+    ensures { result ≡ list_any (λ (one : TakenUpdate). is_installed one.result) taken.now }
 {
-    taken.iter().any(|one| is_installed(one))
+    taken.iter().any(|one| one.result.is_installed())
 }
 
 /// Whether a round installed a list.

@@ -6,9 +6,7 @@ use itoa::Buffer;
 use sb_model::{
     Bytes, EntryType, ListName, Moment, OutOfMemory, PlatformType, Row, Text, ThreatType,
 };
-use sb_outside::{
-    MemoryKeeper, MemorySink, OpenGate, Play, ScriptClock, ScriptDice, ScriptLink,
-};
+use sb_outside::{MemoryKeeper, MemorySink, OpenGate, Play, ScriptClock, ScriptDice, ScriptLink};
 use std::alloc::Global;
 use update_client::FetchOptions;
 use update_run::{Plan, RunStop, run};

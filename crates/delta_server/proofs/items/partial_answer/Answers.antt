@@ -46,32 +46,17 @@ returns-then-held-len c =
     update (made c.args.served.now.size set c.requires.served.digest))
     c.unchanged_update.ensures
 
-pub returns-then-version-len : goal.returns-then-version-len
-returns-then-version-len c =
-    let versions : History = c.args.history.now.versions in
-    let asked : AskedList = c.args.asked.now in
-    let name : c.asked.inside.name ≡ asked.name = ap (λ (a : AskedList). a.name) c.asked.view_is in
-    IfOk-weaker c.partial_update.result
-    (Made versions asked c.args.held c.args.served.now.size c.in_ok-before.before.set c.args.served.now.set.now c.state_token-token-2.result c.in_ok-version.version)
-    (Wanted versions asked c.args.held c.args.served.now.size c.in_ok-before.before.set c.args.served.now.set.now c.state_token-token-2.result c.in_ok-version.version)
-    (wanted versions asked c.args.held c.args.served.now.size c.in_ok-before.before.set c.args.served.now.set.now c.state_token-token-2.result c.in_ok-version.version
-    c.requires.served.size (c.in_ok-before.ensures.set ∙ ap (λ (n : ListName). prefixes_at versions n c.args.held) name)
-    (c.requires.served.set ∙ ap (prefixes_at versions asked.name) (sym (c.if-version-len.true ∙ c.len-2.ensures.count)))
-    (c.state_token-token-2.ensures ∙ token_same c.epoch-2.result versions.epoch c.asked.inside.name asked.name c.in_ok-version.version c.epoch-2.ensures name)
-    (c.in_ok-version.ensures.target ∙ target_same versions (Some c.args.held) c.asked.inside.name asked.name _ _ _ _ name c.limits_of.ensures.update c.limits_of.ensures.database))
-    c.partial_update.ensures
-
 pub returns : goal.returns
 returns c =
     let versions : History = c.args.history.now.versions in
     let asked : AskedList = c.args.asked.now in
     let name : c.asked.inside.name ≡ asked.name = ap (λ (a : AskedList). a.name) c.asked.view_is in
-    IfOk-weaker c.partial_update-2.result
-    (Made versions asked c.args.held c.args.served.now.size c.in_ok-before.before.set c.in_ok-set.set c.state_token-token-2.result c.in_ok-version.version)
-    (Wanted versions asked c.args.held c.args.served.now.size c.in_ok-before.before.set c.in_ok-set.set c.state_token-token-2.result c.in_ok-version.version)
-    (wanted versions asked c.args.held c.args.served.now.size c.in_ok-before.before.set c.in_ok-set.set c.state_token-token-2.result c.in_ok-version.version
+    IfOk-weaker c.partial_update.result
+    (Made versions asked c.args.held c.args.served.now.size c.in_ok-before.before.set c.sent_of-sent.result.set.now c.sent_of-sent.result.token c.in_ok-version.version)
+    (Wanted versions asked c.args.held c.args.served.now.size c.in_ok-before.before.set c.sent_of-sent.result.set.now c.sent_of-sent.result.token c.in_ok-version.version)
+    (wanted versions asked c.args.held c.args.served.now.size c.in_ok-before.before.set c.sent_of-sent.result.set.now c.sent_of-sent.result.token c.in_ok-version.version
     c.requires.served.size (c.in_ok-before.ensures.set ∙ ap (λ (n : ListName). prefixes_at versions n c.args.held) name)
-    (c.in_ok-set.ensures ∙ ap (λ (n : ListName). prefixes_at versions n c.in_ok-version.version) name)
-    (c.state_token-token-2.ensures ∙ token_same c.epoch-2.result versions.epoch c.asked.inside.name asked.name c.in_ok-version.version c.epoch-2.ensures name)
+    (c.sent_of-sent.ensures.set ∙ ap (λ (n : ListName). prefixes_at versions n c.in_ok-version.version) name)
+    (c.sent_of-sent.ensures.token ∙ ap (λ (n : ListName). server_token versions.epoch n c.in_ok-version.version) name)
     (c.in_ok-version.ensures.target ∙ target_same versions (Some c.args.held) c.asked.inside.name asked.name _ _ _ _ name c.limits_of.ensures.update c.limits_of.ensures.database))
-    c.partial_update-2.ensures
+    c.partial_update.ensures

@@ -7,7 +7,7 @@ use Rattle.update_messages.specs.Answer.{update_to}
 use Rattle.update_messages.specs.Messages.{AskedList, UpdatedList}
 use Rattle.delta_server.specs.Tokens.{server_token, server_naming}
 use Rattle.delta_server.specs.Updates.{whole_update}
-use Rattle.delta_server.proofs.AnswerFacts.{whole_is, token_same, target_same}
+use Rattle.delta_server.proofs.AnswerFacts.{whole_is, target_same}
 use Rattle.delta_server.proofs.items.whole_answer.Goals as goal
 
 abbrev target_for : History → AskedList → ℕ
@@ -25,28 +25,15 @@ module _ (history : History) (asked : AskedList) (set : List (List ℕ)) (token 
       → (update : UpdatedList) → Made update → Wanted update
   wanted sent named is update made = whole_is history asked set token version (target_for history asked) update made sent named is
 
-pub returns-then-version-len : goal.returns-then-version-len
-returns-then-version-len c =
-    let versions : History = c.args.history.now.versions in
-    let asked : AskedList = c.args.asked.now in
-    let name : c.asked.inside.name ≡ asked.name = ap (λ (a : AskedList). a.name) c.asked.view_is in
-    IfOk-weaker c.full_update.result (Made versions asked c.args.served.now.set.now c.state_token-token.result c.in_ok-version.version)
-    (Wanted versions asked c.args.served.now.set.now c.state_token-token.result c.in_ok-version.version)
-    (wanted versions asked c.args.served.now.set.now c.state_token-token.result c.in_ok-version.version
-    (c.requires.set ∙ ap (prefixes_at versions asked.name) (sym (c.if-version-len.true ∙ c.len.ensures.count)))
-    (c.state_token-token.ensures ∙ token_same c.epoch.result versions.epoch c.asked.inside.name asked.name c.in_ok-version.version c.epoch.ensures name)
-    (c.in_ok-version.ensures.target ∙ target_same versions None c.asked.inside.name asked.name _ _ _ _ name c.limits_of.ensures.update c.limits_of.ensures.database))
-    c.full_update.ensures
-
 pub returns : goal.returns
 returns c =
     let versions : History = c.args.history.now.versions in
     let asked : AskedList = c.args.asked.now in
     let name : c.asked.inside.name ≡ asked.name = ap (λ (a : AskedList). a.name) c.asked.view_is in
-    IfOk-weaker c.full_update-2.result (Made versions asked c.in_ok-set.set c.state_token-token.result c.in_ok-version.version)
-    (Wanted versions asked c.in_ok-set.set c.state_token-token.result c.in_ok-version.version)
-    (wanted versions asked c.in_ok-set.set c.state_token-token.result c.in_ok-version.version
-    (c.in_ok-set.ensures ∙ ap (λ (n : ListName). prefixes_at versions n c.in_ok-version.version) name)
-    (c.state_token-token.ensures ∙ token_same c.epoch.result versions.epoch c.asked.inside.name asked.name c.in_ok-version.version c.epoch.ensures name)
+    IfOk-weaker c.full_update.result (Made versions asked c.sent_of-sent.result.set.now c.sent_of-sent.result.token c.in_ok-version.version)
+    (Wanted versions asked c.sent_of-sent.result.set.now c.sent_of-sent.result.token c.in_ok-version.version)
+    (wanted versions asked c.sent_of-sent.result.set.now c.sent_of-sent.result.token c.in_ok-version.version
+    (c.sent_of-sent.ensures.set ∙ ap (λ (n : ListName). prefixes_at versions n c.in_ok-version.version) name)
+    (c.sent_of-sent.ensures.token ∙ ap (λ (n : ListName). server_token versions.epoch n c.in_ok-version.version) name)
     (c.in_ok-version.ensures.target ∙ target_same versions None c.asked.inside.name asked.name _ _ _ _ name c.limits_of.ensures.update c.limits_of.ensures.database))
-    c.full_update-2.ensures
+    c.full_update.ensures

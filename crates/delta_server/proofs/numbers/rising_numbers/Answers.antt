@@ -1,17 +1,14 @@
-use Rattle.std.proofs.Common.{◌≡◌, ℕ, List, length, map, ap, ◌∙◌, subst, sym, arith, IsPermutation}
-use Rattle.std.specs.Prelude.{nat_eq, filter}
-use Rattle.std.specs.Int.{w32, from_le_bytes}
+use Rattle.std.proofs.Common.{◌≡◌, ℕ, List, length, ap, ◌∙◌, subst, sym, arith, IsPermutation}
+use Rattle.std.specs.Prelude.{nat_eq}
 use Rattle.std.specs.List.{dedup, Contains}
 use Rattle.std.specs.List.Sorted.{IsStrictlyIncreasing}
 use Rattle.std.proofs.lemmas.List.Filters.{dedup_is}
 use Rattle.std.proofs.lemmas.List.Kept.{Contains-dedup_nat, Contains-from_dedup}
 use Rattle.std.proofs.lemmas.List.Sorted.{Contains-permutation, IsPermutation-sym}
 use Rattle.std.proofs.lemmas.Map.Keys.{IsStrictlyIncreasing-dedup}
-use Rattle.update_messages.specs.Answer.{has_size}
+use Rattle.update_messages.specs.Answer.{numbers_of}
 use Rattle.delta_server.proofs.Membership.{In, in_contained, contains_in}
-use Rattle.std.proofs.lemmas.List.{length-map}
-use Rattle.delta_server.proofs.NumberFacts.{same_numbers}
-use Rattle.delta_server.proofs.SetFacts.{few_kept}
+use Rattle.delta_server.proofs.NumberFacts.{same_numbers, numbers_few}
 use Rattle.delta_server.proofs.numbers.rising_numbers.Goals as goal
 
 rising : goal.returns-clause-rising
@@ -19,27 +16,25 @@ rising c =
     let is : c.dedup.new.self.items ≡ dedup nat_eq c.sort_unstable.new.self.items = dedup_is nat_eq _ _ c.dedup.ensures.filtered in
     subst IsStrictlyIncreasing (sym is) (IsStrictlyIncreasing-dedup c.sort_unstable.new.self.items c.sort_unstable.ensures.sorted)
 
-pub returns-clause-rising : goal.returns-clause-rising
-returns-clause-rising c = rising c
-
-pub returns-clause-numbers : goal.returns-clause-numbers
-returns-clause-numbers c =
-    let ms : List (List ℕ) = filter (has_size 4) c.args.members.now in
+numbers : goal.returns-clause-numbers
+numbers c =
+    let ms : List (List ℕ) = c.args.quads.now in
     let first : List ℕ = c.in_ok-numbers.numbers.items in
     let sorted : List ℕ = c.sort_unstable.new.self.items in
     let last : List ℕ = c.dedup.new.self.items in
     let is : last ≡ dedup nat_eq sorted = dedup_is nat_eq _ _ c.dedup.ensures.filtered in
-    let from : first ≡ map (from_le_bytes w32) ms = c.in_ok-numbers.ensures in
     let moved : IsPermutation first sorted = c.sort_unstable.ensures.permutation in
     same_numbers ms last (rising c)
-    (λ n h. subst (In n) from (in_contained n first (Contains-permutation sorted first n (IsPermutation-sym first sorted moved)
+    (λ n h. subst (In n) c.in_ok-numbers.ensures (in_contained n first (Contains-permutation sorted first n (IsPermutation-sym first sorted moved)
     (Contains-from_dedup nat_eq sorted n (subst (λ (xs : List ℕ). Contains xs n) is (contains_in n last h))))))
     (λ n h. in_contained n last (subst (λ (xs : List ℕ). Contains xs n) (sym is) (Contains-dedup_nat sorted n
-    (Contains-permutation first sorted n moved (contains_in n first (subst (In n) (sym from) h))))))
+    (Contains-permutation first sorted n moved (contains_in n first (subst (In n) (sym c.in_ok-numbers.ensures) h))))))
+
+pub returns-clause-rising : goal.returns-clause-rising
+returns-clause-rising c = rising c
+
+pub returns-clause-numbers : goal.returns-clause-numbers
+returns-clause-numbers c = numbers c
 
 pub returns-clause-few : goal.returns-clause-few
-returns-clause-few c =
-    let ms : List (List ℕ) = filter (has_size 4) c.args.members.now in
-    let from : c.in_ok-numbers.numbers.items ≡ map (from_le_bytes w32) ms = c.in_ok-numbers.ensures in
-    let count : length c.in_ok-numbers.numbers.items ≡ length ms = ap length from ∙ length-map ms (from_le_bytes w32) in
-    omega (arith, few_kept (has_size 4) c.args.members.now)
+returns-clause-few c = omega (arith, ap length (numbers c), numbers_few c.args.quads.now)

@@ -4,14 +4,19 @@ use Rattle.std.proofs.lemmas.List.Elements.{All-push}
 use Rattle.update_messages.specs.Messages.{IsAddition}
 use Rattle.delta_server.proofs.SetFacts.{sets_up_to, sets_pushed, sets_kept}
 use Rattle.delta_server.proofs.sets.addition_sets.Goals as goal
-use Rattle.delta_server.proofs.sets.addition_sets.Goals.{then-sizes-size+in_ok-addition_set+in_ok-push, else-sizes-size}
+use Rattle.delta_server.proofs.sets.addition_sets.Goals.{then-sizes-size+in_ok-bytes+in_ok-addition_set+in_ok-push, else-sizes-size}
+
+pub addition_set-requires-clause-members : goal.addition_set-requires-clause-members
+addition_set-requires-clause-members c =
+    (c.args.members.now, c.in_ok-bytes.ensures, sym (c.sizes_in-sizes.ensures.occurs c.loop-size.size (omega arith)) ∙ c.if-sizes-size.true, c.requires)
 
 pub loop-size-preserved : goal.loop-size-preserved
 loop-size-preserved c =
     elim c.if-sizes-size.branch [
-      | then-sizes-size+in_ok-addition_set+in_ok-push w ↦ (
+      | then-sizes-size+in_ok-bytes+in_ok-addition_set+in_ok-push w ↦ (
         sets_pushed c.args.rice c.args.members.now c.loop-size.size c.loop-size.sets c.if-sizes-size.sets w.in_ok-addition_set.field-0 c.loop-size.auto.size
-            (sym (c.sizes_in-sizes.ensures.occurs c.loop-size.size (omega arith)) ∙ w.if-sizes-size.true) c.loop-size.invariant.0 w.in_ok-addition_set.ensures.set (w.sets-is ∙ w.in_ok-push.ensures.ok),
+            (sym (c.sizes_in-sizes.ensures.occurs c.loop-size.size (omega arith)) ∙ w.if-sizes-size.true) c.loop-size.invariant.0
+            (w.in_ok-addition_set.ensures.set c.args.members.now w.in_ok-bytes.ensures) (w.sets-is ∙ w.in_ok-push.ensures.ok),
         subst (All IsAddition) (sym (w.sets-is ∙ w.in_ok-push.ensures.ok))
             (All-push IsAddition c.loop-size.sets w.in_ok-addition_set.field-0 c.loop-size.invariant.1 w.in_ok-addition_set.ensures.keeps),
       )

@@ -2,8 +2,8 @@ use Rattle.std.proofs.Common.{ℕ, List, ◌++◌, codes, ◌∙◌, ap, append_
 use Rattle.sb_json.specs.Printed.{cause_text}
 use Rattle.sb_round.proofs.round_lines.push_unreadable.Goals as goal
 
-pub returns : goal.returns
-returns c =
-    c.in_ok-push_message_cause.ensures
+pub returns-clause-ok : goal.returns-clause-ok
+returns-clause-ok c =
+    c.in_ok-push_message_cause.ensures.ok
     ∙ ap (λ (text : List ℕ). text ++ cause_text c.args.fault.now) c.in_ok-append.ensures.ok
     ∙ append_assoc c.args.page.now (codes "unreadable ") (cause_text c.args.fault.now)

@@ -16,8 +16,8 @@ returns-then-contains-clause-ok c = λ fewer more gains few counts.
     let room : now.shared ≤ 1048576 = shared_room now fewer counts 1048576 c.len.ensures.count in
     let more_one : c.saturating_add-self.result ≡ now.shared + 1 = omega (arith, c.saturating_add-self.ensures, room) in
     gained laws now _ q fewer more gains c.len.ensures.rising refl counts
-    (enters laws now.counts.entries c.raise.new.counts.entries q fewer more c.in_ok-before.before _ gains few counts.holders c.in_ok-before.ensures.before refl c.in_ok-before.ensures.puts)
-    (enters_len laws now.counts.entries c.raise.new.counts.entries q fewer more gains counts.holders counts.members c.in_ok-before.ensures.len now.held.now c.len.ensures.rising)
+    (enters laws now.counts.entries c.add_holder.new.counts.entries q fewer more c.in_ok-before.before _ gains few counts.holders c.in_ok-before.ensures.before refl c.in_ok-before.ensures.puts)
+    (enters_len laws now.counts.entries c.add_holder.new.counts.entries q fewer more gains counts.holders counts.members c.in_ok-before.ensures.len now.held.now c.len.ensures.rising)
     (record {
       first = λ none. more_one ∙ sym (ap (λ (t : Bool). now.shared + (if t then 1 else 0)) there);
       again = λ some. absurd (omega (arith, before, c.if-before-eq0.true, some));
@@ -30,8 +30,8 @@ returns-else-before-eq0-clause-ok c = λ fewer more gains few counts.
     let now = c.args.self.now in
     let before : c.in_ok-before.before ≡ holders_of q fewer = count_is now.counts.entries q fewer c.in_ok-before.before counts.holders c.in_ok-before.ensures.before in
     gained laws now _ q fewer more gains c.len.ensures.rising refl counts
-    (enters laws now.counts.entries c.raise.new.counts.entries q fewer more c.in_ok-before.before _ gains few counts.holders c.in_ok-before.ensures.before refl c.in_ok-before.ensures.puts)
-    (enters_len laws now.counts.entries c.raise.new.counts.entries q fewer more gains counts.holders counts.members c.in_ok-before.ensures.len now.held.now c.len.ensures.rising)
+    (enters laws now.counts.entries c.add_holder.new.counts.entries q fewer more c.in_ok-before.before _ gains few counts.holders c.in_ok-before.ensures.before refl c.in_ok-before.ensures.puts)
+    (enters_len laws now.counts.entries c.add_holder.new.counts.entries q fewer more gains counts.holders counts.members c.in_ok-before.ensures.len now.held.now c.len.ensures.rising)
     (record {
       first = λ none. elim c.else-before-eq0.branch [
         | else-before-eq0-via-then-before-eq0+else-contains w ↦

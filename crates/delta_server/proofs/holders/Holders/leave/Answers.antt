@@ -17,8 +17,8 @@ returns-then-contains-clause-ok c = λ fewer more gains counts.
     let some : 0 < now.shared = shared_some now more counts q (in_contained q now.held.now (c.if-contains.ensures.0 refl)) (omega (arith, gains_own fewer more q gains)) laws in
     let less : now.shared ≡ c.saturating_sub-self.result + 1 = omega (arith, c.saturating_sub-self.ensures, some) in
     lost laws now _ q fewer more gains c.len.ensures.rising refl counts
-    (leaves now.counts.entries c.lower.new.counts.entries q fewer more c.in_ok-left.left gains counts.holders left c.in_ok-left.ensures.puts)
-    (leaves_len laws now.counts.entries c.lower.new.counts.entries q fewer more c.in_ok-left.left gains counts.holders counts.members left c.in_ok-left.ensures.len now.held.now c.len.ensures.rising)
+    (leaves now.counts.entries c.remove_holder.new.counts.entries q fewer more c.in_ok-left.left gains counts.holders left c.in_ok-left.ensures.puts)
+    (leaves_len laws now.counts.entries c.remove_holder.new.counts.entries q fewer more c.in_ok-left.left gains counts.holders counts.members left c.in_ok-left.ensures.len now.held.now c.len.ensures.rising)
     (record {
       first = λ none. less ∙ sym (ap (λ (t : Bool). c.saturating_sub-self.result + (if t then 1 else 0)) there);
       again = λ some. absurd (omega (arith, left, c.if-left-eq0.true, some));
@@ -31,8 +31,8 @@ returns-else-left-eq0-clause-ok c = λ fewer more gains counts.
     let now = c.args.self.now in
     let left : c.in_ok-left.left ≡ holders_of q fewer = left_is now.counts.entries q fewer more c.in_ok-left.left gains counts.holders c.in_ok-left.ensures.left in
     lost laws now _ q fewer more gains c.len.ensures.rising refl counts
-    (leaves now.counts.entries c.lower.new.counts.entries q fewer more c.in_ok-left.left gains counts.holders left c.in_ok-left.ensures.puts)
-    (leaves_len laws now.counts.entries c.lower.new.counts.entries q fewer more c.in_ok-left.left gains counts.holders counts.members left c.in_ok-left.ensures.len now.held.now c.len.ensures.rising)
+    (leaves now.counts.entries c.remove_holder.new.counts.entries q fewer more c.in_ok-left.left gains counts.holders left c.in_ok-left.ensures.puts)
+    (leaves_len laws now.counts.entries c.remove_holder.new.counts.entries q fewer more c.in_ok-left.left gains counts.holders counts.members left c.in_ok-left.ensures.len now.held.now c.len.ensures.rising)
     (record {
       first = λ none. elim c.else-left-eq0.branch [
         | else-left-eq0-via-then-left-eq0+else-contains w ↦

@@ -9,8 +9,8 @@ use Rattle.list_versions.proofs.history.History.fold_on.Goals as goal
 
 pub returns-clause-map : goal.returns-clause-map
 returns-clause-map c =
-    subst (λ (k : Kept). IsMapOf c.args.folding.now (sizes_at k.versions c.args.list c.args.from) → IsMapOf c.fold_on.new.folding (sizes_at k.versions c.args.list c.args.to))
-    c.self.view_is c.in_ok-fold_on.ensures
+    subst (λ (k : Kept). IsMapOf c.args.folding (sizes_at k.versions c.args.list c.args.from) → IsMapOf c.in_ok-later.later (sizes_at k.versions c.args.list c.args.to))
+    c.self.view_is c.in_ok-later.ensures
 
 pub returns-clause-publishable : goal.returns-clause-publishable
 returns-clause-publishable c =

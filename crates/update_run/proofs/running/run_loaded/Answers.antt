@@ -4,18 +4,18 @@ use Rattle.sb_outside.specs.Writing.{HasFront}
 use Rattle.update_client.specs.Held.{Held}
 use Rattle.update_run.specs.Printed.{list_line}
 use Rattle.update_run.proofs.Endings.{still_some, ends_early, ends_short, ends_if}
-use Rattle.update_run.proofs.running.run_from.Goals as goal
+use Rattle.update_run.proofs.running.run_loaded.Goals as goal
 
 pub finish-requires : goal.finish-requires
 finish-requires g c =
-    omega (arith, ap length c.lists.ensures.value, still_some c.args.plan.now c.args.client.now c.take_rounds.new.client _ _ c.in-Ok.refused c.in-Ok.ensures.took c.requires)
+    omega (arith, ap length c.lists.ensures.value, still_some c.args.plan.now c.args.client.now c.all_rounds.new.client _ _ c.in-Ok.refused c.in-Ok.ensures.took c.requires)
 
 pub returns-in-Err-clause-stopped : goal.returns-in-Err-clause-stopped
 returns-in-Err-clause-stopped g c = ends_early c.in-Err.stop c.args.plan.now c.args.client.now _ _ c.requires c.in-Err.ensures.stopped
 
 pub returns-in-Err-finish-clause-stopped : goal.returns-in-Err-finish-clause-stopped
 returns-in-Err-finish-clause-stopped g c =
-    let front = subst (λ (lists : List Held). HasFront (g.O.Sink.contents c.take_rounds.new.out) (g.O.Sink.contents c.finish.new.out) (c.take_rounds.new.client.page ++ flat_map list_line lists))
+    let front = subst (λ (lists : List Held). HasFront (g.O.Sink.contents c.all_rounds.new.out) (g.O.Sink.contents c.finish.new.out) (c.all_rounds.new.client.page ++ flat_map list_line lists))
     c.lists.ensures.value c.in-Err-finish.ensures.stopped in
     ends_if c.in-Err-finish.stop c.args.plan.now c.args.client.now _ _ (λ e. c.in-Err-finish.ensures.no_keeper (ap Err e))
-    (ends_short c.args.plan.now c.args.client.now c.take_rounds.new.client _ _ _ _ _ _ _ c.in-Ok.refused c.in-Ok.ensures.took front)
+    (ends_short c.args.plan.now c.args.client.now c.all_rounds.new.client _ _ _ _ _ _ _ c.in-Ok.refused c.in-Ok.ensures.took front)

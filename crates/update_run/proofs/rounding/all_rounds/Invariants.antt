@@ -3,7 +3,7 @@ use Rattle.sb_round.specs.Round.{Round, outside}
 use Rattle.update_run.specs.Run.{seen}
 use Rattle.update_run.specs.Rounding.{TakesRounds}
 use Rattle.update_run.specs.Saved.{keeping}
-use Rattle.update_run.proofs.rounding.take_rounds.Given as goal
+use Rattle.update_run.proofs.rounding.all_rounds.Given as goal
 
 -- the rounds so far, and no fault was counted
 abbrev pub invariant-loop-made : goal.invariant-loop-made
