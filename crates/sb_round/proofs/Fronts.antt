@@ -7,5 +7,5 @@ use Rattle.std.proofs.lemmas.List.{take-append-drop}
 pub front_of : (page more longer new : List ℕ) → longer ≡ page ++ more → take (length longer) new ≡ longer → take (length page) new ≡ page
 front_of page more longer new is front =
     let split : new ≡ page ++ (more ++ drop (length longer) new) =
-        sym (take-append-drop (length longer) new) ∙ ap (λ text. text ++ drop (length longer) new) (front ∙ is) ∙ append_assoc page more (drop (length longer) new) in
+    sym (take-append-drop (length longer) new) ∙ ap (λ text. text ++ drop (length longer) new) (front ∙ is) ∙ append_assoc page more (drop (length longer) new) in
     ap (take (length page)) split ∙ take-append_seam page (more ++ drop (length longer) new)
