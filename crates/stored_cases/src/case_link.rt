@@ -2,6 +2,7 @@
 ghost use Rattle.std.specs.Prelude.{◌≡◌, ◌≤◌, length, None, OnOk, OnErr, IfOk};
 ghost use Rattle.sb_outside.specs.Outside.{Rose};
 
+use case_texts::{Coming, Harm, Play};
 use delta_server::Settings;
 use list_versions::History;
 use sb_model::{Bytes, Moment, OutOfMemory, Row};
@@ -14,46 +15,13 @@ use std::collections::VecDeque;
 const ROOM: usize = 1_048_576;
 
 /// Why a call fails that is not listed: memory was refused, or there is nothing to play.
-#[derive(Clone, Copy, Debug, PartialEq, Eq)]
+#[derive(Clone, Copy)]
 struct Stopped;
 
 impl From<OutOfMemory> for Stopped {
     fn from(_refused: OutOfMemory) -> Stopped {
         Stopped
     }
-}
-
-/// What becomes of a response on its way.
-#[derive(Clone, Copy, Debug, PartialEq, Eq)]
-pub enum Harm {
-    Nothing,
-    /// Only its first so many bytes come.
-    Front(usize),
-    /// Its last so many bytes do not come.
-    Without(usize),
-    /// This byte stands in the place of its last but so many.
-    Byte(usize, u8),
-    /// What the session before was given comes again.
-    Again,
-}
-
-/// What the other side does in a session.
-#[derive(Drop)]
-pub enum Play {
-    /// It gives these bytes.
-    Gives(Bytes),
-    /// The list server answers.
-    Serves(Harm),
-}
-
-/// A session that is to come.
-#[derive(Drop)]
-pub struct Coming {
-    pub play: Play,
-    /// The numbers of the calls that fail: `begin` is call 1, and `close` is none.
-    pub failing: Row<u64>,
-    /// What the server's journal gains before it.
-    pub gains: Bytes,
 }
 
 /// The session that is held.
@@ -108,10 +76,18 @@ impl CaseLink {
 
     /// What each session sent, in order. It ends the link.
     pub fn into_sent(mut self) -> Result<Row<Bytes>, OutOfMemory> {
-        if let Some(held) = self.held {
+        self.retire()?;
+        Ok(self.sent)
+    }
+
+    /// Puts what the last session sent to what those before it sent.
+    fn retire(&mut self) -> Result<(), OutOfMemory>
+        ensures { self.new.faults ≡ self.old.faults }
+    {
+        if let Some(held) = self.held.take() {
             self.sent.push(held.sent)?;
         }
-        Ok(self.sent)
+        Ok(())
     }
 
     fn fail(&mut self) -> Failed
@@ -126,9 +102,7 @@ impl CaseLink {
     fn begin_next(&mut self) -> Result<(), Stopped>
         ensures { self.new.faults ≡ self.old.faults }
     {
-        if let Some(held) = self.held.take() {
-            self.sent.push(held.sent)?;
-        }
+        self.retire()?;
         let Some(coming) = self.coming.pop_front() else {
             return Err(Stopped);
         };

@@ -1,13 +1,8 @@
 //! Cases one after the other.
-use crate::CaseFault;
-use crate::book::{Book, Reader};
-use crate::comparing::compare;
-use crate::fields::{check, field, numbers};
-use crate::objects::Place;
-use crate::report::Differences;
 use crate::running::run;
-use crate::sheet::{Scope, Sheet, Span, between};
-use crate::words::size_of_number;
+use case_texts::{
+    Book, CaseFault, Differences, Place, Reader, Scope, Sheet, Span, between, check, compare, field, numbers, size_of_number,
+};
 use sb_model::{Bytes, OutOfMemory};
 use std::alloc::Global;
 

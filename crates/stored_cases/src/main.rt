@@ -2,30 +2,17 @@
 //! comes to something else than the case says.
 #![tactic(auto)]
 
-use book::Book;
+use case_texts::{Book, CaseFault, Sheet};
 use cases::run_book;
-use fault::CaseFault;
 use sb_model::Bytes;
 use sb_outside::{StdSink, StdSource, read_to_end, write_all};
-use sheet::Sheet;
 use std::alloc::Global;
 use std::process::ExitCode;
 
-mod book;
 mod case_link;
 mod cases;
-mod comparing;
-mod fault;
-mod fields;
-mod frames;
-mod names;
-mod objects;
-mod pieces;
-mod plays;
-mod report;
+mod linking;
 mod running;
-mod sheet;
-mod words;
 
 /// How many bytes all cases may have.
 const LIMIT: usize = 67_108_864;

@@ -1,34 +1,21 @@
 //! One run of a case.
-use crate::CaseFault;
-use crate::book::Reader;
-use crate::fields::lasting_field;
-use crate::objects::{Objects, Place, objects_of};
-use crate::words::words_of;
+use crate::linking::link_of;
+use case_texts::{CaseFault, Left, Objects, Place, Reader, lasting_field, objects_of, words_of};
 use sb_client::run_client;
-use sb_model::{Bytes, OutOfMemory, Row};
-use sb_outside::{MemoryDoor, MemoryKeeper, MemorySink, OpenGate, ScriptClock};
+use crate::case_link::CaseLink;
+use sb_model::{Bytes, OutOfMemory};
+use sb_outside::OpenGate;
 use sb_service::run_server;
 use std::alloc::Global;
 
-/// What a run left.
-#[derive(Drop)]
-pub struct Left {
-    pub status: u8,
-    pub out: MemorySink,
-    pub keep: MemoryKeeper,
-    pub clock: ScriptClock,
-    pub door: MemoryDoor,
-    /// What each session of the link sent.
-    pub sent: Row<Bytes>,
-}
-
-/// Makes a run, whose keeper keeps this text or what the run's fields say.
+/// Makes a run. This is what the keeper kept at the end of the run before, if it kept anything.
 pub fn run(
     reader: &mut Reader,
     place: &Place<'_>,
     store: Option<Bytes>,
 ) -> Result<Left, CaseFault> {
     let objects = objects_of(reader, place, store)?;
+    let link = link_of(reader, place)?;
     let sheet = &place.book.sheet;
     let client = lasting_field(sheet, &place.scope, b"client");
     let server = lasting_field(sheet, &place.scope, b"server");
@@ -39,7 +26,7 @@ pub fn run(
         (None, None) => return Err(CaseFault::Line(place.scope.own.from)),
     };
     let words = words_of(reader.alloc, sheet.rest(line), line)?;
-    Ok(run_words(reader.alloc, words.as_slice(), is_client, objects)?)
+    Ok(run_words(reader.alloc, words.as_slice(), is_client, objects, link)?)
 }
 
 /// Has the client or the server run these words.
@@ -48,13 +35,13 @@ fn run_words(
     words: &[String],
     is_client: bool,
     objects: Objects,
+    mut link: CaseLink,
 ) -> Result<Left, OutOfMemory> {
     let Objects {
         mut input,
         mut journal,
         mut out,
         mut keep,
-        mut link,
         mut clock,
         mut dice,
         mut door,

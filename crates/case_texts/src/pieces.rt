@@ -9,7 +9,7 @@ use sha2::{Digest, Sha256};
 use std::alloc::Global;
 
 /// A bracket that is open, and where its bytes begin.
-#[derive(Clone, Copy, Debug, PartialEq, Eq)]
+#[derive(Clone, Copy)]
 struct Frame {
     work: Work,
     mark: usize,
@@ -215,7 +215,7 @@ impl Writer {
     fn finish(&mut self, frame: Frame) -> Result<(), OutOfMemory> {
         let all = self.bytes.as_slice();
         let inner = Bytes::from_slice(self.alloc, between(all, frame.mark, all.len()))?;
-        if frame.work == Work::EachFront {
+        if matches!(frame.work, Work::EachFront) {
             self.fronts = self.fronts.max(inner.len());
         }
         self.bytes.truncate(frame.mark);

@@ -1,13 +1,9 @@
 //! The objects of a run.
 use crate::CaseFault;
 use crate::book::{Book, Reader};
-use crate::case_link::CaseLink;
-use crate::fields::{field, fields, lasting_field, numbers};
-use crate::plays::{has_server, sessions};
+use crate::fields::{field, fields, lasting_field, numbers, own_field};
 use crate::sheet::{Scope, rest_of, word_of};
 use crate::words::{low_word, number_of, size_of_number};
-use delta_server::Settings;
-use list_versions::History;
 use sb_model::{Bytes, Moment, OutOfMemory, Row};
 use sb_outside::{
     KeepFailure, MemoryDoor, MemoryKeeper, MemorySink, MemorySource, MemoryWire, Remains,
@@ -20,12 +16,6 @@ const ROOM: usize = 4_194_304;
 /// How many answers a clock and how many words dice list.
 const ENTRIES: usize = 4_096;
 
-const SETTINGS: Settings = Settings {
-    wait: 1_800,
-    cache: 300,
-    negative: 300,
-};
-
 /// What a run is given.
 #[derive(Drop)]
 pub struct Objects {
@@ -33,7 +23,6 @@ pub struct Objects {
     pub journal: MemorySource,
     pub out: MemorySink,
     pub keep: MemoryKeeper,
-    pub link: CaseLink,
     pub clock: ScriptClock,
     pub dice: ScriptDice,
     pub door: MemoryDoor,
@@ -53,6 +42,15 @@ impl<'a> Place<'a> {
         field(&self.book.sheet, &self.scope, name)
     }
 
+    /// The line that says what the keeper keeps at first: of a further run, its own alone.
+    fn store_field(&self) -> Option<usize> {
+        let is_first = self.scope.before.from >= self.scope.before.to;
+        if is_first {
+            return self.field(b"store");
+        }
+        own_field(&self.book.sheet, &self.scope, b"store")
+    }
+
     /// The lines of fields that may stand several times.
     pub fn fields(&self, reader: &Reader, names: &[&[u8]]) -> Result<Row<usize>, OutOfMemory> {
         fields(reader.alloc, &self.book.sheet, &self.scope, names)
@@ -70,7 +68,7 @@ impl<'a> Place<'a> {
     }
 }
 
-/// The objects of a run. The keeper keeps this text, or nothing.
+/// The objects of a run. This is what the keeper kept at the end of the run before, if it kept anything.
 pub fn objects_of(
     reader: &mut Reader,
     place: &Place<'_>,
@@ -81,7 +79,6 @@ pub fn objects_of(
         journal: journal_of(reader, place)?,
         out: out_of(reader, place)?,
         keep: keeper_of(reader, place, store)?,
-        link: link_of(reader, place)?,
         clock: clock_of(reader, place)?,
         dice: dice_of(reader, place)?,
         door: door_of(reader, place)?,
@@ -128,10 +125,9 @@ fn keeper_of(
     for line in place.fields(reader, &[b"keeper-fails"])?.iter() {
         failing.push(failure_of(place.book.sheet.rest(*line), *line)?)?;
     }
-    let kept = match (store, place.field(b"store")) {
-        (Some(text), _) => Some(text),
-        (None, Some(line)) => Some(reader.text(place.book, line)?),
-        (None, None) => None,
+    let kept = match place.store_field() {
+        Some(line) => Some(reader.text(place.book, line)?),
+        None => store,
     };
     Ok(MemoryKeeper::new(reader.alloc, kept, failing))
 }
@@ -165,37 +161,6 @@ fn dice_of(reader: &Reader, place: &Place<'_>) -> Result<ScriptDice, CaseFault> 
         words.push(low_word(*number))?;
     }
     Ok(ScriptDice::new(reader.alloc, words, ENTRIES)?)
-}
-
-/// The times of the list server of a link: its wait, and how long a match and its absence may be kept.
-fn settings_of(reader: &Reader, place: &Place<'_>) -> Result<Settings, CaseFault> {
-    let numbers = place.lasting_numbers(reader, b"settings")?;
-    match numbers.as_slice() {
-        [wait, cache, negative] => Ok(Settings {
-            wait: low_word(*wait),
-            cache: low_word(*cache),
-            negative: low_word(*negative),
-        }),
-        _ => Ok(SETTINGS),
-    }
-}
-
-fn link_of(reader: &mut Reader, place: &Place<'_>) -> Result<CaseLink, CaseFault> {
-    let settings = settings_of(reader, place)?;
-    let history = history_of(reader, place)?;
-    let coming = sessions(reader, place)?;
-    Ok(CaseLink::new(reader.alloc, history, settings, coming, place.step))
-}
-
-/// The history of the link's server, where a session is answered by one and the journal has no bad line.
-fn history_of(reader: &mut Reader, place: &Place<'_>) -> Result<Option<History>, CaseFault> {
-    if !has_server(reader, place)? {
-        return Ok(None);
-    }
-    let mut pieces = Row::new(reader.alloc);
-    pieces.push(reader.text_or_nothing(place.book, place.field(b"journal"))?)?;
-    let mut source = MemorySource::new(pieces, Row::new(reader.alloc));
-    Ok(History::load(reader.alloc, &mut source).ok())
 }
 
 /// The connections of a door, each with the calls that fail.

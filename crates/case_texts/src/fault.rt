@@ -2,7 +2,7 @@ use sb_model::OutOfMemory;
 use std::alloc::AllocError;
 
 /// Why a text of cases was not run to its end.
-#[derive(Clone, Copy, Debug, PartialEq, Eq)]
+#[derive(Clone, Copy)]
 pub enum CaseFault {
     /// The line with this number, counted from 0, is of no form that stands there.
     Line(usize),

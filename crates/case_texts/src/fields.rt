@@ -50,6 +50,11 @@ fn last_in(sheet: &Sheet, span: Span, name: &[u8]) -> Option<usize> {
     found
 }
 
+/// The line of a field of the run's own.
+pub fn own_field(sheet: &Sheet, scope: &Scope, name: &[u8]) -> Option<usize> {
+    last_in(sheet, scope.own, name)
+}
+
 /// The line of a field: the run's own, or that of its group.
 pub fn field(sheet: &Sheet, scope: &Scope, name: &[u8]) -> Option<usize> {
     match last_in(sheet, scope.own, name) {

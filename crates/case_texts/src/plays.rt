@@ -1,11 +1,43 @@
 //! The sessions of a link.
 use crate::CaseFault;
 use crate::book::Reader;
-use crate::case_link::{Coming, Harm, Play};
 use crate::objects::{Place, numbers_after};
 use crate::sheet::{rest_of, word_of};
 use crate::words::{number_of, size_of_number};
 use sb_model::{Bytes, OutOfMemory, Row};
+
+/// What becomes of a response on its way.
+#[derive(Clone, Copy)]
+pub enum Harm {
+    Nothing,
+    /// Only its first so many bytes come.
+    Front(usize),
+    /// Its last so many bytes do not come.
+    Without(usize),
+    /// This byte stands in the place of its last but so many.
+    Byte(usize, u8),
+    /// What the session before was given comes again.
+    Again,
+}
+
+/// What the other side does in a session.
+#[derive(Drop)]
+pub enum Play {
+    /// It gives these bytes.
+    Gives(Bytes),
+    /// The list server answers.
+    Serves(Harm),
+}
+
+/// A session that is to come.
+#[derive(Drop)]
+pub struct Coming {
+    pub play: Play,
+    /// The numbers of the calls that fail: `begin` is call 1, and `close` is none.
+    pub failing: Row<u64>,
+    /// What the server's journal gains before it.
+    pub gains: Bytes,
+}
 
 /// Whether the list server answers a session.
 pub fn has_server(reader: &Reader, place: &Place<'_>) -> Result<bool, OutOfMemory> {

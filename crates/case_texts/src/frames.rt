@@ -8,7 +8,7 @@ use sha2::{Digest, Sha256};
 use std::alloc::Global;
 
 /// What a bracket does with what stands in it.
-#[derive(Clone, Copy, Debug, PartialEq, Eq)]
+#[derive(Clone, Copy)]
 pub enum Work {
     /// It stands so many times more, from a line on.
     Repeat { more: u64, line: usize },

@@ -3,7 +3,7 @@ use sb_model::{Bytes, OutOfMemory};
 use std::alloc::Global;
 
 /// Where a line begins, and where it ends.
-#[derive(Clone, Copy, Debug, PartialEq, Eq)]
+#[derive(Clone, Copy)]
 struct Place {
     from: usize,
     to: usize,
@@ -17,7 +17,7 @@ pub struct Sheet {
 }
 
 /// Lines that stand together: from the first on, up to the one that is none of them.
-#[derive(Clone, Copy, Debug, PartialEq, Eq)]
+#[derive(Clone, Copy)]
 pub struct Span {
     pub from: usize,
     pub to: usize,
@@ -25,7 +25,7 @@ pub struct Span {
 
 /// The lines in which the fields of a run stand: its own, those of the runs before it in its case, and those under
 /// the heading of its group.
-#[derive(Clone, Copy, Debug, PartialEq, Eq)]
+#[derive(Clone, Copy)]
 pub struct Scope {
     pub own: Span,
     pub before: Span,

@@ -3,9 +3,20 @@ use crate::CaseFault;
 use crate::book::Reader;
 use crate::objects::Place;
 use crate::report::Differences;
-use crate::running::Left;
 use sb_model::{Bytes, Row};
-use sb_outside::Connection;
+use sb_outside::{Connection, MemoryDoor, MemoryKeeper, MemorySink, ScriptClock};
+
+/// What a run left.
+#[derive(Drop)]
+pub struct Left {
+    pub status: u8,
+    pub out: MemorySink,
+    pub keep: MemoryKeeper,
+    pub clock: ScriptClock,
+    pub door: MemoryDoor,
+    /// What each session of the link sent.
+    pub sent: Row<Bytes>,
+}
 
 /// What was to come of texts: so many with these bytes, or nothing is said of them.
 fn wanted_texts(
