@@ -1,7 +1,8 @@
 //! Cases one after the other.
 use crate::running::run;
 use case_texts::{
-    Book, CaseFault, Differences, Place, Reader, Scope, Sheet, Span, between, check, compare, field, numbers, size_of_number,
+    Book, CaseFault, Differences, Place, Reader, Scope, Sheet, Span, between, check, compare,
+    field, numbers, size_of_number,
 };
 use sb_model::{Bytes, OutOfMemory};
 use std::alloc::Global;

@@ -42,4 +42,3 @@ fn history_of(reader: &mut Reader, place: &Place<'_>) -> Result<Option<History>,
     let mut source = MemorySource::new(pieces, Row::new(reader.alloc));
     Ok(History::load(reader.alloc, &mut source).ok())
 }
-

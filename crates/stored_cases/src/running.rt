@@ -1,8 +1,8 @@
 //! One run of a case.
+use crate::case_link::CaseLink;
 use crate::linking::link_of;
 use case_texts::{CaseFault, Left, Objects, Place, Reader, lasting_field, objects_of, words_of};
 use sb_client::run_client;
-use crate::case_link::CaseLink;
 use sb_model::{Bytes, OutOfMemory};
 use sb_outside::OpenGate;
 use sb_service::run_server;
