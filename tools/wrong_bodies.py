@@ -204,23 +204,40 @@ def copy_to(room, names):
             shutil.copy(path, os.path.join(folder, os.path.basename(path)[: -len(".md")]))
 
 
+def refused_in(room, names):
+    """Has the wrong bodies in a copy tried, and answers those that were refused, and whether nothing else failed."""
+    refused = set()
+    with subprocess.Popen(["rt", "ci", *names], cwd=room, stdout=subprocess.PIPE, text=True, errors="replace") as tries:
+        for line in tries.stdout:
+            found = re.match(r"rt: must-fail (\w+)/(\S+)\.edit: refused, as it must be( \(only .*)?", line)
+            if found:
+                refused.add((found[1], found[2]))
+            if found and not found[3]:
+                print(line.rstrip()[:200], flush=True)
+            elif not line.startswith(("fn ", "statements ", "library ", "checked ")):
+                print(line.rstrip(), flush=True)
+    return refused, tries.returncode == 0
+
+
 def try_bodies(names):
+    """`rt ci NAMES` tries them over what the gate has proved on this machine; `rt must-fail` would prove all below once more."""
     uses = uses_of()
     names = names or [name for name in uses if bodies_of(name, KEPT)]
     for name in names:
         if name not in uses or not bodies_of(name, KEPT):
             stop(f"{name} keeps none")
+    wanted = {(name, os.path.basename(it)[: -len(KEPT)]) for name in names for it in bodies_of(name, KEPT)}
     texts = {name: text_of(len(bodies_of(name, KEPT)), own_sum(name, uses), specs_sum(name, uses)) for name in names}
     with tempfile.TemporaryDirectory(prefix="wrong-bodies-") as room:
         copy_to(room, names)
-        # The first proves side by side, and keeps what each came to; the second is the judge of it.
-        subprocess.run(["rt", "ci", *names], cwd=room, check=False)
-        if subprocess.run(["rt", "must-fail", *names], cwd=room, check=False).returncode:
-            stop("not each was refused: no tried.md was written")
+        refused, is_well = refused_in(room, names)
+    left = sorted(f"{name}/{body}" for name, body in wanted - refused)
+    if left or not is_well:
+        stop(f"no tried.md was written: not refused, or something else failed: {', '.join(left) or 'see above'}")
     for name, text in texts.items():
         with open(os.path.join(CRATES, name, "must-fail", TRIED), "w", encoding="utf-8") as file:
             file.write(text)
-    print(f"wrong bodies: {sum(len(bodies_of(name, KEPT)) for name in names)} of {len(names)} crates were refused")
+    print(f"wrong bodies: {len(wanted)} of {len(names)} crates were refused")
     return 0
 
 

@@ -1,3 +1,4 @@
+pub mod Fronts
 pub mod HonestUpdates
 pub mod Meanings
 pub mod Replicas

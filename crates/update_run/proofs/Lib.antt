@@ -1,5 +1,6 @@
 pub mod Endings
 pub mod Entries
+pub mod Fronts
 pub mod Replicas
 pub mod RoundByRound
 pub mod Saves

@@ -1,4 +1,4 @@
-use Rattle.std.proofs.Common.{◌≡◌, ℕ, List, length, ap, ◌∙◌, subst, sym, arith, IsPermutation}
+use Rattle.std.proofs.Common.{◌≡◌, ℕ, List, length, ap, subst, sym, arith, IsPermutation}
 use Rattle.std.specs.Prelude.{nat_eq}
 use Rattle.std.specs.List.{dedup, Contains}
 use Rattle.std.specs.List.Sorted.{IsStrictlyIncreasing}
@@ -6,7 +6,6 @@ use Rattle.std.proofs.lemmas.List.Filters.{dedup_is}
 use Rattle.std.proofs.lemmas.List.Kept.{Contains-dedup_nat, Contains-from_dedup}
 use Rattle.std.proofs.lemmas.List.Sorted.{Contains-permutation, IsPermutation-sym}
 use Rattle.std.proofs.lemmas.Map.Keys.{IsStrictlyIncreasing-dedup}
-use Rattle.update_messages.specs.Answer.{numbers_of}
 use Rattle.delta_server.proofs.Membership.{In, in_contained, contains_in}
 use Rattle.delta_server.proofs.NumberFacts.{same_numbers, numbers_few}
 use Rattle.delta_server.proofs.numbers.rising_numbers.Goals as goal

@@ -1,4 +1,4 @@
-use Rattle.std.proofs.Common.{◌/◌, length, ap, ◌∙◌}
+use Rattle.std.proofs.Common.{ℕ, ◌/◌, List, length, ap, ◌∙◌, arith}
 use Rattle.std.specs.Simd.{first_chunks}
 use Rattle.delta_server.proofs.SetFacts.{chunks_of_size}
 use Rattle.delta_server.proofs.sets.quads_of.Goals as goal

@@ -8,20 +8,20 @@ use Rattle.delta_server.proofs.sets.whole_sets.Goals.{then-sizes-size+in_ok-byte
 
 pub addition_set-requires-clause-members : goal.addition_set-requires-clause-members
 addition_set-requires-clause-members c =
-    (c.args.set.now, c.in_ok-bytes.ensures, sym (c.sizes.ensures.occurs c.loop-size.size (omega arith)) ∙ c.if-sizes-size.true, c.len.ensures.count)
+    (c.args.set.now, c.in_ok-bytes.ensures, sym (c.sizes-sizes.ensures.occurs c.loop-size.size (omega arith)) ∙ c.if-sizes-size.true, c.len.ensures.count)
 
 pub loop-size-preserved : goal.loop-size-preserved
 loop-size-preserved c =
     elim c.if-sizes-size.branch [
       | then-sizes-size+in_ok-bytes+in_ok-addition_set+in_ok-push w ↦ (
         sets_pushed c.args.rice c.args.set.now c.loop-size.size c.loop-size.sets c.if-sizes-size.sets w.in_ok-addition_set.field-0 c.loop-size.auto.size
-            (sym (c.sizes.ensures.occurs c.loop-size.size (omega arith)) ∙ w.if-sizes-size.true) c.loop-size.invariant.0
+            (sym (c.sizes-sizes.ensures.occurs c.loop-size.size (omega arith)) ∙ w.if-sizes-size.true) c.loop-size.invariant.0
             (w.in_ok-addition_set.ensures.set c.args.set.now w.in_ok-bytes.ensures) (w.sets-is ∙ w.in_ok-push.ensures.ok),
         subst (All IsAddition) (sym (w.sets-is ∙ w.in_ok-push.ensures.ok))
             (All-push IsAddition c.loop-size.sets w.in_ok-addition_set.field-0 c.loop-size.invariant.1 w.in_ok-addition_set.ensures.keeps),
       )
       | else-sizes-size w ↦ (
-        w.sets-is ∙ sets_kept c.args.rice c.args.set.now c.loop-size.size c.loop-size.sets c.loop-size.auto.size (sym (c.sizes.ensures.occurs c.loop-size.size (omega arith)) ∙ w.if-sizes-size.false) c.loop-size.invariant.0,
+        w.sets-is ∙ sets_kept c.args.rice c.args.set.now c.loop-size.size c.loop-size.sets c.loop-size.auto.size (sym (c.sizes-sizes.ensures.occurs c.loop-size.size (omega arith)) ∙ w.if-sizes-size.false) c.loop-size.invariant.0,
         subst (All IsAddition) (sym w.sets-is) c.loop-size.invariant.1,
       )
     ]

@@ -6,4 +6,4 @@ returns-in-Err-clause-stopped g c = not_told _ _ _ _ _ _
 
 pub returns-in-Ok-clause-stopped : goal.returns-in-Ok-clause-stopped
 returns-in-Ok-clause-stopped g c =
-    told_err _ _ _ _ _ _ _ _ c.args.page.now _ c.in-Ok.ensures c.save_installed.ensures.some c.save_installed.ensures.stopped
+    told_err _ _ _ _ _ _ _ _ c.args.page.now _ c.in-Ok.ensures.ok c.save_installed.ensures.some c.save_installed.ensures.stopped
