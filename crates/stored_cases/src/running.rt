@@ -35,25 +35,54 @@ fn run_words(
     words: &[String],
     is_client: bool,
     objects: Objects,
+    link: CaseLink,
+) -> Result<Left, OutOfMemory> {
+    if is_client {
+        return by_client(alloc, words, objects, link);
+    }
+    by_server(alloc, words, objects, link)
+}
+
+/// What the client leaves that runs these words.
+fn by_client(
+    alloc: Global,
+    words: &[String],
+    objects: Objects,
     mut link: CaseLink,
 ) -> Result<Left, OutOfMemory> {
-    let Objects {
-        mut input,
-        mut journal,
-        mut out,
-        mut keep,
-        mut clock,
-        mut dice,
-        mut door,
-    } = objects;
-    let status = if is_client {
-        run_client(
-            alloc, words, &mut input, &mut out, &mut keep, &mut link, &mut clock, &mut dice,
-            &OpenGate,
-        )
-    } else {
-        run_server(alloc, words, &mut journal, &mut input, &mut out, &mut door)
-    };
+    let mut input = objects.input;
+    let mut out = objects.out;
+    let mut keep = objects.keep;
+    let mut clock = objects.clock;
+    let mut dice = objects.dice;
+    let door = objects.door;
+    let status = run_client(
+        alloc, words, &mut input, &mut out, &mut keep, &mut link, &mut clock, &mut dice, &OpenGate,
+    );
+    Ok(Left {
+        status,
+        out,
+        keep,
+        clock,
+        door,
+        sent: link.into_sent()?,
+    })
+}
+
+/// What the server leaves that runs these words.
+fn by_server(
+    alloc: Global,
+    words: &[String],
+    objects: Objects,
+    link: CaseLink,
+) -> Result<Left, OutOfMemory> {
+    let mut journal = objects.journal;
+    let mut input = objects.input;
+    let mut out = objects.out;
+    let keep = objects.keep;
+    let clock = objects.clock;
+    let mut door = objects.door;
+    let status = run_server(alloc, words, &mut journal, &mut input, &mut out, &mut door);
     Ok(Left {
         status,
         out,
