@@ -13,6 +13,6 @@ returns-in_default-clause-err g c =
 
 pub returns-clause-err : goal.returns-clause-err
 returns-clause-err g c =
-    let whole = ap (λ (page : List ℕ). page ++ flat_map prefix_line c.args.held.now.set) c.in-Ok.ensures
+    let whole = ap (λ (page : List ℕ). page ++ flat_map prefix_line c.args.held.now.set) c.in-Ok.ensures.ok
     ∙ append_assoc c.args.page.now (list_line c.args.held.now) (flat_map prefix_line c.args.held.now.set) in
     on_err c.print_prefixes.result (subst (HasFront (g.O.Sink.contents c.args.out.now) (g.O.Sink.contents c.print_prefixes.new.out)) whole) c.print_prefixes.ensures.err
