@@ -166,7 +166,7 @@ ends() {
   timeout 20 "$@" > "$folder/out" 2> "$folder/said"
   status=$?
   [ "$status" = "$wanted" ] || fail "$step: status $status in place of $wanted"
-  grep -qF -- "$line" "$folder/said" || fail "$step: it said: $(< "$folder/said")"
+  [ -z "$line" ] || grep -qF -- "$line" "$folder/said" || fail "$step: it said: $(< "$folder/said")"
   echo "$step: ${line:-as ever}"
 }
 
