@@ -1,11 +1,11 @@
 ghost use Rattle.std.specs.Prelude.{◌≡◌, ◌≤◌, [], length, IfOk};
 
-use crate::Failed;
+use crate::Why;
 use crate::tcp_limits::time_left;
 use std::io::{ErrorKind, Read, Write};
 use std::net::TcpStream;
-use std::time;
 use std::time::Instant;
+use std::{io, time};
 
 /// When a connection began, and how long it and each of its calls may take, in milliseconds.
 #[derive(Clone, Copy)]
@@ -15,27 +15,38 @@ pub(crate) struct Term {
     pub(crate) call: u64,
 }
 
+fn not_read(error: io::Error) -> Why {
+    Why::system("cannot be read", error)
+}
+
+fn not_written(error: io::Error) -> Why {
+    Why::system("cannot be written", error)
+}
+
 /// One read within the term. If it is interrupted, it is made again.
 pub(crate) fn read_within(
     rt: &impl time::Clock,
     stream: &mut TcpStream,
     term: Term,
     buffer: &mut [u8],
-) -> Result<usize, Failed>
+) -> Result<usize, Why>
     ensures { IfOk result (λ n. n ≤ length buffer.new) }
 {
     for _ in 0..u64::MAX {
         let left = time_left(rt, term.begun, term.whole, term.call);
-        if left.is_none() || stream.set_read_timeout(left).is_err() {
-            return Err(Failed);
+        if left.is_none() {
+            return Err(Why::refusal("has sent nothing within its time"));
+        }
+        if let Err(e) = stream.set_read_timeout(left) {
+            return Err(not_read(e));
         }
         match stream.read(buffer) {
             Ok(n) => return Ok(n),
             Err(e) if e.kind() == ErrorKind::Interrupted => {}
-            Err(_) => return Err(Failed),
+            Err(e) => return Err(not_read(e)),
         }
     }
-    Err(Failed)
+    Err(Why::refusal("interrupts each read"))
 }
 
 /// One write within the term. If it is interrupted, it is made again. One that takes no byte of a piece that has
@@ -45,23 +56,26 @@ pub(crate) fn write_within(
     stream: &mut TcpStream,
     term: Term,
     piece: &[u8],
-) -> Result<usize, Failed>
+) -> Result<usize, Why>
     ensures within { IfOk result (λ n. n ≤ length piece.now) }
     ensures some { IfOk result (λ n. n ≡ 0 → piece.now ≡ []) }
 {
     for _ in 0..u64::MAX {
         let left = time_left(rt, term.begun, term.whole, term.call);
-        if left.is_none() || stream.set_write_timeout(left).is_err() {
-            return Err(Failed);
+        if left.is_none() {
+            return Err(Why::refusal("has taken nothing within its time"));
+        }
+        if let Err(e) = stream.set_write_timeout(left) {
+            return Err(not_written(e));
         }
         match stream.write(piece) {
-            Ok(0) if !piece.is_empty() => return Err(Failed),
+            Ok(0) if !piece.is_empty() => return Err(Why::refusal("takes no byte")),
             Ok(n) => return Ok(n),
             Err(e) if e.kind() == ErrorKind::Interrupted => {}
-            Err(_) => return Err(Failed),
+            Err(e) => return Err(not_written(e)),
         }
     }
-    Err(Failed)
+    Err(Why::refusal("interrupts each write"))
 }
 
 /// Writes a whole piece within the term.
@@ -70,7 +84,7 @@ pub(crate) fn send_within(
     stream: &mut TcpStream,
     term: Term,
     piece: &[u8],
-) -> Result<(), Failed> {
+) -> Result<(), Why> {
     let mut rest = piece;
     while !rest.is_empty() {
         let count = write_within(rt, stream, term, rest)?;

@@ -4,7 +4,7 @@ ghost use Rattle.sb_outside.specs.Tcp.{TcpSession};
 
 use crate::tcp_calls::{Term, read_within, send_within};
 use crate::tcp_limits::time_left;
-use crate::{Failed, Kind, Link, TcpLimits};
+use crate::{Failed, Kind, Link, TcpLimits, Why};
 use sb_model::{Moment, OutOfMemory};
 use std::alloc::Global;
 use std::io::ErrorKind;
@@ -23,6 +23,7 @@ pub struct TcpLink<R> {
     limits: TcpLimits,
     session: Option<Open>,
     faults: u64,
+    why: Option<Why>,
 }
 
 /// An open session.
@@ -52,6 +53,7 @@ impl<R: Drop> TcpLink<R> {
             limits,
             session: None,
             faults: 0,
+            why: None,
         })
     }
 
@@ -65,6 +67,7 @@ impl<R: Drop> TcpLink<R> {
             limits: TcpLimits::STANDARD,
             session: None,
             faults: 0,
+            why: None,
         }
     }
 
@@ -73,6 +76,24 @@ impl<R: Drop> TcpLink<R> {
         ensures { result ≡ self.now.faults }
     {
         self.faults
+    }
+
+    /// Why the last of them did.
+    pub fn why(&self) -> Option<Why> {
+        self.why
+    }
+}
+
+impl<R> TcpLink<R> {
+    /// Counts a call that failed, and keeps why.
+    fn fail(&mut self, why: Why) -> Failed
+        ensures rose { Rose self.old.faults self.new.faults }
+        ensures counted { self.old.faults ≤ self.new.faults }
+        ensures same { self.new ≡ record self.old { faults = self.new.faults } }
+    {
+        self.faults = self.faults.saturating_add(1);
+        self.why = Some(why);
+        Failed
     }
 }
 
@@ -87,16 +108,25 @@ fn connect<R: Net<Stream = TcpStream> + time::Clock>(
         whole: limits.connection,
         call: limits.call,
     };
+    let mut last = io::Error::from(ErrorKind::TimedOut);
     for addr in address.to_socket_addrs(rt)? {
         let Some(left) = time_left(rt, term.begun, term.whole, term.call) else {
             break;
         };
-        if let Ok(stream) = TcpStream::connect_timeout(rt, &addr, left) {
-            stream.set_nodelay(true)?;
-            return Ok(Open { stream, term });
+        match TcpStream::connect_timeout(rt, &addr, left) {
+            Ok(stream) => {
+                stream.set_nodelay(true)?;
+                return Ok(Open { stream, term });
+            }
+            Err(e) => last = e,
         }
     }
-    Err(io::Error::from(ErrorKind::TimedOut))
+    Err(last)
+}
+
+/// What a call fails with that has no open session.
+fn no_session() -> Why {
+    Why::refusal("has no open connection")
 }
 
 impl<R: Net<Stream = TcpStream> + time::Clock> Link for TcpLink<R> {
@@ -115,14 +145,16 @@ impl<R: Net<Stream = TcpStream> + time::Clock> Link for TcpLink<R> {
         ensures failed { OnErr result (Rose self.old.faults self.new.faults) }
     {
         self.session = None;
-        if let Some(address) = &self.address
-            && let Ok(session) = connect(&self.rt, address.as_str(), self.limits)
-        {
-            self.session = Some(session);
-            return Ok(());
+        let Some(address) = &self.address else {
+            return Err(self.fail(Why::refusal("is no address")));
+        };
+        match connect(&self.rt, address.as_str(), self.limits) {
+            Ok(session) => {
+                self.session = Some(session);
+                Ok(())
+            }
+            Err(e) => Err(self.fail(Why::system("cannot be connected to", e))),
         }
-        self.faults = self.faults.saturating_add(1);
-        Err(Failed)
     }
 
     fn send(&mut self, piece: &[u8]) -> Result<(), Failed>
@@ -133,13 +165,13 @@ impl<R: Net<Stream = TcpStream> + time::Clock> Link for TcpLink<R> {
         ensures counted { self.old.faults ≤ self.new.faults }
         ensures failed { OnErr result (Rose self.old.faults self.new.faults) }
     {
-        if let Some(session) = &mut self.session
-            && send_within(&self.rt, &mut session.stream, session.term, piece).is_ok()
-        {
-            return Ok(());
+        let Some(session) = &mut self.session else {
+            return Err(self.fail(no_session()));
+        };
+        match send_within(&self.rt, &mut session.stream, session.term, piece) {
+            Ok(()) => Ok(()),
+            Err(why) => Err(self.fail(why)),
         }
-        self.faults = self.faults.saturating_add(1);
-        Err(Failed)
     }
 
     fn recv(&mut self, buffer: &mut [u8]) -> Result<usize, Failed>
@@ -151,16 +183,16 @@ impl<R: Net<Stream = TcpStream> + time::Clock> Link for TcpLink<R> {
         ensures counted { self.old.faults ≤ self.new.faults }
         ensures failed { OnErr result (Rose self.old.faults self.new.faults) }
     {
-        if let Some(session) = &mut self.session {
-            if buffer.is_empty() {
-                return Ok(0);
-            }
-            if let Ok(n) = read_within(&self.rt, &mut session.stream, session.term, buffer) {
-                return Ok(n);
-            }
+        let Some(session) = &mut self.session else {
+            return Err(self.fail(no_session()));
+        };
+        if buffer.is_empty() {
+            return Ok(0);
         }
-        self.faults = self.faults.saturating_add(1);
-        Err(Failed)
+        match read_within(&self.rt, &mut session.stream, session.term, buffer) {
+            Ok(n) => Ok(n),
+            Err(why) => Err(self.fail(why)),
+        }
     }
 
     fn close(&mut self, _at: Moment)

@@ -3,7 +3,7 @@ ghost use Rattle.sb_outside.specs.Outside.{Rose};
 ghost use Rattle.sb_outside.specs.Tcp.{TcpConnection};
 
 use crate::tcp_calls::{Term, read_within, write_within};
-use crate::{Failed, Sink, Source, TcpLimits, Wire};
+use crate::{Failed, Sink, Source, TcpLimits, Why, Wire};
 use std::marker::Model;
 use std::net::{Shutdown, TcpStream};
 use std::time;
@@ -23,6 +23,7 @@ pub struct TcpWire<R> {
     number: u64,
     read_faults: u64,
     write_faults: u64,
+    why: Option<Why>,
 }
 
 impl<R> Model for TcpWire<R> {
@@ -46,7 +47,7 @@ fn drain(rt: &impl time::Clock, stream: &mut TcpStream, limits: TcpLimits) {
     let mut buffer = [0; DRAINED];
     for _ in 0..=limits.drained_bytes / DRAINED {
         match read_within(rt, stream, term, &mut buffer) {
-            Ok(0) | Err(Failed) => return,
+            Ok(0) | Err(_) => return,
             Ok(_) => {}
         }
     }
@@ -70,7 +71,13 @@ impl<R: time::Clock + Drop> TcpWire<R> {
             number,
             read_faults: 0,
             write_faults: 0,
+            why: None,
         }
+    }
+
+    /// Why the last read or write that failed did.
+    pub fn why(&self) -> Option<Why> {
+        self.why
     }
 
     /// Says that nothing more is written, and reads on within bounds: a peer whose bytes were not all read
@@ -110,11 +117,14 @@ impl<R: time::Clock> Source for TcpWire<R> {
             whole: self.limits.request.min(self.limits.connection),
             call: self.limits.call,
         };
-        if let Ok(n) = read_within(&self.rt, &mut self.stream, term, buffer) {
-            return Ok(n);
+        match read_within(&self.rt, &mut self.stream, term, buffer) {
+            Ok(n) => Ok(n),
+            Err(why) => {
+                self.read_faults = self.read_faults.saturating_add(1);
+                self.why = Some(why);
+                Err(Failed)
+            }
         }
-        self.read_faults = self.read_faults.saturating_add(1);
-        Err(Failed)
     }
 }
 
@@ -139,11 +149,14 @@ impl<R: time::Clock> Sink for TcpWire<R> {
             whole: self.limits.connection,
             call: self.limits.call,
         };
-        if let Ok(n) = write_within(&self.rt, &mut self.stream, term, piece) {
-            return Ok(n);
+        match write_within(&self.rt, &mut self.stream, term, piece) {
+            Ok(n) => Ok(n),
+            Err(why) => {
+                self.write_faults = self.write_faults.saturating_add(1);
+                self.why = Some(why);
+                Err(Failed)
+            }
         }
-        self.write_faults = self.write_faults.saturating_add(1);
-        Err(Failed)
     }
 }
 

@@ -1,20 +1,14 @@
-//! The tests of `sb_outside`: each object in memory and each real one, where it succeeds and where it fails.
+//! The tests of `sb_outside`: each real object, where it succeeds and where it fails. What the objects in memory do, their clauses say.
 #![tactic(auto)]
 
 #[cfg(test)]
 mod calls;
-#[cfg(test)]
-mod doors;
 #[cfg(test)]
 mod files;
 #[cfg(test)]
 mod journals;
 #[cfg(test)]
 mod keepers;
-#[cfg(test)]
-mod links;
-#[cfg(test)]
-mod scripts;
 #[cfg(test)]
 mod streams;
 #[cfg(test)]

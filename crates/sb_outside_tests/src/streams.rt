@@ -1,45 +1,8 @@
 use crate::calls::*;
-use sb_model::{Bytes, OutOfMemory, Row};
 use sb_outside::*;
-use std::alloc::Global;
 use std::fs::File;
 use std::io::{ErrorKind, Read, Write};
 use std::{fs, io};
-
-fn pieces_of(alloc: Global, texts: &[&[u8]]) -> Result<Row<Bytes>, OutOfMemory> {
-    let mut pieces = Row::new(alloc);
-    for text in texts {
-        pieces.push(Bytes::from_slice(alloc, text)?)?;
-    }
-    Ok(pieces)
-}
-
-#[test]
-fn memory_source_gives_pieces_and_ends(rt: HostRuntime) {
-    let alloc = rt.alloc();
-    let pieces = pieces_of(alloc, &[b"hello", b"ok"]).expect(&rt, "it failed");
-    let mut source = MemorySource::new(pieces, Row::new(alloc)).with_step(3);
-    let mut buffer = [0; 4];
-    assert!(rt; read(&mut source, &mut buffer) == Ok(3));
-    assert!(rt; buffer[..3] == b"hel"[..]);
-    assert!(rt; read(&mut source, &mut buffer) == Ok(2));
-    assert!(rt; read(&mut source, &mut buffer) == Ok(0));
-    assert!(rt; read(&mut source, &mut buffer) == Ok(2));
-    assert!(rt; buffer[..2] == b"ok"[..]);
-    assert!(rt; source.faults() == 0);
-}
-
-#[test]
-fn memory_sink_takes_until_its_room_is_full(rt: HostRuntime) {
-    let alloc = rt.alloc();
-    let mut sink = MemorySink::new(alloc, 5, Row::new(alloc))
-        .expect(&rt, "it failed")
-        .with_step(3);
-    assert!(rt; write_whole(&mut sink, b"hello") == Ok(()));
-    assert!(rt; write(&mut sink, b"x") == Err(Failed));
-    assert!(rt; sink.bytes() == b"hello".as_slice());
-    assert!(rt; sink.faults() == 1);
-}
 
 #[test]
 fn a_file_takes_bytes_and_gives_them_back(rt: HostRuntime) {
@@ -147,28 +110,4 @@ fn what_could_not_be_had_fails_always(rt: HostRuntime) {
     assert!(rt; sink.flush() == Err(Failed));
     assert!(rt; source.faults() == 1);
     assert!(rt; sink.faults() == 2);
-}
-
-fn source_of(alloc: Global, text: &[u8]) -> Result<MemorySource, OutOfMemory> {
-    Ok(MemorySource::new(pieces_of(alloc, &[text])?, Row::new(alloc)).with_step(4))
-}
-
-#[test]
-fn an_input_is_read_to_its_end(rt: HostRuntime) {
-    let mut source = source_of(rt.alloc(), b"an input").expect(&rt, "it failed");
-    let text = read_to_end(rt.alloc(), &mut source, 8).expect(&rt, "it failed");
-    assert!(rt; text.as_slice() == b"an input".as_slice());
-}
-
-#[test]
-fn a_buffer_goes_to_the_sink_where_it_is_full(rt: HostRuntime) {
-    let alloc = rt.alloc();
-    let mut sink = MemorySink::new(alloc, 65_536, Row::new(alloc)).expect(&rt, "it failed");
-    let mut buffer = Bytes::from_vec(vec![in alloc; b'x'; 65_535].expect(&rt, "it failed"));
-    assert!(rt; flush_if_full(&mut sink, &mut buffer) == Ok(()));
-    assert!(rt; sink.bytes().len() == 0);
-    buffer.push(b'x').expect(&rt, "it failed");
-    assert!(rt; flush_if_full(&mut sink, &mut buffer) == Ok(()));
-    assert!(rt; sink.bytes().len() == 65_536);
-    assert!(rt; buffer.len() == 0);
 }
