@@ -1,6 +1,7 @@
 ghost use Rattle.std.specs.Prelude.{◌≡◌, ℕ, ◌↔◌, None, Contains, MatchResult};
 ghost use Rattle.std.specs.List.Sorted.{IsStrictlySortedBy};
 ghost use Rattle.serde_json.specs.Data.{Data};
+ghost use Rattle.sb_json.specs.Density.{too_dense};
 ghost use Rattle.sb_model.specs.History.{History};
 ghost use Rattle.sb_model.specs.Names.{name_cmp};
 ghost use Rattle.sb_model.specs.Prefixes.{IsRising};
@@ -9,6 +10,7 @@ ghost use Rattle.hash_messages.specs.Matches.{lists_asked, hashes_asked, matches
 ghost use Rattle.hash_messages.specs.Messages.{AskedHashes};
 ghost use Rattle.hash_messages.specs.Reading.{ReadsFindRequest, ReadsFindResponse};
 ghost use Rattle.hash_messages.specs.Faults.{fault_of_find_request, fault_of_find_response};
+ghost use Rattle.hash_messages.specs.Writing.{spelling_of_find_request, spelling_of_find_response};
 ghost use Rattle.hash_messages.specs.declared.response.Match.{Match};
 ghost use Rattle.hash_messages.specs.declared.response.FindResponse.{FindResponse};
 
@@ -44,24 +46,28 @@ pub fn answers_match_what_is_asked()
         → Contains (matches_of history cache asked) found ↔ IsMatchOf history cache asked found }
 {}
 
-/// A request that is written and read again is the same request, unless memory is refused.
+/// A request whose text is not too dense is the same request when it is written and read again,
+/// unless memory is refused.
 pub fn written_finds_read_again(
     alloc: Global,
     message: &FindRequest,
 ) -> Result<FindRequest, MessageFault>
-    ensures { MatchResult result (λ found. found ≡ message.now)
+    ensures { too_dense (spelling_of_find_request message.now) ≡ None
+        → MatchResult result (λ found. found ≡ message.now)
         (λ fault. fault ≡ MessageFault.OutOfMemory) }
 {
     let text = write_find(alloc, message)?;
     read_find(alloc, text.as_slice())
 }
 
-/// A response that is written and read again is the same response, unless memory is refused.
+/// A response whose text is not too dense is the same response when it is written and read again,
+/// unless memory is refused.
 pub fn written_matches_read_again(
     alloc: Global,
     message: &FindResponse,
 ) -> Result<FindResponse, MessageFault>
-    ensures { MatchResult result (λ found. found ≡ message.now)
+    ensures { too_dense (spelling_of_find_response message.now) ≡ None
+        → MatchResult result (λ found. found ≡ message.now)
         (λ fault. fault ≡ MessageFault.OutOfMemory) }
 {
     let text = write_matches(alloc, message)?;

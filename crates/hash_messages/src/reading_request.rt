@@ -101,9 +101,9 @@ fn request_in(alloc: Global, text: &[u8]) -> Result<FindRequest, MessageFault>
 
 /// Reads a find request.
 ///
-/// A text that is no request is refused by its first fault: `NotJson`, and then the fields in the
-/// order of `specs/RequestRows.antt`, item by item, where there are at most 1,024. Unknown fields
-/// are skipped, and one that is null counts as absent.
+/// A text that is no request is refused by its first fault: `TooDense`, `NotJson`, and then the
+/// fields in the order of `specs/RequestRows.antt`, item by item, where there are at most 1,024.
+/// Unknown fields are skipped, and one that is null counts as absent.
 pub fn read_find(alloc: Global, text: &[u8]) -> Result<FindRequest, MessageFault>
     ensures ok { IfOk result (λ message. IsTextOf ReadsFindRequest text.now message) }
     ensures err { IfErr result (λ fault. (fault ≡ MessageFault.OutOfMemory)

@@ -111,9 +111,9 @@ fn response_in(alloc: Global, text: &[u8]) -> Result<FindResponse, MessageFault>
 
 /// Reads the answer to a find request.
 ///
-/// A text that is no response is refused by its first fault: `NotJson`, and then the fields in the
-/// order of `specs/ResponseRows.antt`, item by item. Unknown fields are skipped, and one that is
-/// null counts as absent.
+/// A text that is no response is refused by its first fault: `TooDense`, `NotJson`, and then the
+/// fields in the order of `specs/ResponseRows.antt`, item by item. Unknown fields are skipped, and
+/// one that is null counts as absent.
 pub fn read_matches(alloc: Global, text: &[u8]) -> Result<FindResponse, MessageFault>
     ensures ok { IfOk result (λ message. IsTextOf ReadsFindResponse text.now message) }
     ensures err { IfErr result (λ fault. (fault ≡ MessageFault.OutOfMemory)

@@ -1,5 +1,6 @@
-ghost use Rattle.std.specs.Prelude.{◌≡◌, All, IfOk};
+ghost use Rattle.std.specs.Prelude.{◌≡◌, All, None, IfOk};
 ghost use Rattle.serde_json.specs.View.{view, members_view};
+ghost use Rattle.sb_json.specs.Density.{too_dense};
 ghost use Rattle.update_messages.specs.Ranges.{IsClientInRange};
 ghost use Rattle.update_messages.specs.Reading.{IsTextOf};
 ghost use Rattle.update_messages.specs.Writing as shared;
@@ -82,10 +83,12 @@ fn request_value(alloc: Global, message: &FindRequest) -> Result<Value, OutOfMem
 
 /// Writes a find request in its one spelling: compact JSON, whose keys stand in byte order, and in
 /// which empty texts, empty lists and a client without fields are left out, but no empty state in
-/// the list of states. The text reads as the message, and as no other.
+/// the list of states. Where the text is not too dense it reads as the message; and it reads as no
+/// other.
 pub fn write_find(alloc: Global, message: &FindRequest) -> Result<Bytes, OutOfMemory>
     ensures spelling { IfOk result (λ text. text ≡ spec.spelling_of_find_request message.now) }
-    ensures read_again { IfOk result (λ text. IsTextOf ReadsFindRequest text message.now) }
+    ensures read_again { IfOk result (λ text.
+        too_dense text ≡ None → IsTextOf ReadsFindRequest text message.now) }
     ensures no_other { IfOk result (λ text.
         (other : AskedHashes) → IsTextOf ReadsFindRequest text other → other ≡ message.now) }
 {

@@ -1,5 +1,6 @@
-ghost use Rattle.std.specs.Prelude.{◌≡◌, All, map, IfOk};
+ghost use Rattle.std.specs.Prelude.{◌≡◌, All, map, None, IfOk};
 ghost use Rattle.serde_json.specs.View.{view};
+ghost use Rattle.sb_json.specs.Density.{too_dense};
 ghost use Rattle.update_messages.specs.Reading.{IsTextOf};
 ghost use Rattle.hash_messages.specs.Ranges.{IsMatchInRange, IsFindResponseInRange};
 ghost use Rattle.hash_messages.specs.Reading.{ReadsFindResponse};
@@ -72,11 +73,12 @@ fn response_value(alloc: Global, message: &FindResponse) -> Result<Value, OutOfM
 }
 
 /// Writes the answer to a find request in its one spelling: compact JSON, whose keys stand in byte
-/// order, and in which an empty list and zero durations are left out. The text reads as the
-/// message, and as no other.
+/// order, and in which an empty list and zero durations are left out. Where the text is not too
+/// dense it reads as the message; and it reads as no other.
 pub fn write_matches(alloc: Global, message: &FindResponse) -> Result<Bytes, OutOfMemory>
     ensures spelling { IfOk result (λ text. text ≡ spec.spelling_of_find_response message.now) }
-    ensures read_again { IfOk result (λ text. IsTextOf ReadsFindResponse text message.now) }
+    ensures read_again { IfOk result (λ text.
+        too_dense text ≡ None → IsTextOf ReadsFindResponse text message.now) }
     ensures no_other { IfOk result (λ text.
         (other : FindResponse) → IsTextOf ReadsFindResponse text other → other ≡ message.now) }
 {

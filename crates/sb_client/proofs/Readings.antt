@@ -1,10 +1,9 @@
 -- Each line has one reading.
-use Rattle.std.proofs.Common.{◌≡◌, ℕ, List, [], ◌∷◌, refl, sym, ap, ◌∙◌, subst, Option, Some, None, Ok, Err, map}
+use Rattle.std.proofs.Common.{◌≡◌, ℕ, List, [], ◌∷◌, refl, sym, ap, ◌∙◌, subst, Option, Some, None, Result, Ok, Err, map}
 use Rattle.std.specs.Prelude.{◌↔◌}
 use Rattle.serde_json.specs.Data.{Data}
 use Rattle.sb_json.specs.Values.{value_of}
 use Rattle.sb_json.specs.declared.faults.MessageFault.{MessageFault}
-use Rattle.sb_json.specs.declared.faults.MessageFault.TheVariants.{NotJson}
 use Rattle.update_messages.specs.declared.response.FetchResponse.{FetchResponse}
 use Rattle.update_messages.specs.Reading.{ReadsResponse}
 use Rattle.update_messages.specs.Faults.{fault_of_response, fault_of_text}
@@ -20,13 +19,13 @@ ReadsOneWay = (value : Data) (a b : FetchResponse) → ReadsResponse value a →
 
 -- ---- there is one
 
-by_fault : ReadsOrFails → (line : List ℕ) (value : Data) → value_of line ≡ Some value → (fault : Option MessageFault) → fault_of_response value ≡ fault → (reading : Reading) × IsReadingOf line reading
+by_fault : ReadsOrFails → (line : List ℕ) (value : Data) → value_of line ≡ Ok value → (fault : Option MessageFault) → fault_of_response value ≡ fault → (reading : Reading) × IsReadingOf line reading
 by_fault law line value e None h = let message = (law value).1 h in (Ok message.0, (value, e, message.1))
 by_fault law line value e (Some fault) h = (Err fault, ap (fault_of_text fault_of_response) e ∙ h)
 
-by_value : ReadsOrFails → (line : List ℕ) (value : Option Data) → value_of line ≡ value → (reading : Reading) × IsReadingOf line reading
-by_value law line None e = (Err NotJson, ap (fault_of_text fault_of_response) e)
-by_value law line (Some value) e = by_fault law line value e _ refl
+by_value : ReadsOrFails → (line : List ℕ) (value : Result Data MessageFault) → value_of line ≡ value → (reading : Reading) × IsReadingOf line reading
+by_value law line (Err why) e = (Err why, ap (fault_of_text fault_of_response) e)
+by_value law line (Ok value) e = by_fault law line value e _ refl
 
 pub reader : ReadsOrFails → List ℕ → Reading
 reader law line = (by_value law line _ refl).0
@@ -37,11 +36,11 @@ reader_reads law line = (by_value law line _ refl).1
 
 -- ---- and no other
 
-one_value : (line : List ℕ) (v w : Data) → value_of line ≡ Some v → value_of line ≡ Some w → v ≡ w
+one_value : (line : List ℕ) (v w : Data) → value_of line ≡ Ok v → value_of line ≡ Ok w → v ≡ w
 one_value line v w e h = cc
 
 -- a value that reads as a response has no fault
-no_fault : ReadsOrFails → (line : List ℕ) (value : Data) (message : FetchResponse) (fault : MessageFault) → value_of line ≡ Some value → ReadsResponse value message → fault_of_text fault_of_response (value_of line) ≡ Some fault → ⊥
+no_fault : ReadsOrFails → (line : List ℕ) (value : Data) (message : FetchResponse) (fault : MessageFault) → value_of line ≡ Ok value → ReadsResponse value message → fault_of_text fault_of_response (value_of line) ≡ Some fault → ⊥
 no_fault law line value message fault e reads h =
     let none : fault_of_response value ≡ None = (law value).0 (message, reads) in
     let some : fault_of_response value ≡ Some fault = sym (ap (fault_of_text fault_of_response) e) ∙ h in

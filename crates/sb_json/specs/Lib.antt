@@ -1,3 +1,5 @@
+pub mod Counts
+pub mod Density
 pub mod Faults
 pub mod Fields
 pub mod Printed

@@ -12,12 +12,27 @@ use Rattle.base64.specs.GeneralPurpose.{decoded_of}
 use Rattle.sb_model.specs.Time.{duration_of}
 use Rattle.sb_json.specs.declared.fields.Field.{Field}
 use Rattle.sb_json.specs.declared.faults.FieldFault.{FieldFault}
+use Rattle.sb_json.specs.declared.faults.MessageFault.{MessageFault}
+use Rattle.sb_json.specs.declared.faults.MessageFault.TheVariants.{NotJson, TooDense}
+use Rattle.sb_json.specs.Density.{too_dense}
 use Rattle.sb_json.specs.declared.faults.FieldFault.TheVariants.{Missing, WrongKind, Number, Base64, Duration}
 use Rattle.sb_json.specs.Fields.{key_of}
 
--- the value of a text: what `serde_json` reads from UTF-8
-abbrev pub value_of : List ℕ → Option Data
-value_of text = if is_utf8 text then read text else None
+-- what `serde_json` reads from UTF-8
+abbrev pub json_of : List ℕ → Option Data
+json_of text = if is_utf8 text then read text else None
+
+abbrev pub or_no_json : Option Data → Result Data MessageFault
+or_no_json None = Err NotJson
+or_no_json (Some value) = Ok value
+
+abbrev pub unless_dense : Option ℕ → Option Data → Result Data MessageFault
+unless_dense None value = or_no_json value
+unless_dense (Some place) value = Err (TooDense place)
+
+-- The value of a text, or why it has none: first of all that it is too dense, whatever its bytes are, and then that it is not JSON.
+abbrev pub value_of : List ℕ → Result Data MessageFault
+value_of text = unless_dense (too_dense text) (json_of text)
 
 -- A field that is null counts as absent.
 abbrev pub if_there : Data → Option Data

@@ -33,7 +33,7 @@ fn in_standard_alphabet(byte: u8) -> u8
 }
 
 /// A copy of a text in the standard alphabet.
-fn translated(alloc: Global, text: &[u8]) -> Result<Bytes, OutOfMemory>
+fn standard_copy(alloc: Global, text: &[u8]) -> Result<Bytes, OutOfMemory>
     ensures { IfOk result (λ copy. copy ≡ map spec.in_standard_alphabet text.now) }
 {
     let mut copy = Bytes::with_capacity(alloc, text.len())?;
@@ -65,7 +65,7 @@ pub(crate) fn base64_bytes(alloc: Global, text: &[u8]) -> Result<Option<Bytes>, 
     if let Some(bytes) = decoded(alloc, text)? {
         return Ok(Some(bytes));
     }
-    let mut copy = translated(alloc, text)?;
+    let mut copy = standard_copy(alloc, text)?;
     pad(&mut copy)?;
     decoded(alloc, copy.as_slice())
 }

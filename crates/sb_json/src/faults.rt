@@ -32,6 +32,10 @@ pub enum FieldFault {
 /// Why a text is no message.
 #[derive(Clone, Copy, Debug, PartialEq, Eq, Hash)]
 pub enum MessageFault {
+    /// 0: it is too dense. A text of so many bytes may open 8,192 lists and objects and one more for each 48 bytes, and have
+    /// 65,536 values and one more for each 6 bytes. What stands in a string does not count, and the values are counted by
+    /// the commas, the colons and the openings. The place is that of the first byte, from 0, with which it has more.
+    TooDense(u64),
     /// 1: it is not JSON.
     NotJson,
     /// 2: a field is not read, in the item with this number. Items count from 1, and 0 is outside them.
@@ -75,6 +79,7 @@ impl Error for FieldFault {}
 impl fmt::Display for MessageFault {
     fn fmt<W: fmt::Write>(&self, f: &mut fmt::Formatter<W>) -> fmt::Result {
         match self {
+            MessageFault::TooDense(place) => write!(f, "too dense at byte {place}"),
             MessageFault::NotJson => f.write_str("not JSON"),
             MessageFault::Field(fault, 0) => write!(f, "{fault}"),
             MessageFault::Field(fault, item) => write!(f, "{fault}, in item {item}"),

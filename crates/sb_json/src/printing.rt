@@ -48,6 +48,10 @@ pub fn push_message_cause(text: &mut Bytes, fault: &MessageFault) -> Result<(), 
     ensures front { OnErr result (take (length text.old) text.new ≡ text.old) }
 {
     match fault {
+        MessageFault::TooDense(place) => {
+            text.append(b"too-dense ")?;
+            text.append_decimal(*place)
+        }
         MessageFault::NotJson => text.append(b"not-json"),
         MessageFault::Field(fault, item) => {
             text.append(b"field ")?;

@@ -2,19 +2,25 @@ ghost use Rattle.std.specs.Prelude.{◌≡◌, ◌⊎◌, Some, None, Ok, Err, I
 ghost use Rattle.serde_json.specs.View.{view, items_view};
 ghost use Rattle.sb_json.specs.Values as spec;
 
+use crate::density::too_dense;
 use crate::kinds::{bytes_item, duration_item, items_item, object_item, string_item, whole_item};
 use crate::{Field, FieldFault, MessageFault};
 use sb_model::{Bytes, Duration, Text};
 use serde_json::Value;
 use std::alloc::Global;
 
-/// Reads a text as a JSON value. `NotJson` comes exactly where `serde_json` refuses the bytes for
-/// another cause than memory.
+/// Reads a text as a JSON value. `TooDense` comes exactly where the text, whatever its bytes are, opens more than 8,192 lists
+/// and objects and one for each 48 bytes, or has more than 65,536 values and one for each 6 bytes: a tree of it would take
+/// many times its bytes. `NotJson` comes exactly where it is not too dense, and `serde_json` refuses the bytes for another
+/// cause than memory.
 pub fn read_json(alloc: Global, text: &[u8]) -> Result<Value, MessageFault>
-    ensures ok { IfOk result (λ value. spec.value_of text.now ≡ Some (view value)) }
+    ensures ok { IfOk result (λ value. spec.value_of text.now ≡ Ok (view value)) }
     ensures err { IfErr result (λ fault. (fault ≡ MessageFault.OutOfMemory)
-        ⊎ ((fault ≡ MessageFault.NotJson) × (spec.value_of text.now ≡ None))) }
+        ⊎ (spec.value_of text.now ≡ Err fault)) }
 {
+    if let Some(place) = too_dense(text) {
+        return Err(MessageFault::TooDense(place));
+    }
     match Value::from_slice(alloc, text) {
         Ok(value) => Ok(value),
         Err(e) if e.is_memory() => Err(MessageFault::OutOfMemory),

@@ -13,80 +13,20 @@ fn prints(rt: &impl Abort, alloc: Global, fault: MessageFault, wanted: &str) -> 
     Ok(())
 }
 
-/// Sees the printed cause of a field's fault in an item.
-fn prints_field(
-    rt: &impl Abort,
-    alloc: Global,
-    fault: FieldFault,
-    item: u64,
-    wanted: &str,
-) -> Result<(), Fail> {
-    prints(rt, alloc, MessageFault::of(fault, item), wanted)
-}
-
 #[test]
-fn causes_of_messages_are_printed(rt: HostRuntime) -> Result<(), Fail> {
-    prints(&rt, rt.alloc(), MessageFault::NotJson, "not-json")?;
-    prints(
-        &rt,
-        rt.alloc(),
-        MessageFault::TooManyItems(9),
-        "too-many-items 9",
-    )?;
-    prints(&rt, rt.alloc(), MessageFault::from(OutOfMemory), "")
-}
-
-#[test]
-fn causes_of_fields_are_printed(rt: HostRuntime) -> Result<(), Fail> {
-    for (fault, item, wanted) in [
+fn causes_are_printed(rt: HostRuntime) -> Result<(), Fail> {
+    for (fault, wanted) in [
+        (MessageFault::TooDense(26_212), "too-dense 26212"),
         (
-            FieldFault::Missing(Field::ThreatType),
-            2,
-            "field missing threatType 2",
-        ),
-        (
-            FieldFault::WrongKind(Field::RawHashBytes),
-            3,
-            "field wrong-kind rawHashes.rawHashes 3",
-        ),
-        (FieldFault::Number(Field::Root), 0, "field number message 0"),
-        (FieldFault::Base64(Field::State), 1, "field base64 state 1"),
-        (
-            FieldFault::Name(Field::ResponseType),
-            8,
-            "field name responseType 8",
-        ),
-        (
-            FieldFault::Size(Field::Sha256, 5),
-            1,
-            "field size 5 sha256 1",
-        ),
-        (
-            FieldFault::Size(Field::ThreatHash, 33),
-            1024,
+            MessageFault::of(FieldFault::Size(Field::ThreatHash, 33), 1024),
             "field size 33 threat.hash 1024",
         ),
-        (
-            FieldFault::Duration(Field::MinimumWaitDuration),
-            0,
-            "field duration minimumWaitDuration 0",
-        ),
+        (MessageFault::from(OutOfMemory), ""),
+        (MessageFault::of(FieldFault::from(OutOfMemory), 4), ""),
     ] {
-        prints_field(&rt, rt.alloc(), fault, item, wanted)?;
+        prints(&rt, rt.alloc(), fault, wanted)?;
     }
     Ok(())
-}
-
-#[test]
-fn the_root_of_the_wrong_kind_is_printed(rt: HostRuntime) -> Result<(), Fail> {
-    prints_field(
-        &rt,
-        rt.alloc(),
-        FieldFault::WrongKind(Field::Root),
-        0,
-        "field wrong-kind message 0",
-    )?;
-    prints_field(&rt, rt.alloc(), FieldFault::from(OutOfMemory), 4, "")
 }
 
 /// Sees the message of a field's fault.
@@ -150,6 +90,8 @@ fn faults_of_fields_are_told(rt: HostRuntime) -> Result<(), Fail> {
 
 #[test]
 fn faults_of_messages_are_told(rt: HostRuntime) -> Result<(), Fail> {
+    let too_dense = format!(in rt.alloc(); "{}", MessageFault::TooDense(7))?;
+    assert_eq!(rt; too_dense.as_str(), "too dense at byte 7");
     let not_json = format!(in rt.alloc(); "{}", MessageFault::NotJson)?;
     assert_eq!(rt; not_json.as_str(), "not JSON");
     let too_many = format!(in rt.alloc(); "{}", MessageFault::TooManyItems(9))?;

@@ -2,6 +2,8 @@
 #![tactic(auto)]
 
 #[cfg(test)]
+mod density;
+#[cfg(test)]
 mod encodings;
 #[cfg(test)]
 mod faults;

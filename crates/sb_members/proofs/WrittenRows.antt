@@ -18,7 +18,7 @@ use Rattle.sb_json.specs.declared.fields.Field.{Field}
 use Rattle.sb_json.specs.declared.faults.FieldFault.{FieldFault}
 use Rattle.sb_json.specs.declared.faults.FieldFault.TheVariants as fault
 use Rattle.sb_model.specs.Time.{duration_of, duration_text}
-use Rattle.sb_members.specs.Rows.{or_absent, object_or_null, items_or_none, bytes_or_none, whole_or_zero, text_or_empty, duration_or_zero}
+use Rattle.sb_members.specs.Rows.{or_absent, object_or_null, items_or_none, bytes_or_empty, whole_or_zero, text_or_empty, duration_or_zero}
 use Rattle.sb_members.specs.Writing.{text_written, bytes_written, number_written, long_written, duration_written, values_written, unless_bare}
 use Rattle.sb_members.specs.Ranges.{IsText, IsDuration}
 use Rattle.sb_members.specs.Parts.{Parts, made, found, or_null}
@@ -65,7 +65,7 @@ bytes_there : EncodedBack → (f : Field) (bs : List ℕ) → IsBytes bs → or_
 bytes_there back f [] h = refl
 bytes_there back f (b ∷ bs) h = string_back back f (b ∷ bs) h
 
-bytes_found : EncodedBack → (f : Field) (ps : Parts) (bs : List ℕ) → IsBytes bs → found f ps ≡ bytes_written bs → bytes_or_none f (object (made ps)) ≡ Ok bs
+bytes_found : EncodedBack → (f : Field) (ps : Parts) (bs : List ℕ) → IsBytes bs → found f ps ≡ bytes_written bs → bytes_or_empty f (object (made ps)) ≡ Ok bs
 bytes_found back f ps bs h e = absent_found f ps (bytes_written bs) [] (bytes_in f) e ∙ bytes_there back f bs h
 
 within : (n most : ℕ) → n ≤ most → nat_le n most ≡ true

@@ -13,7 +13,7 @@ use Rattle.sb_model.specs.Names.{threat_word, threat_of, platform_word, platform
 use Rattle.sb_model.specs.declared.names.ThreatType.{ThreatType}
 use Rattle.sb_model.specs.declared.names.PlatformType.{PlatformType}
 use Rattle.sb_model.specs.declared.names.EntryType.{EntryType}
-use Rattle.sb_members.specs.Rows.{object_or_null, items_or_none, bytes_or_none, whole_or_zero, text_or_empty, duration_or_zero, threat_row, platform_row, entry_row}
+use Rattle.sb_members.specs.Rows.{object_or_null, items_or_none, bytes_or_empty, whole_or_zero, text_or_empty, duration_or_zero, threat_row, platform_row, entry_row}
 use Rattle.sb_members.specs.Writing.{text_written, bytes_written, number_written, long_written, duration_written, values_written, unless_bare}
 use Rattle.sb_members.specs.Ranges.{IsText, IsDuration}
 use Rattle.sb_members.specs.Parts.{Parts, made, found, or_null, AllWithin, AllHaveNoFloat}
@@ -28,7 +28,7 @@ pub record NeededReadAgain : Type 0 where
 -- Fields that may be absent.
 pub record DefaultsReadAgain : Type 0 where
   pub texts : (f : Field) (parts : Parts) (text : List ℕ) → IsText text → found f parts ≡ text_written text → text_or_empty f (object (made parts)) ≡ Ok text
-  pub bytes : (f : Field) (parts : Parts) (bs : List ℕ) → IsBytes bs → found f parts ≡ bytes_written bs → bytes_or_none f (object (made parts)) ≡ Ok bs
+  pub bytes : (f : Field) (parts : Parts) (bs : List ℕ) → IsBytes bs → found f parts ≡ bytes_written bs → bytes_or_empty f (object (made parts)) ≡ Ok bs
   pub numbers : (f : Field) (most : ℕ) (parts : Parts) (n : ℕ) → n ≤ most → found f parts ≡ number_written n → whole_or_zero f most (object (made parts)) ≡ Ok n
   pub longs : (f : Field) (most : ℕ) (parts : Parts) (n : ℕ) → n ≤ most → most < 2 ^ 64 → found f parts ≡ long_written n → whole_or_zero f most (object (made parts)) ≡ Ok n
   pub durations : (f : Field) (parts : Parts) (nanos : ℕ) → IsDuration nanos → found f parts ≡ duration_written nanos → duration_or_zero f (object (made parts)) ≡ Ok nanos

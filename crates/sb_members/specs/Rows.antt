@@ -26,8 +26,8 @@ abbrev pub items_or_none : Field → Data → Result Items FieldFault
 items_or_none field holder = or_absent no_items (items_in field) (field_of field holder)
 
 -- bytes, of which there are none where the field is absent
-abbrev pub bytes_or_none : Field → Data → Result (List ℕ) FieldFault
-bytes_or_none field holder = or_absent [] (bytes_in field) (field_of field holder)
+abbrev pub bytes_or_empty : Field → Data → Result (List ℕ) FieldFault
+bytes_or_empty field holder = or_absent [] (bytes_in field) (field_of field holder)
 
 -- a whole number, which is 0 where it is absent
 abbrev pub whole_or_zero : Field → ℕ → Data → Result ℕ FieldFault

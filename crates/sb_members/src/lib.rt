@@ -12,7 +12,7 @@ pub use members::{
     put_member, string_value, text_value,
 };
 pub use rows::{
-    bytes_or_none, check_object, duration_or_zero, entry_type, items_or_none, object_or_null,
+    bytes_or_empty, check_object, duration_or_zero, entry_type, items_or_none, object_or_null,
     platform_type, text_or_empty, threat_type, whole_or_zero,
 };
 

@@ -51,10 +51,10 @@ pub fn items_or_none<'v>(holder: &'v Value, name: Field) -> Result<&'v [Value], 
 }
 
 /// Bytes, of which there are none where the field is absent.
-pub fn bytes_or_none(alloc: Global, holder: &Value, name: Field) -> Result<Bytes, FieldFault>
-    ensures ok { IfOk result (λ bytes. spec.bytes_or_none name (view holder.now) ≡ Ok bytes) }
+pub fn bytes_or_empty(alloc: Global, holder: &Value, name: Field) -> Result<Bytes, FieldFault>
+    ensures ok { IfOk result (λ bytes. spec.bytes_or_empty name (view holder.now) ≡ Ok bytes) }
     ensures err { IfErr result (λ fault. (fault ≡ FieldFault.OutOfMemory)
-        ⊎ (spec.bytes_or_none name (view holder.now) ≡ Err fault)) }
+        ⊎ (spec.bytes_or_empty name (view holder.now) ≡ Err fault)) }
 {
     match field(holder, name) {
         Some(value) => bytes_item(alloc, value, name),

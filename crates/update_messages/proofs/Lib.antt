@@ -7,6 +7,7 @@ pub mod NoFault
 pub mod OneReading
 pub mod RequestAgain
 pub mod ResponseAgain
+pub mod RisingNumbers
 pub mod Texts
 pub mod TextsAgain
 pub mod WrittenLists

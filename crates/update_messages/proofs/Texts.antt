@@ -7,8 +7,8 @@ use Rattle.sb_json.specs.declared.faults.MessageFault.TheVariants.{OutOfMemory}
 use Rattle.update_messages.specs.Reading.{IsTextOf}
 use Rattle.update_messages.specs.Faults.{fault_of_text}
 
-no_fault : (fault : Data → Option MessageFault) (o : Option Data) (v : Data) (f : MessageFault) → o ≡ Some v → fault v ≡ None → fault_of_text fault o ≡ Some f → ⊥
-no_fault fault o v f e clean told =
+no_fault : (fault : Data → Option MessageFault) (r : Result Data MessageFault) (v : Data) (f : MessageFault) → r ≡ Ok v → fault v ≡ None → fault_of_text fault r ≡ Some f → ⊥
+no_fault fault r v f e clean told =
     let at : fault v ≡ Some f = rw e at told in
     cc (at, clean)
 

@@ -1,11 +1,11 @@
 -- The first fault of a JSON value that is no message: the faults of its rows, in the order in which they are looked at.
-use Rattle.std.specs.Prelude.{nat_le, if◌then◌else◌, List, [], ◌∷◌, Option, Some, None, Result, Ok, Err}
+use Rattle.std.specs.Prelude.{nat_le, if◌then◌else◌, List, [], ◌∷◌, Option, Some, Result, Ok, Err}
 use Rattle.serde_json.specs.Data.{Data, Items}
 use Rattle.sb_json.specs.Values.{◌>>=◌}
 use Rattle.sb_json.specs.Faults.{fault_in_item}
 use Rattle.sb_json.specs.declared.faults.FieldFault.{FieldFault}
 use Rattle.sb_json.specs.declared.faults.MessageFault.{MessageFault}
-use Rattle.sb_json.specs.declared.faults.MessageFault.TheVariants.{NotJson, TooManyItems}
+use Rattle.sb_json.specs.declared.faults.MessageFault.TheVariants.{TooManyItems}
 use Rattle.sb_members.specs.Rows.{threat_row, platform_row, entry_row}
 use Rattle.sb_members.specs.Lists.{fault_of, first, fault_of_list, in_item, first_from, item_count}
 use Rattle.update_messages.specs.declared.sets.Compression.{Compression}
@@ -127,7 +127,7 @@ faults_of_response value =
 abbrev pub fault_of_response : Data → Option MessageFault
 fault_of_response value = first (faults_of_response value)
 
--- the first fault of a text: first of all that it is not JSON
-abbrev pub fault_of_text : (Data → Option MessageFault) → Option Data → Option MessageFault
-fault_of_text fault None = Some NotJson
-fault_of_text fault (Some value) = fault value
+-- The first fault of a text by its value, or by why it has none: that it is too dense or not JSON comes before every other.
+abbrev pub fault_of_text : (Data → Option MessageFault) → Result Data MessageFault → Option MessageFault
+fault_of_text fault (Err why) = Some why
+fault_of_text fault (Ok value) = fault value

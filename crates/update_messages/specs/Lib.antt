@@ -5,5 +5,6 @@ pub mod Ranges
 pub mod Reading
 pub mod RequestRows
 pub mod ResponseRows
+pub mod Rising
 pub mod Rows
 pub mod Writing

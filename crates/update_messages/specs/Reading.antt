@@ -1,5 +1,5 @@
 -- Which message a JSON value is: each field of the message is what its row is read as.
-use Rattle.std.specs.Prelude.{◌≡◌, ℕ, ◌≤◌, Bool, List, length, Some, Result, Ok, codes}
+use Rattle.std.specs.Prelude.{◌≡◌, ℕ, ◌≤◌, Bool, List, length, Result, Ok, codes}
 use Rattle.serde_json.specs.Data.{Data, Items}
 use Rattle.sb_json.specs.Values.{◌>>=◌, value_of}
 use Rattle.sb_json.specs.declared.faults.FieldFault.{FieldFault}
@@ -115,6 +115,6 @@ pub record ReadsResponse (value : Data) (message : FetchResponse) : Type 0 where
 
 -- ---- texts
 
--- a text that is JSON of a value that is the message
+-- a text whose value is the message
 abbrev pub IsTextOf : {A : Type 0} → (Data → A → Type 0) → List ℕ → A → Type 0
-IsTextOf Reads text message = (value : Data) × (value_of text ≡ Some value) × Reads value message
+IsTextOf Reads text message = (value : Data) × (value_of text ≡ Ok value) × Reads value message

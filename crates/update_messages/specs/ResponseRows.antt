@@ -6,7 +6,7 @@ use Rattle.sb_json.specs.Values.{◌>>=◌, or_fault, whole_in, whole_of, string
 use Rattle.sb_json.specs.declared.fields.Field.TheVariants as field
 use Rattle.sb_json.specs.declared.faults.FieldFault.{FieldFault}
 use Rattle.sb_json.specs.declared.faults.FieldFault.TheVariants.{Name, Number, Size}
-use Rattle.sb_members.specs.Rows.{items_or_none, bytes_or_none, whole_or_zero, duration_or_zero}
+use Rattle.sb_members.specs.Rows.{items_or_none, bytes_or_empty, whole_or_zero, duration_or_zero}
 use Rattle.update_messages.specs.declared.sets.Compression.{Compression}
 use Rattle.update_messages.specs.declared.sets.Compression.TheVariants as compression
 use Rattle.update_messages.specs.Messages.{most_i32, most_i64}
@@ -75,7 +75,7 @@ whole_prefixes size bytes = if length bytes % size == 0 then Ok bytes else Err (
 
 -- its `rawHashes`: bytes, none where it is absent, whose number is a multiple of the size
 abbrev pub raw_bytes_row : ℕ → Data → Result (List ℕ) FieldFault
-raw_bytes_row size hashes = bytes_or_none field.RawHashBytes hashes >>= whole_prefixes size
+raw_bytes_row size hashes = bytes_or_empty field.RawHashBytes hashes >>= whole_prefixes size
 
 -- `rawIndices` of a RAW removal: an object
 abbrev pub raw_indices_row : Data → Result Data FieldFault
@@ -111,7 +111,7 @@ entry_count_row rice = whole_or_zero field.NumEntries most_i32 rice
 
 -- its `encodedData`: bytes, none where it is absent
 abbrev pub encoded_row : Data → Result (List ℕ) FieldFault
-encoded_row rice = bytes_or_none field.EncodedData rice
+encoded_row rice = bytes_or_empty field.EncodedData rice
 
 -- `newClientState`: bytes, none where it is absent, at most 4,096
 abbrev pub new_state_row : Data → Result (List ℕ) FieldFault

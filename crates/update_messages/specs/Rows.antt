@@ -5,7 +5,7 @@ use Rattle.sb_json.specs.Values.{◌>>=◌}
 use Rattle.sb_json.specs.declared.fields.Field.{Field}
 use Rattle.sb_json.specs.declared.faults.FieldFault.{FieldFault}
 use Rattle.sb_json.specs.declared.faults.FieldFault.TheVariants.{Size}
-use Rattle.sb_members.specs.Rows.{bytes_or_none}
+use Rattle.sb_members.specs.Rows.{bytes_or_empty}
 use Rattle.update_messages.specs.Messages.{most_state}
 
 -- bytes that are no more than a state token may have
@@ -14,4 +14,4 @@ within_state field bytes = if nat_le (length bytes) most_state then Ok bytes els
 
 -- a state token, which is empty where it is absent
 abbrev pub state_or_empty : Field → Data → Result (List ℕ) FieldFault
-state_or_empty field holder = bytes_or_none field holder >>= within_state field
+state_or_empty field holder = bytes_or_empty field holder >>= within_state field

@@ -1,9 +1,12 @@
 ghost use Rattle.std.specs.Prelude.{◌≡◌, ◌↔◌, None, MatchResult};
 ghost use Rattle.serde_json.specs.Data.{Data};
+ghost use Rattle.sb_json.specs.Density.{too_dense};
 ghost use Rattle.update_messages.specs.declared.response.FetchResponse.{FetchResponse};
 ghost use Rattle.update_messages.specs.Messages.{Request};
 ghost use Rattle.update_messages.specs.Reading.{ReadsRequest, ReadsResponse};
 ghost use Rattle.update_messages.specs.Faults.{fault_of_request, fault_of_response};
+ghost use Rattle.update_messages.specs.Rising.{SentNumbersRise};
+ghost use Rattle.update_messages.specs.Writing.{spelling_of_request, spelling_of_response};
 
 use crate::{
     FetchRequest, FetchResponse, read_request, read_response, write_request, write_response,
@@ -23,24 +26,32 @@ pub fn values_read_or_have_a_fault()
     ensures response { (value : Data) → ((message : FetchResponse) × ReadsResponse value message) ↔ (fault_of_response value ≡ None) }
 {}
 
-/// A request that is written and read again is the same request, unless memory is refused.
+/// A request whose text is not too dense is the same request when it is written and read again, unless memory is refused.
 pub fn written_requests_read_again(
     alloc: Global,
     message: &FetchRequest,
 ) -> Result<FetchRequest, MessageFault>
-    ensures { MatchResult result (λ found. found ≡ message.now) (λ fault. fault ≡ MessageFault.OutOfMemory) }
+    ensures { too_dense (spelling_of_request message.now) ≡ None
+        → MatchResult result (λ found. found ≡ message.now) (λ fault. fault ≡ MessageFault.OutOfMemory) }
 {
     let text = write_request(alloc, message)?;
     read_request(alloc, text.as_slice())
 }
 
-/// A response that is written and read again is the same response, unless memory is refused.
+/// A response whose text is not too dense is the same response when it is written and read again, unless memory is refused.
 pub fn written_responses_read_again(
     alloc: Global,
     message: &FetchResponse,
 ) -> Result<FetchResponse, MessageFault>
-    ensures { MatchResult result (λ found. found ≡ message.now) (λ fault. fault ≡ MessageFault.OutOfMemory) }
+    ensures { too_dense (spelling_of_response message.now) ≡ None
+        → MatchResult result (λ found. found ≡ message.now) (λ fault. fault ≡ MessageFault.OutOfMemory) }
 {
     let text = write_response(alloc, message)?;
     read_response(alloc, text.as_slice())
 }
+
+/// The numbers that an update carries rise: the places of the members that a newer set lacks, and the numbers of prefixes of
+/// four bytes.
+pub fn sent_numbers_rise()
+    ensures { SentNumbersRise }
+{}

@@ -9,8 +9,8 @@
 
 pub use client::ClientInfo;
 pub use laws::{
-    values_read_one_way, values_read_or_have_a_fault, written_requests_read_again,
-    written_responses_read_again,
+    sent_numbers_rise, values_read_one_way, values_read_or_have_a_fault,
+    written_requests_read_again, written_responses_read_again,
 };
 pub use reading_request::read_request;
 pub use reading_response::read_response;

@@ -156,7 +156,7 @@ fn request_in(alloc: Global, text: &[u8]) -> Result<FetchRequest, MessageFault>
 
 /// Reads a fetch request.
 ///
-/// A text that is no request is refused by its first fault: `NotJson`, and then the fields in the order of
+/// A text that is no request is refused by its first fault: `TooDense`, `NotJson`, and then the fields in the order of
 /// `specs/RequestRows.antt`, item by item, where there are at most 8. Unknown fields are skipped, and one
 /// that is null counts as absent.
 pub fn read_request(alloc: Global, text: &[u8]) -> Result<FetchRequest, MessageFault>

@@ -137,7 +137,7 @@ fn response_in(alloc: Global, text: &[u8]) -> Result<FetchResponse, MessageFault
 
 /// Reads the answer to a fetch request.
 ///
-/// A text that is no response is refused by its first fault: `NotJson`, and then the fields in the order of
+/// A text that is no response is refused by its first fault: `TooDense`, `NotJson`, and then the fields in the order of
 /// `specs/ResponseRows.antt`, item by item. Unknown fields are skipped, and one that is null counts as absent.
 pub fn read_response(alloc: Global, text: &[u8]) -> Result<FetchResponse, MessageFault>
     ensures ok { IfOk result (λ message. IsTextOf ReadsResponse text.now message) }

@@ -11,7 +11,7 @@ use crate::rows::i32_or_zero;
 use crate::{Additions, Compression, Removals};
 use rice_coding::RiceRecord;
 use sb_json::{Field, FieldFault, object, string, whole, whole_item};
-use sb_members::{ReadItem, bytes_or_none, check_object, read_list, whole_or_zero};
+use sb_members::{ReadItem, bytes_or_empty, check_object, read_list, whole_or_zero};
 use sb_model::Bytes;
 use serde_json::Value;
 use std::alloc::Global;
@@ -48,7 +48,7 @@ fn rice_record(alloc: Global, set: &Value, name: Field) -> Result<RiceRecord, Fi
     let first = whole_or_zero(holder, Field::FirstValue, MOST_I64)?;
     let parameter = i32_or_zero(holder, Field::RiceParameter)?;
     let count = i32_or_zero(holder, Field::NumEntries)?;
-    let coded = bytes_or_none(alloc, holder, Field::EncodedData)?;
+    let coded = bytes_or_empty(alloc, holder, Field::EncodedData)?;
     Ok(RiceRecord {
         first,
         parameter,
@@ -78,7 +78,7 @@ fn raw_bytes(alloc: Global, size: u8, hashes: &Value) -> Result<Bytes, FieldFaul
     ensures err { IfErr result (λ fault. (fault ≡ FieldFault.OutOfMemory)
         ⊎ (row.raw_bytes_row size (view hashes.now) ≡ Err fault)) }
 {
-    let bytes = bytes_or_none(alloc, hashes, Field::RawHashBytes)?;
+    let bytes = bytes_or_empty(alloc, hashes, Field::RawHashBytes)?;
     if bytes.len() % usize::from(size) != 0 {
         return Err(FieldFault::Size(Field::RawHashBytes, bytes.len() as u64));
     }

@@ -5,7 +5,7 @@ ghost use Rattle.update_messages.specs.Messages.{most_i32};
 ghost use Rattle.update_messages.specs.Rows as spec;
 
 use sb_json::{Field, FieldFault};
-use sb_members::{bytes_or_none, whole_or_zero};
+use sb_members::{bytes_or_empty, whole_or_zero};
 use sb_model::Bytes;
 use serde_json::Value;
 use std::alloc::Global;
@@ -35,7 +35,7 @@ pub(crate) fn state_or_empty(
     ensures err { IfErr result (λ fault. (fault ≡ FieldFault.OutOfMemory)
         ⊎ (spec.state_or_empty name (view holder.now) ≡ Err fault)) }
 {
-    let state = bytes_or_none(alloc, holder, name)?;
+    let state = bytes_or_empty(alloc, holder, name)?;
     if state.len() > MOST_STATE {
         return Err(FieldFault::Size(name, state.len() as u64));
     }

@@ -1,5 +1,6 @@
-ghost use Rattle.std.specs.Prelude.{◌≡◌, ◌++◌, All, map, IfOk, OnOk};
+ghost use Rattle.std.specs.Prelude.{◌≡◌, ◌++◌, All, map, None, IfOk, OnOk};
 ghost use Rattle.serde_json.specs.View.{view, members_view};
+ghost use Rattle.sb_json.specs.Density.{too_dense};
 ghost use Rattle.update_messages.specs.Messages.{Request};
 ghost use Rattle.update_messages.specs.Ranges.{IsClientInRange, IsAskedInRange, IsRequestInRange};
 ghost use Rattle.update_messages.specs.Reading.{ReadsRequest, IsTextOf};
@@ -131,10 +132,10 @@ fn request_value(alloc: Global, message: &FetchRequest) -> Result<Value, OutOfMe
 
 /// Writes a fetch request in its one spelling: compact JSON, whose keys stand in byte order, and in which empty
 /// texts, bytes and lists, zero numbers, and a client or constraints without fields are left out.
-/// The text reads as the message, and as no other.
+/// Where the text is not too dense it reads as the message; and it reads as no other.
 pub fn write_request(alloc: Global, message: &FetchRequest) -> Result<Bytes, OutOfMemory>
     ensures spelling { IfOk result (λ text. text ≡ spec.spelling_of_request message.now) }
-    ensures read_again { IfOk result (λ text. IsTextOf ReadsRequest text message.now) }
+    ensures read_again { IfOk result (λ text. too_dense text ≡ None → IsTextOf ReadsRequest text message.now) }
     ensures no_other { IfOk result (λ text. (other : Request) → IsTextOf ReadsRequest text other → other ≡ message.now) }
 {
     written_members_read_again();

@@ -1,7 +1,8 @@
-ghost use Rattle.std.specs.Prelude.{◌≡◌, false, All, map, Some, option_map, IfOk};
+ghost use Rattle.std.specs.Prelude.{◌≡◌, false, All, map, Some, None, option_map, IfOk};
 ghost use Rattle.serde_json.specs.Data.{Data, number, unsigned};
 ghost use Rattle.serde_json.specs.View.{view, members_view};
 ghost use Rattle.base64.specs.GeneralPurpose.{IsBytes};
+ghost use Rattle.sb_json.specs.Density.{too_dense};
 ghost use Rattle.update_messages.specs.Ranges.{IsAdditionOfBytes, IsRemovalOfBytes, IsUpdateInRange, IsResponseInRange};
 ghost use Rattle.update_messages.specs.Reading.{ReadsResponse, IsTextOf};
 ghost use Rattle.sb_members.specs.Writing.{list_written};
@@ -233,11 +234,11 @@ fn response_value(alloc: Global, message: &FetchResponse) -> Result<Value, OutOf
 }
 
 /// Writes the answer to a fetch request in its one spelling: compact JSON, whose keys stand in byte order, and
-/// in which empty bytes and lists, zero numbers and a zero duration are left out. The text reads as the message,
-/// and as no other.
+/// in which empty bytes and lists, zero numbers and a zero duration are left out. Where the text is not too dense it reads as the
+/// message; and it reads as no other.
 pub fn write_response(alloc: Global, message: &FetchResponse) -> Result<Bytes, OutOfMemory>
     ensures spelling { IfOk result (λ text. text ≡ spec.spelling_of_response message.now) }
-    ensures read_again { IfOk result (λ text. IsTextOf ReadsResponse text message.now) }
+    ensures read_again { IfOk result (λ text. too_dense text ≡ None → IsTextOf ReadsResponse text message.now) }
     ensures no_other { IfOk result (λ text. (other : FetchResponse) → IsTextOf ReadsResponse text other → other ≡ message.now) }
 {
     written_members_read_again();

@@ -2,10 +2,6 @@
 #![tactic(auto)]
 
 #[cfg(test)]
-mod bodies;
-#[cfg(test)]
 mod requests;
 #[cfg(test)]
 mod responses;
-#[cfg(test)]
-mod writing;

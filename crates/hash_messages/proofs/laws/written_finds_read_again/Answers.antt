@@ -1,9 +1,11 @@
-use Rattle.std.proofs.Common.{List, ℕ, sym, subst}
+use Rattle.std.proofs.Common.{List, ℕ, sym, ap, ◌∙◌, subst}
+use Rattle.sb_json.specs.Density.{too_dense}
 use Rattle.update_messages.specs.Reading.{IsTextOf}
 use Rattle.hash_messages.specs.Reading.{ReadsFindRequest}
 use Rattle.hash_messages.proofs.laws.written_finds_read_again.Goals as goal
 
 pub returns : goal.returns
-returns c =
+returns c thin =
     c.read_find.ensures.only c.args.message.now
-    (subst (λ (text : List ℕ). IsTextOf ReadsFindRequest text c.args.message.now) (sym c.as_slice.ensures) c.in_ok-text.ensures.read_again)
+    (subst (λ (text : List ℕ). IsTextOf ReadsFindRequest text c.args.message.now) (sym c.as_slice.ensures)
+    (c.in_ok-text.ensures.read_again (ap too_dense c.in_ok-text.ensures.spelling ∙ thin)))

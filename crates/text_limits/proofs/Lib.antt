@@ -1,0 +1,11 @@
+pub mod Costs
+pub mod Fields
+pub mod Fetches
+pub mod Finds
+pub mod Texts
+pub mod Matches
+pub mod Places
+pub mod Updates
+pub mod Answers
+pub mod Hashes
+pub mod Sparse
