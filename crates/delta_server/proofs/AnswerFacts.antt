@@ -22,7 +22,6 @@ use Rattle.delta_server.specs.Tokens.{server_token, server_naming}
 use Rattle.delta_server.specs.Updates.{whole_update, difference_update}
 use Rattle.delta_server.specs.Walk.{HasSizes, may_take, held_set}
 use Rattle.delta_server.proofs.Membership.{In}
-use Rattle.delta_server.proofs.NumberFacts.{removed_few}
 use Rattle.delta_server.proofs.SetCounts.{in_has}
 use Rattle.delta_server.proofs.TargetFacts.{from_nothing}
 use Rattle.delta_server.proofs.UpdateFacts.{few_added}
@@ -87,10 +86,10 @@ both_true true false a b = absurd (cc)
 both_true false b a c = absurd (cc)
 
 -- Two sets differ in no more prefixes than they have together.
-pub surely_takes : (held newer : List (List ℕ)) (max_update max_database most : ℕ) → most ≡ length held + length newer
+pub surely_takes : (held newer : List (List ℕ)) (max_update max_database most : ℕ) → length (removed_places held newer) ≤ length held → most ≡ length held + length newer
     → is_within max_update most ≡ true → is_within max_database (length newer) ≡ true → may_take held max_update max_database newer ≡ true
-surely_takes held newer max_update max_database most is update database =
-    both_true _ _ (within_less max_update (difference_count held newer) most (omega (arith, is, removed_few held newer, few_added held newer)) update) database
+surely_takes held newer max_update max_database most few is update database =
+    both_true _ _ (within_less max_update (difference_count held newer) most (omega (arith, is, few, few_added held newer)) update) database
 
 module _ (history : History) (list : ListName) (max_update max_database : ℕ) where
   later_true : (a b c d : Bool) → b ≡ true → (c && d) ≡ true → (a || b && c && d) ≡ true

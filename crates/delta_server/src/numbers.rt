@@ -5,6 +5,7 @@ ghost use Rattle.update_messages.specs.Answer.{numbers_of};
 
 use sb_model::OutOfMemory;
 use std::alloc::Global;
+use update_messages::sent_numbers_rise;
 
 // The numbers of prefixes of four bytes, in the order of the prefixes.
 fn numbers_in_order(alloc: Global, quads: &[[u8; 4]]) -> Result<Vec<u32>, OutOfMemory>
@@ -23,6 +24,7 @@ pub(crate) fn rising_numbers(alloc: Global, quads: &[[u8; 4]]) -> Result<Vec<u32
     ensures rising { IfOk result (λ numbers. IsStrictlyIncreasing numbers.items) }
     ensures few { IfOk result (λ numbers. length numbers.items ≤ length quads.now) }
 {
+    sent_numbers_rise();
     let mut numbers = numbers_in_order(alloc, quads)?;
     numbers.sort_unstable();
     numbers.dedup();

@@ -13,7 +13,7 @@ use prefix_set::PrefixSet;
 use rice_coding::encode;
 use sb_model::{Bytes, OutOfMemory, Row};
 use std::alloc::Global;
-use update_messages::{Additions, Removals};
+use update_messages::{Additions, Removals, sent_numbers_rise};
 
 // For each size up to 32 whether some member has so many bytes.
 fn sizes_in(members: &[Prefix]) -> [bool; 33]
@@ -58,6 +58,7 @@ fn addition_set(alloc: Global, size: u8, bytes: Bytes, rice: bool) -> Result<Add
         → bytes ≡ concatenation (filter (has_size size) members) → set ≡ addition_set rice members size) }
     ensures keeps { IfOk result IsAddition }
 {
+    sent_numbers_rise();
     if size == 4 && rice {
         let numbers = rising_numbers(alloc, quads_of(bytes.as_slice()))?;
         Ok(Additions::Rice(encode(alloc, &numbers)?))

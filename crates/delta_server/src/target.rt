@@ -13,6 +13,7 @@ use list_versions::History;
 use prefix_set::{PrefixSet, sets_go_by_members};
 use sb_model::{ListName, OutOfMemory, targets_are_the_greatest};
 use std::alloc::Global;
+use update_messages::sent_numbers_rise;
 
 /// The most prefixes that a client takes, 0 for no limit.
 #[derive(Clone, Copy)]
@@ -28,6 +29,7 @@ pub(crate) struct Limits {
 fn may_surely_take(held: &PrefixSet, newer: &PrefixSet, limits: Limits) -> bool
     ensures { IsTrue result → may_take held.now limits.update limits.database newer.now ≡ true }
 {
+    sent_numbers_rise();
     let most = u64::from(held.len()) + u64::from(newer.len());
     is_within(limits.update, most) && is_within(limits.database, u64::from(newer.len()))
 }

@@ -8,7 +8,7 @@ use crate::sets::{addition_sets, removal_sets, whole_sets};
 use prefix_set::{Delta, PrefixSet};
 use sb_model::{Bytes, OutOfMemory, Row};
 use std::alloc::Global;
-use update_messages::{ListRequest, ListUpdate};
+use update_messages::{ListRequest, ListUpdate, sent_numbers_rise};
 
 /// A set as it is sent: its members, its digest, and the token of its version.
 #[derive(Clone, Copy)]
@@ -64,6 +64,7 @@ pub fn partial_update(
     requires { newer.now.digest ≡ sha256 (concatenation newer.now.set.now) }
     ensures { IfOk result (λ update. update ≡ difference_update asked.now size old.now newer.now.set.now newer.now.token) }
 {
+    sent_numbers_rise();
     // looked at for the prover: what each set keeps
     let _ = old.len();
     let _ = newer.set.len();

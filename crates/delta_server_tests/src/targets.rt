@@ -55,9 +55,11 @@ fn comes_to(
     let request = request_for(alloc, state, limits)?;
     let response = answered(alloc, journal.as_slice(), request.as_slice())??;
     let token = state_token(1, MALWARE, version);
+    let updates = response.items.as_slice();
     Ok(
-        response.items.iter().all(|update| update.full == full
-            && update.new_state.as_slice() == token.as_slice()),
+        updates.len() == 1
+            && updates.iter().all(|update| update.full == full
+                && update.new_state.as_slice() == token.as_slice()),
     )
 }
 

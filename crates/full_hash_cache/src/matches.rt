@@ -86,9 +86,7 @@ pub(crate) fn put_beginning(
 fn is_of(found: &Match, list: ListName) -> bool
     ensures { result ≡ same_name found.now.name list }
 {
-    found.name.threat.code() == list.threat.code()
-        && found.name.platform.code() == list.platform.code()
-        && found.name.entry.code() == list.entry.code()
+    found.name == list
 }
 
 /// A copy of 32 bytes.

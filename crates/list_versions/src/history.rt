@@ -125,6 +125,7 @@ impl History {
         ensures counted { S.faults source.old ≤ S.faults source.new }
         ensures other { S.back source.new ≡ S.back source.old }
     {
+        // looked at for the prover: what each history keeps to
         let _ = &self.rest;
         let Ok(mut buffer) = buffer_of(alloc) else {
             return Err(JournalFault::OutOfMemory);

@@ -17,9 +17,7 @@ use std::alloc::Global;
 pub(crate) fn same(first: ListName, second: ListName) -> bool
     ensures { result ≡ same_name first second }
 {
-    first.threat.code() == second.threat.code()
-        && first.platform.code() == second.platform.code()
-        && first.entry.code() == second.entry.code()
+    first == second
 }
 
 /// Whether a list is declared.

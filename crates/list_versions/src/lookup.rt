@@ -36,6 +36,7 @@ fn head_of(prefix: &Prefix) -> HashHead
     ensures value { result ≡ take 4 prefix.now }
     ensures long { 4 ≤ length prefix.now }
 {
+    // looked at for the prover: a prefix has 4 bytes at least
     let _ = prefix.size();
     let bytes = prefix.as_bytes();
     [bytes[0], bytes[1], bytes[2], bytes[3]]
@@ -46,6 +47,7 @@ pub(crate) fn is_begun(prefix: &Prefix, hash: &[u8; 32]) -> bool
     ensures { result ≡ begins prefix.now hash.now }
 {
     let bytes = prefix.as_bytes();
+    // looked at for the prover: a prefix has 32 bytes at most
     let _ = prefix.size();
     &hash[..bytes.len()] == bytes
 }

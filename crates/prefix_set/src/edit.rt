@@ -70,6 +70,7 @@ impl Edit {
             (self.new ≡ record self.old { additions = self.old.additions ++ prefix.now ∷ [] }) }
         ensures err { OnErr result (self.new ≡ self.old) }
     {
+        // looked at for the prover: a prefix has 4 to 32 bytes
         let _ = prefix.size();
         self.additions.push(prefix.as_bytes())
     }

@@ -302,6 +302,7 @@ impl PackedPrefixes {
         ensures rest { result ≡ self.now }
         ensures sizes { All (λ member. IsPrefixSize (length member)) self.now }
     {
+        // looked at for the prover: what packed prefixes keep to
         let _ = &self.bytes;
         Members::of(self)
     }

@@ -374,6 +374,7 @@ impl PrefixSet {
     fn span_of(&self, prefix: &Prefix) -> Span
         ensures { IsSpanOf self.now prefix.now result.start result.end }
     {
+        // looked at for the prover: a prefix has 4 to 32 bytes
         let _ = prefix.size();
         self.span_with(head_of(prefix.as_bytes()))
     }

@@ -18,9 +18,9 @@ use Rattle.prefix_set.specs.Pieces.{pieces, pieces_of}
 use Rattle.update_messages.specs.declared.sets.Additions.TheVariants as added
 use Rattle.update_messages.specs.declared.sets.Removals.TheVariants as removed
 use Rattle.update_messages.specs.Answer.{numbers_of, has_size, sizes_of, addition_set, addition_sets, removal_sets}
+use Rattle.update_messages.specs.Rising.{SentNumbersRise}
 use Rattle.update_client.specs.Step.{◌>>=◌, most_values, prefixes_of, places_of, joined}
-use Rattle.update_client.proofs.Membership.{In, contains_in, in_map, from_map, in_left, in_right, in_either, in_filter, from_filter, in_flat_map, from_flat_map, of_each, each_in, in_range, from_range}
-use Rattle.update_client.proofs.RisingNumbers.{Rises, increasing, in_numbers, from_numbers, numbers_rise, numbers_few}
+use Rattle.update_client.proofs.Membership.{In, contains_in, in_contained, in_map, from_map, in_left, in_right, in_either, in_filter, from_filter, in_flat_map, from_flat_map, of_each, each_in, in_range, from_range}
 use Rattle.update_client.proofs.HistoryPrefixes.{IsPrefix}
 
 -- the record of rising numbers is decoded to them
@@ -74,10 +74,20 @@ four_below m prefix =
     let d = bytes_at m prefix.bytes 3 in
     omega (arith, a, b, c, d)
 
+-- the numbers of these members, and no others
+in_numbers : SentNumbersRise → (m : List ℕ) (ms : List (List ℕ)) → In m ms → In (from_le_bytes w32 m) (numbers_of ms)
+in_numbers rise m ms h =
+    let n : ℕ = from_le_bytes w32 m in
+    in_contained n (numbers_of ms) (((rise.numbers ms).same n).1 (contains_in n (map (from_le_bytes w32) ms) (in_map (from_le_bytes w32) m ms h)))
+
+from_numbers : SentNumbersRise → (n : ℕ) (ms : List (List ℕ)) → In n (numbers_of ms) → (m : List ℕ) × In m ms × (from_le_bytes w32 m ≡ n)
+from_numbers rise n ms h =
+    from_map (from_le_bytes w32) n ms (in_contained n (map (from_le_bytes w32) ms) (((rise.numbers ms).same n).0 (contains_in n (numbers_of ms) h)))
+
 -- ---- one set
 
 -- where the first of two tests that both have to pass is of a size, a set of it is Rice coded
-module _ (decodes : DecodesEncoded) (ms : List (List ℕ)) (some : 0 < length ms) (few : length ms ≤ most_values)
+module _ (decodes : DecodesEncoded) (rise : SentNumbersRise) (ms : List (List ℕ)) (some : 0 < length ms) (few : length ms ≤ most_values)
     (prefixes : AllByRecursion IsPrefix ms) (four : AllByRecursion (λ m. length m ≡ 4) ms) where
   some_numbers : 0 < length (numbers_of ms)
   some_numbers = go ms some refl
@@ -88,15 +98,15 @@ module _ (decodes : DecodesEncoded) (ms : List (List ℕ)) (some : 0 < length ms
 
       go : (xs : List (List ℕ)) → 0 < length xs → ms ≡ xs → 0 < length (numbers_of ms)
       go [] none e = absurd (omega arith)
-      go (x ∷ xs) one e = longer (from_le_bytes w32 x) (numbers_of ms) (in_numbers x ms (subst (In x) (sym e) (inl refl)))
+      go (x ∷ xs) one e = longer (from_le_bytes w32 x) (numbers_of ms) (in_numbers rise x ms (subst (In x) (sym e) (inl refl)))
 
   numbers_decoded : decoding_of (encoding_of (numbers_of ms)) most_values ≡ Ok (numbers_of ms)
   numbers_decoded =
-      decodes (numbers_of ms) most_values (increasing (numbers_of ms) (numbers_rise ms))
+      decodes (numbers_of ms) most_values (rise.numbers ms).rising
       (each_in (λ n. n < 2 ^ 32) (numbers_of ms) (λ n h.
-      let from = from_numbers n ms h in
+      let from = from_numbers rise n ms h in
       subst (λ k. k < 2 ^ 32) from.2 (four_below from.0 (of_each IsPrefix from.0 ms prefixes from.1))))
-      some_numbers (omega (arith, numbers_few ms, few))
+      some_numbers (omega (arith, (rise.numbers ms).few, few))
 
   rice_reads : ReadsAs (prefixes_of (added.Rice (encoding_of (numbers_of ms)))) ms
   rice_reads = record {
@@ -104,10 +114,10 @@ module _ (decodes : DecodesEncoded) (ms : List (List ℕ)) (some : 0 < length ms
     is = ap (λ (r : Result (List ℕ) RiceFault). r >>= λ numbers. Ok (map (to_le_bytes w32) numbers)) numbers_decoded;
     has = λ x h. subst (λ (y : List ℕ). In y (map (to_le_bytes w32) (numbers_of ms)))
         (four_back x (of_each IsPrefix x ms prefixes h) (of_each (λ (m : List ℕ). length m ≡ 4) x ms four h))
-        (in_map (to_le_bytes w32) (from_le_bytes w32 x) (numbers_of ms) (in_numbers x ms h));
+        (in_map (to_le_bytes w32) (from_le_bytes w32 x) (numbers_of ms) (in_numbers rise x ms h));
     only = λ x h.
         let n = from_map (to_le_bytes w32) x (numbers_of ms) h in
-        let m = from_numbers n.0 ms n.1 in
+        let m = from_numbers rise n.0 ms n.1 in
         subst (λ (y : List ℕ). In y ms)
         (sym (four_back m.0 (of_each IsPrefix m.0 ms prefixes m.1) (of_each (λ (k : List ℕ). length k ≡ 4) m.0 ms four m.1)) ∙ ap (to_le_bytes w32) m.2 ∙ n.2) m.1;
   }
@@ -151,7 +161,7 @@ some_kept p (m ∷ ms) h = go (p m) h (some_kept p ms)
 -- ---- all sets
 
 -- the set of one size that stands among the members
-module _ (decodes : DecodesEncoded) (rice : Bool) (members : List (List ℕ)) (few : length members ≤ most_values) (prefixes : AllByRecursion IsPrefix members) where
+module _ (decodes : DecodesEncoded) (rise : SentNumbersRise) (rice : Bool) (members : List (List ℕ)) (few : length members ≤ most_values) (prefixes : AllByRecursion IsPrefix members) where
   abbrev with_size : ℕ → List (List ℕ)
   with_size size = filter (has_size size) members
 
@@ -166,7 +176,7 @@ module _ (decodes : DecodesEncoded) (rice : Bool) (members : List (List ℕ)) (f
 
       go : (four takes : Bool) → (size == 4) ≡ four
           → ReadsAs (prefixes_of (cond (four && takes) (added.Rice (encoding_of (numbers_of (with_size size)))) (added.Raw size (concatenation (with_size size))))) (with_size size)
-      go true true e = rice_reads decodes (with_size size) (some_kept (has_size size) members there) (omega (arith, few_kept (has_size size) members, few)) good (subst (λ n. AllByRecursion (λ (m : List ℕ). length m ≡ n) (with_size size)) (eqb-true size 4 e) own)
+      go true true e = rice_reads decodes rise (with_size size) (some_kept (has_size size) members there) (omega (arith, few_kept (has_size size) members, few)) good (subst (λ n. AllByRecursion (λ (m : List ℕ). length m ≡ n) (with_size size)) (eqb-true size 4 e) own)
       go true false e = raw_reads size (with_size size) some own
       go false takes e = raw_reads size (with_size size) some own
 
@@ -204,13 +214,13 @@ module _ (decodes : DecodesEncoded) (rice : Bool) (members : List (List ℕ)) (f
       }
 
 -- the places of the one set of removals
-pub removals_read : DecodesEncoded → (rice : Bool) (size : ℕ) (places : List ℕ) → Rises places → AllByRecursion (λ place. place < 2 ^ 32) places
+pub removals_read : DecodesEncoded → (rice : Bool) (size : ℕ) (places : List ℕ) → IsStrictlyIncreasing places → AllByRecursion (λ place. place < 2 ^ 32) places
     → length places ≤ most_values → joined places_of (removal_sets rice size places) ≡ Ok places
 removals_read decodes rice size [] up below few = refl
 removals_read decodes rice size (p ∷ ps) up below few = go (size == 4 && rice)
   where
     go : (b : Bool) → joined places_of (cond b (removed.Rice (encoding_of (p ∷ ps))) (removed.Raw (p ∷ ps)) ∷ []) ≡ Ok (p ∷ ps)
     go true =
-        ap (λ (r : Result (List ℕ) RiceFault). r >>= λ places. Ok (places ++ [])) (decodes (p ∷ ps) most_values (increasing (p ∷ ps) up) below (omega arith) few)
+        ap (λ (r : Result (List ℕ) RiceFault). r >>= λ places. Ok (places ++ [])) (decodes (p ∷ ps) most_values up below (omega arith) few)
         ∙ ap Ok (append-nil (p ∷ ps))
     go false = ap Ok (append-nil (p ∷ ps))

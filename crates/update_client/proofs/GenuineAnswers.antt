@@ -1,10 +1,10 @@
 -- What a server answers is genuine.
-use Rattle.std.proofs.Common.{◌≡◌, ℕ, ◌+◌, ◌^◌, ◌<◌, ◌≤◌, inl, inr, List, [], ◌++◌, length, map, refl, sym, ap, subst, ◌∙◌, arith, Option, Some, None, Result, Ok}
+use Rattle.std.proofs.Common.{◌≡◌, ℕ, ◌+◌, ◌^◌, ◌<◌, ◌≤◌, inl, inr, List, [], ◌++◌, length, map, get_or, refl, sym, ap, subst, ◌∙◌, arith, Option, Some, None, Result, Ok}
 use Rattle.std.specs.Prelude.{◌↔◌, Contains, IsTrue, IsOkAnd, not, if◌then◌else◌}
 use Rattle.std.specs.Str.{bytes_eq}
 use Rattle.std.specs.List.{AllByRecursion, range_with_len}
 use Rattle.std.proofs.lemmas.List.{length-take-le}
-use Rattle.std.proofs.lemmas.List.Elements.{All-map, All-weaker}
+use Rattle.std.proofs.lemmas.List.Elements.{All-map, All-weaker, recursion_from_All}
 use Rattle.std.proofs.lemmas.Slice.Eq.{bytes_eq-Decides}
 use Rattle.sb_model.specs.declared.names.ListName.{ListName}
 use Rattle.sb_model.specs.History.{History, IsWellFormed, version_count, up_to_version, declares, sizes_at, prefix_of, prefixes_at}
@@ -16,12 +16,12 @@ use Rattle.sb_model.specs.Target.{target_version}
 use Rattle.rice_coding.specs.declared.fault.RiceFault.{RiceFault}
 use Rattle.prefix_set.specs.Apply.{applied}
 use Rattle.update_messages.specs.Messages.{AskedList, UpdatedList}
+use Rattle.update_messages.specs.Rising.{SentNumbersRise}
 use Rattle.update_messages.specs.Answer.{version_named, declared_size, addition_sets, update_to, update_for}
 use Rattle.update_client.specs.Held.{digest_of}
 use Rattle.update_client.specs.Step.{◌>>=◌, most_values, prefixes_of, places_of, joined, meaning_of}
 use Rattle.update_client.specs.Genuine.{IsWithinLimitsAlways, HasByteHashes, IsAnswerItem, AnswersAreGenuine}
 use Rattle.update_client.proofs.Membership.{In, contains_in, in_contained, in_left, in_right, in_either, from_filter, found_by, of_each, each_in, from_range}
-use Rattle.update_client.proofs.RisingNumbers.{removed_rise, removed_few, removed_below}
 use Rattle.update_client.proofs.HistoryPrefixes.{IsPrefix, prefixes-prefixes_at, prefixes_at-up_to}
 use Rattle.update_client.proofs.AnswerSets.{DecodesEncoded, ReadsAs, few_kept, additions_read, removals_read}
 
@@ -33,6 +33,7 @@ pub record LowerLaws : Type 0 where
   pub only : (xs ys : List (List ℕ)) → IsRising xs → IsRising ys → ((x : List ℕ) → Contains xs x ↔ Contains ys x) → xs ≡ ys
   pub same : (xs ys : List (List ℕ)) → ((x : List ℕ) → Contains xs x ↔ Contains ys x) → set_of xs ≡ set_of ys
   pub decodes : DecodesEncoded
+  pub rise : SentNumbersRise
   pub last : (history : History) (list : ListName) (held : Option ℕ) (max_update max_database : ℕ)
       → target_version history list held max_update max_database ≤ version_count history
 
@@ -108,7 +109,7 @@ module _ (laws : LowerLaws) where
   full_proposes : (history : History) (token_at : Naming) (asked : AskedList) (version : ℕ) → IsSent (prefixes_at history asked.name version) → (set : List (List ℕ))
       → IsOkAnd (meaning_of (update_to history token_at asked None version)) (λ meant. candidate meant set ≡ prefixes_at history asked.name version)
   full_proposes history token_at asked version sent set =
-      let read : ReadsAs (joined prefixes_of (addition_sets asked.rice newer)) newer = additions_read laws.decodes asked.rice newer sent.few sent.prefixes in
+      let read : ReadsAs (joined prefixes_of (addition_sets asked.rice newer)) newer = additions_read laws.decodes laws.rise asked.rice newer sent.few sent.prefixes in
       says (update_to history token_at asked None version) read.found [] read.is refl set newer (full_set read.found newer sent read.has read.only)
     where
       newer : List (List ℕ)
@@ -118,13 +119,13 @@ module _ (laws : LowerLaws) where
       → IsOkAnd (meaning_of (update_to history token_at asked (Some held) version)) (λ meant. candidate meant (prefixes_at history asked.name held) ≡ prefixes_at history asked.name version)
   partial_proposes history token_at asked held version sent sent' =
       let read : ReadsAs (joined prefixes_of (addition_sets asked.rice (added_members old newer))) (added_members old newer) =
-      additions_read laws.decodes asked.rice (added_members old newer) (omega (arith, few_added old newer, sent'.few)) (added_prefixes old newer sent'.prefixes) in
+      additions_read laws.decodes laws.rise asked.rice (added_members old newer) (omega (arith, few_added old newer, sent'.few)) (added_prefixes old newer sent'.prefixes) in
       says (update_to history token_at asked (Some held) version) read.found (removed_places old newer) read.is
-      (removals_read laws.decodes asked.rice (declared_size history asked.name) (removed_places old newer) (removed_rise old newer)
-      (each_in (λ place. place < 2 ^ 32) (removed_places old newer) (λ place h.
-      let below : place < length old = of_each (λ p. p < length old) place (removed_places old newer) (removed_below old newer) h in
-      omega (arith, sent.few)))
-      (omega (arith, removed_few old newer, sent.few)))
+      (removals_read laws.decodes asked.rice (declared_size history asked.name) (removed_places old newer) (laws.rise.places old newer).rising
+      (recursion_from_All (λ place. place < 2 ^ 32) (removed_places old newer) (λ k d below.
+      let at : get_or (removed_places old newer) k d < length old = (laws.rise.places old newer).within k d below in
+      omega (arith, at, sent.few)))
+      (omega (arith, (laws.rise.places old newer).few, sent.few)))
       old newer (changed_set read.found old newer sent sent' read.has read.only)
     where
       old : List (List ℕ)

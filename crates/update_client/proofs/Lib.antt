@@ -8,6 +8,5 @@ pub mod Membership
 pub mod NameOrder
 pub mod NoMemory
 pub mod Places
-pub mod RisingNumbers
 pub mod Runs
 pub mod SameNames

@@ -16,10 +16,7 @@ use update_messages::ListUpdate;
 pub(crate) fn has_name(held: &HeldList, name: ListName) -> bool
     ensures { result ≡ same_name held.now.name name }
 {
-    let own = held.name;
-    own.threat.code() == name.threat.code()
-        && own.platform.code() == name.platform.code()
-        && own.entry.code() == name.entry.code()
+    held.name == name
 }
 
 /// The place of the held list of a name.

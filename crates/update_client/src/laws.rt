@@ -3,6 +3,7 @@ ghost use Rattle.update_client.specs.Genuine.{AnswersAreGenuine};
 use prefix_set::{differences_lead, sets_go_by_members};
 use rice_coding::encoding_is_decoded;
 use sb_model::targets_are_the_greatest;
+use update_messages::sent_numbers_rise;
 
 /// Every item of what a server answers is an update that it could have made, whatever names it
 /// gives to its versions, and a partial one names the state that it was made for.
@@ -12,5 +13,6 @@ pub fn answers_are_genuine()
     differences_lead();
     sets_go_by_members();
     encoding_is_decoded();
+    sent_numbers_rise();
     targets_are_the_greatest();
 }

@@ -7,7 +7,7 @@ use Rattle.std.proofs.lemmas.List.Kept.{Contains-dedup_nat, Contains-from_dedup}
 use Rattle.std.proofs.lemmas.List.Sorted.{Contains-permutation, IsPermutation-sym}
 use Rattle.std.proofs.lemmas.Map.Keys.{IsStrictlyIncreasing-dedup}
 use Rattle.delta_server.proofs.Membership.{In, in_contained, contains_in}
-use Rattle.delta_server.proofs.NumberFacts.{same_numbers, numbers_few}
+use Rattle.delta_server.proofs.NumberFacts.{same_numbers}
 use Rattle.delta_server.proofs.numbers.rising_numbers.Goals as goal
 
 rising : goal.returns-clause-rising
@@ -23,7 +23,7 @@ numbers c =
     let last : List ℕ = c.dedup.new.self.items in
     let is : last ≡ dedup nat_eq sorted = dedup_is nat_eq _ _ c.dedup.ensures.filtered in
     let moved : IsPermutation first sorted = c.sort_unstable.ensures.permutation in
-    same_numbers ms last (rising c)
+    same_numbers ms last (c.sent_numbers_rise.ensures.numbers ms) (rising c)
     (λ n h. subst (In n) c.in_ok-numbers.ensures (in_contained n first (Contains-permutation sorted first n (IsPermutation-sym first sorted moved)
     (Contains-from_dedup nat_eq sorted n (subst (λ (xs : List ℕ). Contains xs n) is (contains_in n last h))))))
     (λ n h. in_contained n last (subst (λ (xs : List ℕ). Contains xs n) (sym is) (Contains-dedup_nat sorted n
@@ -36,4 +36,4 @@ pub returns-clause-numbers : goal.returns-clause-numbers
 returns-clause-numbers c = numbers c
 
 pub returns-clause-few : goal.returns-clause-few
-returns-clause-few c = omega (arith, ap length (numbers c), numbers_few c.args.quads.now)
+returns-clause-few c = omega (arith, ap length (numbers c), (c.sent_numbers_rise.ensures.numbers c.args.quads.now).few)

@@ -19,7 +19,7 @@ encode-requires-clause-some c =
     let quads : c.quads_of.result.now ≡ filter (has_size 4) ms
     = c.quads_of.ensures ms (c.as_slice.ensures ∙ c.requires.members.1 ∙ ap (λ n. concatenation (filter (has_size n) ms)) four) in
     let is : c.deref.result.now ≡ numbers_of (filter (has_size 4) ms) = c.deref.ensures.value ∙ c.in_ok-numbers.ensures.numbers ∙ ap numbers_of quads in
-    let some : 0 < length (numbers_of (filter (has_size 4) ms)) = some_numbers (filter (has_size 4) ms) (some_kept (has_size 4) ms there) in
+    let some : 0 < length (numbers_of (filter (has_size 4) ms)) = some_numbers (filter (has_size 4) ms) (c.sent_numbers_rise.ensures.numbers (filter (has_size 4) ms)) (some_kept (has_size 4) ms there) in
     subst (λ (xs : List ℕ). 0 < length xs) (sym is) some
 
 pub encode-requires-clause-few : goal.encode-requires-clause-few

@@ -5,23 +5,23 @@ use Rattle.prefix_set.specs.declared.set.TheConstants.{MAX_PREFIXES}
 use Rattle.sb_model.specs.Difference.{removed_places, added_members}
 use Rattle.update_messages.specs.Answer.{addition_sets, removal_sets}
 use Rattle.update_messages.specs.Messages.{AskedList}
-use Rattle.delta_server.proofs.NumberFacts.{increasing, removed_rise, removed_few, removed_under}
+use Rattle.delta_server.proofs.NumberFacts.{removed_under}
 use Rattle.delta_server.proofs.UpdateFacts.{same_update, few_added}
 use Rattle.delta_server.proofs.updates.partial_update.Goals as goal
 
 pub removal_sets-requires-clause-rising : goal.removal_sets-requires-clause-rising
 removal_sets-requires-clause-rising c =
-    subst IsStrictlyIncreasing (sym c.in_ok-delta.ensures.removals) (increasing (removed_places c.args.old.now c.args.newer.now.set.now) (removed_rise c.args.old.now c.args.newer.now.set.now))
+    subst IsStrictlyIncreasing (sym c.in_ok-delta.ensures.removals) (c.sent_numbers_rise.ensures.places c.args.old.now c.args.newer.now.set.now).rising
 
 pub removal_sets-requires-clause-few : goal.removal_sets-requires-clause-few
 removal_sets-requires-clause-few c =
     let is : c.in_ok-delta.delta.removals ≡ removed_places c.args.old.now c.args.newer.now.set.now = c.in_ok-delta.ensures.removals in
-    omega (arith, ap length is, removed_few c.args.old.now c.args.newer.now.set.now, c.len.ensures.count)
+    omega (arith, ap length is, (c.sent_numbers_rise.ensures.places c.args.old.now c.args.newer.now.set.now).few, c.len.ensures.count)
 
 pub removal_sets-requires-clause-below : goal.removal_sets-requires-clause-below
 removal_sets-requires-clause-below c =
     subst (All (λ place. place < MAX_PREFIXES)) (sym c.in_ok-delta.ensures.removals)
-    (removed_under c.args.old.now c.args.newer.now.set.now MAX_PREFIXES c.len.ensures.count)
+    (removed_under c.args.old.now c.args.newer.now.set.now MAX_PREFIXES (c.sent_numbers_rise.ensures.places c.args.old.now c.args.newer.now.set.now) c.len.ensures.count)
 
 pub addition_sets-requires : goal.addition_sets-requires
 addition_sets-requires c =

@@ -9,5 +9,6 @@ returns c = answers (record {
   only = c.sets_go_by_members.ensures.only;
   same = c.sets_go_by_members.ensures.same;
   decodes = c.encoding_is_decoded.ensures;
+  rise = c.sent_numbers_rise.ensures;
   last = c.targets_are_the_greatest.ensures.last;
 })
