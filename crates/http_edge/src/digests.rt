@@ -93,10 +93,9 @@ fn digest_of(alloc: Global, member: &[u8]) -> Result<Option<[u8; 32]>, OutOfMemo
     let Some(text) = between(member) else {
         return Ok(None);
     };
-    match decoded(alloc, text) {
-        Ok(Some(bytes)) => Ok(as_digest(bytes.as_slice())),
-        Ok(None) => Ok(None),
-        Err(OutOfMemory) => Err(OutOfMemory),
+    match decoded(alloc, text)? {
+        Some(bytes) => Ok(as_digest(bytes.as_slice())),
+        None => Ok(None),
     }
 }
 
@@ -156,10 +155,8 @@ pub(crate) fn digest_given(
     ensures { IfOk result (λ digest. IsDigestIn (flat_map members_in (values_at buffer.now fields.now (codes "content-digest"))) digest) }
 {
     for field in fields {
-        match digest_in_field(alloc, buffer, field) {
-            Ok(Some(digest)) => return Ok(Some(digest)),
-            Ok(None) => {}
-            Err(OutOfMemory) => return Err(OutOfMemory),
+        if let Some(digest) = digest_in_field(alloc, buffer, field)? {
+            return Ok(Some(digest));
         }
     }
     Ok(None)

@@ -212,8 +212,6 @@ pub fn read_request<S: Source>(alloc: Global, source: &mut S) -> Result<HttpRequ
         return Err(RequestFault::OutOfMemory);
     };
     let mut text = Bytes::new(alloc);
-    match receive_head(alloc, source, buffer.as_mut_slice(), &mut text) {
-        Ok(parts) => receive_rest(alloc, source, buffer.as_mut_slice(), &text, parts),
-        Err(fault) => Err(fault),
-    }
+    let parts = receive_head(alloc, source, buffer.as_mut_slice(), &mut text)?;
+    receive_rest(alloc, source, buffer.as_mut_slice(), &text, parts)
 }

@@ -7,15 +7,15 @@ use Rattle.http_edge.specs.Digests.{members_in, IsNoDigest}
 use Rattle.http_edge.proofs.DigestFacts.{none_in_more, first_in_fields}
 use Rattle.http_edge.proofs.digests.digest_given.Goals as goal
 
-pub returns-in-Ok-Some : goal.returns-in-Ok-Some
-returns-in-Ok-Some c =
-    first_in_fields c.args.buffer.now c.args.fields.now (codes "content-digest") c.loop-field.field-index _ c.in-Ok-Some.digest
-    c.loop-field-test.true c.loop-field.invariant (rw c.in-Ok-Some.field-0-is at c.in-Ok-Some.ensures)
+pub returns-in-Some : goal.returns-in-Some
+returns-in-Some c =
+    first_in_fields c.args.buffer.now c.args.fields.now (codes "content-digest") c.loop-field.field-index _ c.in-Some.digest
+    c.loop-field-test.true c.loop-field.invariant (rw c.in-Some.is at c.in_ok-digest.ensures)
 
 pub loop-field-preserved : goal.loop-field-preserved
 loop-field-preserved c =
     none_in_more c.args.buffer.now c.args.fields.now (codes "content-digest") c.loop-field.field-index _
-    c.loop-field-test.true c.loop-field.invariant (rw c.in-Ok-None.field-0-is at c.in-Ok-None.ensures)
+    c.loop-field-test.true c.loop-field.invariant (rw c.in_default.is at c.in_ok-digest.ensures)
 
 pub returns : goal.returns
 returns c =
