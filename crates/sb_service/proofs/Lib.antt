@@ -6,4 +6,5 @@ pub mod Fronts
 pub mod Journals
 pub mod Loads
 pub mod Runs
+pub mod Stops
 pub mod Turns

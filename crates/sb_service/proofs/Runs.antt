@@ -171,21 +171,9 @@ zero_or_memory status (inr (inr (inr (inr (inr (inr (inl h))))))) only = inl (on
 zero_or_memory status (inr (inr (inr (inr (inr (inr (inr (inl h)))))))) only = inr h
 zero_or_memory status (inr (inr (inr (inr (inr (inr (inr (inr h)))))))) only = inl (only (λ e. omega (arith, e, h)))
 
-pub same_status : {E : Type 0} (a b : ℕ) → (let ok : Result ℕ E = Ok a in ok ≡ Ok b) → a ≡ b
-same_status a b e = cc
-
 pub not_8 : (status : ℕ) → status ≡ 0 → status ≢ 8
 not_8 status e = λ h. omega (arith, e, h)
 
 pub none_risen : (journal journal' input input' : ℕ) → HasNoFault journal journal' → HasNoFault input input' → (Rose journal journal' × (input' ≡ input)) ⊎ (Rose input input' × (journal' ≡ journal)) → ⊥
 none_risen journal journal' input input' h k (inl rose) = not_risen journal journal' h rose.0
 none_risen journal journal' input input' h k (inr rose) = not_risen input input' k rose.0
-
--- `answer` does not end with 9
-pub never_nine : (status : ℕ) → (status ≡ 0) ⊎ (status ≡ 2) ⊎ (status ≡ 3) ⊎ (status ≡ 5) ⊎ (status ≡ 6) ⊎ (status ≡ 7) → status ≡ 9 → ⊥
-never_nine status (inl h) e = omega (arith, e, h)
-never_nine status (inr (inl h)) e = omega (arith, e, h)
-never_nine status (inr (inr (inl h))) e = omega (arith, e, h)
-never_nine status (inr (inr (inr (inl h)))) e = omega (arith, e, h)
-never_nine status (inr (inr (inr (inr (inl h))))) e = omega (arith, e, h)
-never_nine status (inr (inr (inr (inr (inr h))))) e = omega (arith, e, h)

@@ -5,3 +5,4 @@ pub mod Connection
 pub mod ConnectionLaws
 pub mod ConnectionSteps
 pub mod Serving
+pub mod Stops

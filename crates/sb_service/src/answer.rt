@@ -2,8 +2,10 @@ ghost use Rattle.std.specs.Prelude.{◌≡◌, ◌≢◌, ◌⊎◌, Ok, IfOk, O
 ghost use Rattle.sb_outside.specs.Outside.{Rose};
 ghost use Rattle.list_versions.specs.declared.fault.JournalFault.{JournalFault};
 ghost use Rattle.sb_service.specs.Answer.{AfterFault, IsAnswerRun, IsInputRun, IsReplied, IsWritten};
+ghost use Rattle.sb_service.specs.Stops.{status_of};
 
 use crate::reply::{Reply, refuse_journal, reply_to_body};
+use crate::stop::Stop;
 use delta_server::Settings;
 use list_versions::{History, JournalFault};
 use sb_model::OutOfMemory;
@@ -13,17 +15,17 @@ use std::alloc::Global;
 /// The most bytes of the body of a request.
 const MOST_BODY: usize = 1_048_576;
 
-/// Writes a reply, and answers its status, or 3 where the output failed.
-fn print<O: Sink>(out: &mut O, reply: &Reply) -> u8
+/// Writes a reply, and answers what ends the run: what the reply says, or a fault of the output.
+fn print<O: Sink>(out: &mut O, reply: &Reply) -> Stop
     requires { reply.now.status ≢ 3 }
-    ensures written { IsWritten reply.now result (O.contents out.old) (O.contents out.new) }
-    ensures ends { (result ≡ reply.now.status) ⊎ (result ≡ 3) }
-    ensures failed { result ≡ 3 → Rose (O.faults out.old) (O.faults out.new) }
-    ensures kept { result ≢ 3 → O.faults out.new ≡ O.faults out.old }
+    ensures written { IsWritten reply.now (status_of result) (O.contents out.old) (O.contents out.new) }
+    ensures ends { (status_of result ≡ reply.now.status) ⊎ (result ≡ Stop.WriteFault) }
+    ensures failed { result ≡ Stop.WriteFault → Rose (O.faults out.old) (O.faults out.new) }
+    ensures kept { result ≢ Stop.WriteFault → O.faults out.new ≡ O.faults out.old }
 {
     match write_all(out, reply.text.as_slice()) {
-        Ok(()) => reply.status,
-        Err(Failed) => 3,
+        Ok(()) => reply.stop,
+        Err(Failed) => Stop::WriteFault,
     }
 }
 
@@ -35,12 +37,12 @@ fn answer_body<O: Sink>(
     kind: Kind,
     body: &[u8],
     out: &mut O,
-) -> Result<u8, OutOfMemory>
-    ensures replied { IfOk result (λ status. IsReplied history.now.versions settings.now kind body.now status
+) -> Result<Stop, OutOfMemory>
+    ensures replied { IfOk result (λ stop. IsReplied history.now.versions settings.now kind body.now (status_of stop)
         (O.contents out.old) (O.contents out.new)) }
-    ensures ends { IfOk result (λ status. (status ≡ 0) ⊎ (status ≡ 3) ⊎ (status ≡ 5)) }
-    ensures failed { result ≡ Ok 3 → Rose (O.faults out.old) (O.faults out.new) }
-    ensures kept { result ≢ Ok 3 → O.faults out.new ≡ O.faults out.old }
+    ensures ends { IfOk result (λ stop. (stop ≡ Stop.Done) ⊎ (stop ≡ Stop.WriteFault) ⊎ (stop ≡ Stop.BadRequest)) }
+    ensures failed { result ≡ Ok Stop.WriteFault → Rose (O.faults out.old) (O.faults out.new) }
+    ensures kept { result ≢ Ok Stop.WriteFault → O.faults out.new ≡ O.faults out.old }
     ensures memory { OnErr result (out.new ≡ out.old) }
 {
     let reply = reply_to_body(alloc, history, settings, kind, body)?;
@@ -55,20 +57,21 @@ fn answer_input<S: Source, O: Sink>(
     kind: Kind,
     input: &mut S,
     out: &mut O,
-) -> Result<u8, OutOfMemory>
-    ensures run { IfOk result (λ status. IsInputRun history.now.versions settings.now kind status
+) -> Result<Stop, OutOfMemory>
+    ensures run { IfOk result (λ stop. IsInputRun history.now.versions settings.now kind (status_of stop)
         (S.left input.old) (S.left input.new) (O.contents out.old) (O.contents out.new)) }
-    ensures ends { IfOk result (λ status. (status ≡ 0) ⊎ (status ≡ 2) ⊎ (status ≡ 3) ⊎ (status ≡ 5) ⊎ (status ≡ 6)) }
-    ensures input_failed { result ≡ Ok 2 → Rose (S.faults input.old) (S.faults input.new) }
-    ensures input_kept { result ≢ Ok 2 → S.faults input.new ≡ S.faults input.old }
-    ensures failed { result ≡ Ok 3 → Rose (O.faults out.old) (O.faults out.new) }
-    ensures kept { result ≢ Ok 3 → O.faults out.new ≡ O.faults out.old }
+    ensures ends { IfOk result (λ stop. (stop ≡ Stop.Done) ⊎ (stop ≡ Stop.ReadFault) ⊎ (stop ≡ Stop.WriteFault)
+        ⊎ (stop ≡ Stop.BadRequest) ⊎ (stop ≡ Stop.LongInput)) }
+    ensures input_failed { result ≡ Ok Stop.ReadFault → Rose (S.faults input.old) (S.faults input.new) }
+    ensures input_kept { result ≢ Ok Stop.ReadFault → S.faults input.new ≡ S.faults input.old }
+    ensures failed { result ≡ Ok Stop.WriteFault → Rose (O.faults out.old) (O.faults out.new) }
+    ensures kept { result ≢ Ok Stop.WriteFault → O.faults out.new ≡ O.faults out.old }
     ensures memory { OnErr result (out.new ≡ out.old) }
 {
     match read_to_end(alloc, input, MOST_BODY) {
         Ok(body) => answer_body(alloc, history, settings, kind, body.as_slice(), out),
-        Err(InputFault::Failed) => Ok(2),
-        Err(InputFault::PastLimit) => Ok(6),
+        Err(InputFault::Failed) => Ok(Stop::ReadFault),
+        Err(InputFault::PastLimit) => Ok(Stop::LongInput),
         Err(InputFault::OutOfMemory) => Err(OutOfMemory),
     }
 }
@@ -79,17 +82,17 @@ pub(crate) fn answer_fault<O: Sink>(
     alloc: Global,
     fault: JournalFault,
     out: &mut O,
-) -> Result<u8, OutOfMemory>
-    ensures after { IfOk result (λ status. AfterFault fault status (O.contents out.old) (O.contents out.new)) }
-    ensures ends { IfOk result (λ status. (status ≡ 2) ⊎ (status ≡ 3) ⊎ (status ≡ 7)) }
-    ensures journal_failed { result ≡ Ok 2 → fault ≡ JournalFault.ReadFault }
-    ensures journal_kept { result ≢ Ok 2 → fault ≢ JournalFault.ReadFault }
-    ensures failed { result ≡ Ok 3 → Rose (O.faults out.old) (O.faults out.new) }
-    ensures kept { result ≢ Ok 3 → O.faults out.new ≡ O.faults out.old }
+) -> Result<Stop, OutOfMemory>
+    ensures after { IfOk result (λ stop. AfterFault fault (status_of stop) (O.contents out.old) (O.contents out.new)) }
+    ensures ends { IfOk result (λ stop. (stop ≡ Stop.ReadFault) ⊎ (stop ≡ Stop.WriteFault) ⊎ (stop ≡ Stop.BadJournal)) }
+    ensures journal_failed { result ≡ Ok Stop.ReadFault → fault ≡ JournalFault.ReadFault }
+    ensures journal_kept { result ≢ Ok Stop.ReadFault → fault ≢ JournalFault.ReadFault }
+    ensures failed { result ≡ Ok Stop.WriteFault → Rose (O.faults out.old) (O.faults out.new) }
+    ensures kept { result ≢ Ok Stop.WriteFault → O.faults out.new ≡ O.faults out.old }
     ensures memory { OnErr result (out.new ≡ out.old) }
 {
     match fault {
-        JournalFault::ReadFault => Ok(2),
+        JournalFault::ReadFault => Ok(Stop::ReadFault),
         JournalFault::OutOfMemory => Err(OutOfMemory),
         _ => {
             let reply = refuse_journal(alloc, fault)?;
@@ -106,18 +109,18 @@ pub(crate) fn answer<J: Source, S: Source, O: Sink>(
     journal: &mut J,
     input: &mut S,
     out: &mut O,
-) -> Result<u8, OutOfMemory>
-    ensures run { IfOk result (λ status. IsAnswerRun settings.now kind status (J.left journal.old) (J.left journal.new)
+) -> Result<Stop, OutOfMemory>
+    ensures run { IfOk result (λ stop. IsAnswerRun settings.now kind (status_of stop) (J.left journal.old) (J.left journal.new)
         (S.left input.old) (S.left input.new) (O.contents out.old) (O.contents out.new)) }
-    ensures ends { IfOk result (λ status.
-        (status ≡ 0) ⊎ (status ≡ 2) ⊎ (status ≡ 3) ⊎ (status ≡ 5) ⊎ (status ≡ 6) ⊎ (status ≡ 7)) }
-    ensures failed { result ≡ Ok 2 →
+    ensures ends { IfOk result (λ stop. (stop ≡ Stop.Done) ⊎ (stop ≡ Stop.ReadFault) ⊎ (stop ≡ Stop.WriteFault)
+        ⊎ (stop ≡ Stop.BadRequest) ⊎ (stop ≡ Stop.LongInput) ⊎ (stop ≡ Stop.BadJournal)) }
+    ensures failed { result ≡ Ok Stop.ReadFault →
         (Rose (J.faults journal.old) (J.faults journal.new) × (S.faults input.new ≡ S.faults input.old))
         ⊎ (Rose (S.faults input.old) (S.faults input.new) × (J.faults journal.new ≡ J.faults journal.old)) }
-    ensures read_kept { result ≢ Ok 2 →
+    ensures read_kept { result ≢ Ok Stop.ReadFault →
         (J.faults journal.new ≡ J.faults journal.old) × (S.faults input.new ≡ S.faults input.old) }
-    ensures output_failed { result ≡ Ok 3 → Rose (O.faults out.old) (O.faults out.new) }
-    ensures output_kept { result ≢ Ok 3 → O.faults out.new ≡ O.faults out.old }
+    ensures output_failed { result ≡ Ok Stop.WriteFault → Rose (O.faults out.old) (O.faults out.new) }
+    ensures output_kept { result ≢ Ok Stop.WriteFault → O.faults out.new ≡ O.faults out.old }
     ensures memory { OnErr result (out.new ≡ out.old) }
 {
     match History::load(alloc, journal) {

@@ -14,4 +14,5 @@ mod printing;
 mod reply;
 mod serve;
 mod service;
+mod stop;
 mod targets;

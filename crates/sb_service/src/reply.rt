@@ -6,6 +6,7 @@ ghost use Rattle.sb_service.specs.Answer.{IsReplyTo};
 ghost use Rattle.sb_service.specs.Connection.{matches_text};
 
 use crate::printing::{journal_line, matches_line, message_line, response_line, unknown_line};
+use crate::stop::Stop;
 use delta_server::{ServeFault, Settings, answer_fetch, answer_find};
 use hash_messages::{FindRequest, read_find};
 use list_versions::{History, JournalFault};
@@ -16,19 +17,20 @@ use std::alloc::Global;
 use std::marker::Model;
 use update_messages::{FetchRequest, read_request};
 
-/// What is printed, and the status of the run where it is written whole.
+/// What is printed, and what ends the run where it is written whole.
 #[derive(Debug, Drop)]
 pub(crate) struct Reply {
     pub text: Bytes,
-    pub status: u8,
+    pub stop: Stop,
 }
 
 impl Model for Reply {
     ghost use Rattle.sb_service.specs.Printed.{Reply as Replied};
+    ghost use Rattle.sb_service.specs.Stops.{status_of};
 
     ghost Value = { Replied };
 
-    ghost view = { λ r. record { text = r.text; status = r.status } };
+    ghost view = { λ r. record { text = r.text; status = status_of r.stop } };
 }
 
 /// The reply to one whose journal is refused. Want of memory is no cause that is told.
@@ -36,7 +38,10 @@ pub(crate) fn refuse_journal(alloc: Global, fault: JournalFault) -> Result<Reply
     ensures { IfOk result (λ reply. reply ≡ refusal_of fault) }
 {
     let text = journal_line(alloc, fault)?;
-    Ok(Reply { text, status: 7 })
+    Ok(Reply {
+        text,
+        stop: Stop::BadJournal,
+    })
 }
 
 /// The reply to a body that has no reading. Want of memory is no cause that is told.
@@ -48,7 +53,10 @@ fn refuse_body(alloc: Global, fault: &MessageFault) -> Result<Reply, OutOfMemory
         return Err(OutOfMemory);
     }
     let text = message_line(alloc, fault)?;
-    Ok(Reply { text, status: 5 })
+    Ok(Reply {
+        text,
+        stop: Stop::BadRequest,
+    })
 }
 
 /// The reply to a request.
@@ -64,11 +72,17 @@ fn reply_to_request(
     match answer_fetch(alloc, history, settings, request) {
         Ok(response) => {
             let text = response_line(alloc, &response)?;
-            Ok(Reply { text, status: 0 })
+            Ok(Reply {
+                text,
+                stop: Stop::Done,
+            })
         }
         Err(ServeFault::UnknownList(place)) => {
             let text = unknown_line(alloc, place)?;
-            Ok(Reply { text, status: 5 })
+            Ok(Reply {
+                text,
+                stop: Stop::BadRequest,
+            })
         }
         Err(ServeFault::OutOfMemory) => Err(OutOfMemory),
     }
@@ -100,7 +114,10 @@ fn reply_with_matches(
 {
     let response = answer_find(alloc, history, settings, request)?;
     let text = matches_line(alloc, &response)?;
-    Ok(Reply { text, status: 0 })
+    Ok(Reply {
+        text,
+        stop: Stop::Done,
+    })
 }
 
 /// The reply to the body of a find request.

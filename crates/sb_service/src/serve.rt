@@ -3,32 +3,34 @@ ghost use Rattle.sb_outside.specs.Outside.{Rose};
 ghost use Rattle.sb_outside.specs.declared.doors.Connection.{Connection};
 ghost use Rattle.list_versions.specs.declared.fault.JournalFault.{JournalFault};
 ghost use Rattle.sb_service.specs.Serving.{HasRun, IsFresh, IsLined, IsRefusal, IsServeRun, IsTold, IsTurn, StopsAt};
+ghost use Rattle.sb_service.specs.Stops.{status_of};
 
 use crate::answer::answer_fault;
 use crate::connection::{ConnectionEnd, serve_connection};
 use crate::printing::connection_line;
+use crate::stop::Stop;
 use delta_server::Settings;
 use list_versions::{History, JournalFault, cuts_make_no_difference};
 use sb_model::OutOfMemory;
 use sb_outside::{Door, Failed, Sink, Source, write_all};
 use std::alloc::Global;
 
-/// Prints the line of a connection that ended, and answers 0, 3 where the output failed, or 8.
-fn print_end<O: Sink>(alloc: Global, number: u32, end: ConnectionEnd, out: &mut O) -> u8
-    ensures lined { IsLined number end result (O.contents out.old) (O.contents out.new) }
-    ensures failed { result ≡ 3 → Rose (O.faults out.old) (O.faults out.new) }
-    ensures kept { result ≢ 3 → O.faults out.new ≡ O.faults out.old }
+/// Prints the line of a connection that ended. Answers `Done`, or what ends the run.
+fn print_end<O: Sink>(alloc: Global, number: u32, end: ConnectionEnd, out: &mut O) -> Stop
+    ensures lined { IsLined number end (status_of result) (O.contents out.old) (O.contents out.new) }
+    ensures failed { result ≡ Stop.WriteFault → Rose (O.faults out.old) (O.faults out.new) }
+    ensures kept { result ≢ Stop.WriteFault → O.faults out.new ≡ O.faults out.old }
 {
     let Ok(line) = connection_line(alloc, number, end) else {
-        return 8;
+        return Stop::OutOfMemory;
     };
     match write_all(out, line.as_slice()) {
-        Ok(()) => 0,
-        Err(Failed) => 3,
+        Ok(()) => Stop::Done,
+        Err(Failed) => Stop::WriteFault,
     }
 }
 
-/// Serves a connection, gives it back, and prints its line. Answers 0, 3 or 8.
+/// Serves a connection, gives it back, and prints its line. Answers `Done`, or what ends the run.
 fn serve_wire<O: Sink, D: Door>(
     alloc: Global,
     history: &History,
@@ -37,15 +39,15 @@ fn serve_wire<O: Sink, D: Door>(
     out: &mut O,
     door: &mut D,
     wire: D::Wire,
-) -> u8
+) -> Stop
     ensures told { (before : Option (List Connection))
         → IsFresh before (D.log door.old) (D.Wire.number wire) (D.Wire.start wire) (D.Wire.left wire)
         (D.Wire.contents wire) (D.Wire.Source.faults wire) (D.Wire.Sink.faults wire)
-        → IsTold history.now.versions settings.now number result before (D.log door.new)
+        → IsTold history.now.versions settings.now number (status_of result) before (D.log door.new)
         (O.contents out.old) (O.contents out.new) }
-    ensures ends { (result ≡ 0) ⊎ (result ≡ 3) ⊎ (result ≡ 8) }
-    ensures failed { result ≡ 3 → Rose (O.faults out.old) (O.faults out.new) }
-    ensures kept { result ≢ 3 → O.faults out.new ≡ O.faults out.old }
+    ensures ends { (result ≡ Stop.Done) ⊎ (result ≡ Stop.WriteFault) ⊎ (result ≡ Stop.OutOfMemory) }
+    ensures failed { result ≡ Stop.WriteFault → Rose (O.faults out.old) (O.faults out.new) }
+    ensures kept { result ≢ Stop.WriteFault → O.faults out.new ≡ O.faults out.old }
     ensures door_kept { D.faults door.new ≡ D.faults door.old }
     ensures coming { D.coming door.new ≡ D.coming door.old }
 {
@@ -55,23 +57,23 @@ fn serve_wire<O: Sink, D: Door>(
     print_end(alloc, number, end, out)
 }
 
-/// Says why the journal was refused, and answers the status that ends the run.
-fn refuse<O: Sink>(alloc: Global, fault: JournalFault, out: &mut O) -> u8
-    ensures refusal { IsRefusal fault result (O.contents out.old) (O.contents out.new) }
-    ensures ends { (result ≡ 2) ⊎ (result ≡ 3) ⊎ (result ≡ 7) ⊎ (result ≡ 8) }
-    ensures journal_failed { result ≡ 2 → fault ≡ JournalFault.ReadFault }
-    ensures journal_kept { result ≢ 2 → fault ≢ JournalFault.ReadFault }
-    ensures failed { result ≡ 3 → Rose (O.faults out.old) (O.faults out.new) }
-    ensures kept { result ≢ 3 → O.faults out.new ≡ O.faults out.old }
+/// Says why the journal was refused, and answers what ends the run.
+fn refuse<O: Sink>(alloc: Global, fault: JournalFault, out: &mut O) -> Stop
+    ensures refusal { IsRefusal fault (status_of result) (O.contents out.old) (O.contents out.new) }
+    ensures ends { (result ≡ Stop.ReadFault) ⊎ (result ≡ Stop.WriteFault) ⊎ (result ≡ Stop.BadJournal) ⊎ (result ≡ Stop.OutOfMemory) }
+    ensures journal_failed { result ≡ Stop.ReadFault → fault ≡ JournalFault.ReadFault }
+    ensures journal_kept { result ≢ Stop.ReadFault → fault ≢ JournalFault.ReadFault }
+    ensures failed { result ≡ Stop.WriteFault → Rose (O.faults out.old) (O.faults out.new) }
+    ensures kept { result ≢ Stop.WriteFault → O.faults out.new ≡ O.faults out.old }
 {
     match answer_fault(alloc, fault, out) {
-        Ok(status) => status,
-        Err(OutOfMemory) => 8,
+        Ok(stop) => stop,
+        Err(OutOfMemory) => Stop::OutOfMemory,
     }
 }
 
-/// Lets the history grow from the journal, and serves a connection that the door gave. Answers 0, or the status that ends the
-/// run.
+/// Lets the history grow from the journal, and serves a connection that the door gave. Answers `Done`, or what ends
+/// the run.
 fn take_turn<J: Source, O: Sink, D: Door>(
     alloc: Global,
     history: &mut History,
@@ -81,18 +83,18 @@ fn take_turn<J: Source, O: Sink, D: Door>(
     out: &mut O,
     door: &mut D,
     wire: D::Wire,
-) -> u8
+) -> Stop
     ensures turn { (before : Option (List Connection))
         → IsFresh before (D.log door.old) (D.Wire.number wire) (D.Wire.start wire) (D.Wire.left wire)
         (D.Wire.contents wire) (D.Wire.Source.faults wire) (D.Wire.Sink.faults wire)
-        → IsTurn settings.now number result
+        → IsTurn settings.now number (status_of result)
         (record { left = J.left journal.old; kept = history.old; held = O.contents out.old; log = before })
         (record { left = J.left journal.new; kept = history.new; held = O.contents out.new; log = D.log door.new }) }
-    ensures ends { (result ≡ 0) ⊎ (result ≡ 2) ⊎ (result ≡ 3) ⊎ (result ≡ 7) ⊎ (result ≡ 8) }
-    ensures read_failed { result ≡ 2 → Rose (J.faults journal.old) (J.faults journal.new) }
-    ensures read_kept { result ≢ 2 → J.faults journal.new ≡ J.faults journal.old }
-    ensures failed { result ≡ 3 → Rose (O.faults out.old) (O.faults out.new) }
-    ensures kept { result ≢ 3 → O.faults out.new ≡ O.faults out.old }
+    ensures ends { (result ≡ Stop.Done) ⊎ (result ≡ Stop.ReadFault) ⊎ (result ≡ Stop.WriteFault) ⊎ (result ≡ Stop.BadJournal) ⊎ (result ≡ Stop.OutOfMemory) }
+    ensures read_failed { result ≡ Stop.ReadFault → Rose (J.faults journal.old) (J.faults journal.new) }
+    ensures read_kept { result ≢ Stop.ReadFault → J.faults journal.new ≡ J.faults journal.old }
+    ensures failed { result ≡ Stop.WriteFault → Rose (O.faults out.old) (O.faults out.new) }
+    ensures kept { result ≢ Stop.WriteFault → O.faults out.new ≡ O.faults out.old }
     ensures door_kept { D.faults door.new ≡ D.faults door.old }
     ensures coming { D.coming door.new ≡ D.coming door.old }
 {
@@ -105,7 +107,7 @@ fn take_turn<J: Source, O: Sink, D: Door>(
     }
 }
 
-/// Takes the next connection, and what follows on it. Answers the status that ends the run, or `None` where it goes on.
+/// Takes the next connection, and what follows on it. Answers what ends the run, or `None` where it goes on.
 fn take_next<J: Source, O: Sink, D: Door>(
     alloc: Global,
     history: &mut History,
@@ -114,35 +116,35 @@ fn take_next<J: Source, O: Sink, D: Door>(
     journal: &mut J,
     out: &mut O,
     door: &mut D,
-) -> Option<u8>
+) -> Option<Stop>
     ensures goes_on { IfNone result (IsTurn settings.now number 0
         (record { left = J.left journal.old; kept = history.old; held = O.contents out.old; log = D.log door.old })
         (record { left = J.left journal.new; kept = history.new; held = O.contents out.new; log = D.log door.new })) }
-    ensures stops { IfSome result (λ status. StopsAt settings.now number status
+    ensures stops { IfSome result (λ stop. StopsAt settings.now number (status_of stop)
         (record { left = J.left journal.old; kept = history.old; held = O.contents out.old; log = D.log door.old })
         (record { left = J.left journal.new; kept = history.new; held = O.contents out.new; log = D.log door.new }) (D.coming door.new)) }
-    ensures ends { IfSome result (λ status.
-        (status ≡ 0) ⊎ (status ≡ 2) ⊎ (status ≡ 3) ⊎ (status ≡ 7) ⊎ (status ≡ 8) ⊎ (status ≡ 9)) }
-    ensures read_failed { result ≡ Some 2 → Rose (J.faults journal.old) (J.faults journal.new) }
-    ensures read_kept { result ≢ Some 2 → J.faults journal.new ≡ J.faults journal.old }
-    ensures failed { result ≡ Some 3 → Rose (O.faults out.old) (O.faults out.new) }
-    ensures kept { result ≢ Some 3 → O.faults out.new ≡ O.faults out.old }
-    ensures door_failed { result ≡ Some 9 → Rose (D.faults door.old) (D.faults door.new) }
-    ensures door_kept { result ≢ Some 9 → D.faults door.new ≡ D.faults door.old }
+    ensures ends { IfSome result (λ stop.
+        (stop ≡ Stop.Done) ⊎ (stop ≡ Stop.ReadFault) ⊎ (stop ≡ Stop.WriteFault) ⊎ (stop ≡ Stop.BadJournal) ⊎ (stop ≡ Stop.OutOfMemory) ⊎ (stop ≡ Stop.DoorFault)) }
+    ensures read_failed { result ≡ Some Stop.ReadFault → Rose (J.faults journal.old) (J.faults journal.new) }
+    ensures read_kept { result ≢ Some Stop.ReadFault → J.faults journal.new ≡ J.faults journal.old }
+    ensures failed { result ≡ Some Stop.WriteFault → Rose (O.faults out.old) (O.faults out.new) }
+    ensures kept { result ≢ Some Stop.WriteFault → O.faults out.new ≡ O.faults out.old }
+    ensures door_failed { result ≡ Some Stop.DoorFault → Rose (D.faults door.old) (D.faults door.new) }
+    ensures door_kept { result ≢ Some Stop.DoorFault → D.faults door.new ≡ D.faults door.old }
 {
     match door.next() {
         Ok(Some(wire)) => {
             match take_turn(alloc, history, settings, number, journal, out, door, wire) {
-                0 => None,
-                status => Some(status),
+                Stop::Done => None,
+                stop => Some(stop),
             }
         }
-        Ok(None) => Some(0),
-        Err(Failed) => Some(9),
+        Ok(None) => Some(Stop::Done),
+        Err(Failed) => Some(Stop::DoorFault),
     }
 }
 
-/// Serves so many connections, and answers the status that ends the run.
+/// Serves so many connections, and answers what ends the run.
 fn serve_connections<J: Source, O: Sink, D: Door>(
     alloc: Global,
     history: &mut History,
@@ -151,27 +153,27 @@ fn serve_connections<J: Source, O: Sink, D: Door>(
     journal: &mut J,
     out: &mut O,
     door: &mut D,
-) -> u8
-    ensures run { HasRun settings.now connections result
+) -> Stop
+    ensures run { HasRun settings.now connections (status_of result)
         (record { left = J.left journal.old; kept = history.old; held = O.contents out.old; log = D.log door.old })
         (record { left = J.left journal.new; kept = history.new; held = O.contents out.new; log = D.log door.new }) (D.coming door.new) }
-    ensures ends { (result ≡ 0) ⊎ (result ≡ 2) ⊎ (result ≡ 3) ⊎ (result ≡ 7) ⊎ (result ≡ 8) ⊎ (result ≡ 9) }
-    ensures read_failed { result ≡ 2 → Rose (J.faults journal.old) (J.faults journal.new) }
-    ensures read_kept { result ≢ 2 → J.faults journal.new ≡ J.faults journal.old }
-    ensures failed { result ≡ 3 → Rose (O.faults out.old) (O.faults out.new) }
-    ensures kept { result ≢ 3 → O.faults out.new ≡ O.faults out.old }
-    ensures door_failed { result ≡ 9 → Rose (D.faults door.old) (D.faults door.new) }
-    ensures door_kept { result ≢ 9 → D.faults door.new ≡ D.faults door.old }
+    ensures ends { (result ≡ Stop.Done) ⊎ (result ≡ Stop.ReadFault) ⊎ (result ≡ Stop.WriteFault) ⊎ (result ≡ Stop.BadJournal) ⊎ (result ≡ Stop.OutOfMemory) ⊎ (result ≡ Stop.DoorFault) }
+    ensures read_failed { result ≡ Stop.ReadFault → Rose (J.faults journal.old) (J.faults journal.new) }
+    ensures read_kept { result ≢ Stop.ReadFault → J.faults journal.new ≡ J.faults journal.old }
+    ensures failed { result ≡ Stop.WriteFault → Rose (O.faults out.old) (O.faults out.new) }
+    ensures kept { result ≢ Stop.WriteFault → O.faults out.new ≡ O.faults out.old }
+    ensures door_failed { result ≡ Stop.DoorFault → Rose (D.faults door.old) (D.faults door.new) }
+    ensures door_kept { result ≢ Stop.DoorFault → D.faults door.new ≡ D.faults door.old }
 {
     for taken in 0..connections {
-        if let Some(status) = take_next(alloc, history, settings, taken + 1, journal, out, door) {
-            return status;
+        if let Some(stop) = take_next(alloc, history, settings, taken + 1, journal, out, door) {
+            return stop;
         }
     }
-    0
+    Stop::Done
 }
 
-/// Loads the journal, and serves so many connections. Answers the status of the run.
+/// Loads the journal, and serves so many connections. Answers what ends the run.
 pub(crate) fn serve<J: Source, O: Sink, D: Door>(
     alloc: Global,
     settings: &Settings,
@@ -179,16 +181,16 @@ pub(crate) fn serve<J: Source, O: Sink, D: Door>(
     journal: &mut J,
     out: &mut O,
     door: &mut D,
-) -> u8
-    ensures run { IsServeRun settings.now connections result (J.left journal.old) (J.left journal.new)
+) -> Stop
+    ensures run { IsServeRun settings.now connections (status_of result) (J.left journal.old) (J.left journal.new)
         (O.contents out.old) (O.contents out.new) (D.log door.old) (D.log door.new) (D.coming door.new) }
-    ensures ends { (result ≡ 0) ⊎ (result ≡ 2) ⊎ (result ≡ 3) ⊎ (result ≡ 7) ⊎ (result ≡ 8) ⊎ (result ≡ 9) }
-    ensures read_failed { result ≡ 2 → Rose (J.faults journal.old) (J.faults journal.new) }
-    ensures read_kept { result ≢ 2 → J.faults journal.new ≡ J.faults journal.old }
-    ensures failed { result ≡ 3 → Rose (O.faults out.old) (O.faults out.new) }
-    ensures kept { result ≢ 3 → O.faults out.new ≡ O.faults out.old }
-    ensures door_failed { result ≡ 9 → Rose (D.faults door.old) (D.faults door.new) }
-    ensures door_kept { result ≢ 9 → D.faults door.new ≡ D.faults door.old }
+    ensures ends { (result ≡ Stop.Done) ⊎ (result ≡ Stop.ReadFault) ⊎ (result ≡ Stop.WriteFault) ⊎ (result ≡ Stop.BadJournal) ⊎ (result ≡ Stop.OutOfMemory) ⊎ (result ≡ Stop.DoorFault) }
+    ensures read_failed { result ≡ Stop.ReadFault → Rose (J.faults journal.old) (J.faults journal.new) }
+    ensures read_kept { result ≢ Stop.ReadFault → J.faults journal.new ≡ J.faults journal.old }
+    ensures failed { result ≡ Stop.WriteFault → Rose (O.faults out.old) (O.faults out.new) }
+    ensures kept { result ≢ Stop.WriteFault → O.faults out.new ≡ O.faults out.old }
+    ensures door_failed { result ≡ Stop.DoorFault → Rose (D.faults door.old) (D.faults door.new) }
+    ensures door_kept { result ≢ Stop.DoorFault → D.faults door.new ≡ D.faults door.old }
 {
     cuts_make_no_difference();
     match History::load(alloc, journal) {

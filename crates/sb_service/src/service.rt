@@ -12,6 +12,7 @@ ghost use Rattle.sb_service.specs.Serving.{HasNoBadLine, IsServeRun};
 use crate::answer::answer;
 use crate::command::{Command, command_of};
 use crate::serve::serve;
+use crate::stop::{Stop, status_of};
 use hash_messages::{find_values_read_one_way, find_values_read_or_have_a_fault};
 use list_versions::cuts_make_no_difference;
 use sb_model::OutOfMemory;
@@ -30,8 +31,8 @@ fn tell_usage<O: Sink>(out: &mut O) -> u8
     ensures usage { TellsUsage USAGE.now (O.contents out.old) (O.contents out.new) (O.faults out.old) (O.faults out.new) }
 {
     match write_all(out, USAGE.as_bytes()) {
-        Ok(()) => 1,
-        Err(Failed) => 1,
+        Ok(()) => status_of(Stop::NoCommand),
+        Err(Failed) => status_of(Stop::NoCommand),
     }
 }
 
@@ -65,13 +66,13 @@ fn run_command<J: Source, S: Source, O: Sink, D: Door>(
         Command::Answer { kind, settings } => match answer(
             alloc, &settings, kind, journal, input, out,
         ) {
-            Ok(status) => status,
-            Err(OutOfMemory) => 8,
+            Ok(stop) => status_of(stop),
+            Err(OutOfMemory) => status_of(Stop::OutOfMemory),
         },
         Command::Serve {
             settings,
             connections,
-        } => serve(alloc, &settings, connections, journal, out, door),
+        } => status_of(serve(alloc, &settings, connections, journal, out, door)),
     }
 }
 
@@ -169,6 +170,6 @@ pub fn run_server<J: Source, S: Source, O: Sink, D: Door>(
     match command_of(alloc, words) {
         Ok(Some(command)) => run_command(alloc, command, journal, input, out, door),
         Ok(None) => tell_usage(out),
-        Err(OutOfMemory) => 8,
+        Err(OutOfMemory) => status_of(Stop::OutOfMemory),
     }
 }

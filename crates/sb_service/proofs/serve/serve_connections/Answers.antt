@@ -1,4 +1,6 @@
 use Rattle.std.proofs.Common.{◌+◌, ◌<◌, [], refl, ◌∙◌, arith}
+use Rattle.sb_service.specs.Stops.{status_of}
+use Rattle.sb_service.proofs.Stops.{one_reason}
 use Rattle.sb_service.proofs.Turns.{no_turn, one_more, stopped}
 use Rattle.sb_service.proofs.serve.serve_connections.Goals as goal
 
@@ -22,5 +24,14 @@ pub returns-in-Some-clause-run : goal.returns-in-Some-clause-run
 returns-in-Some-clause-run g c =
     let inv = c.loop-taken.invariant in
     let few : c.loop-taken.taken < c.args.connections = c.loop-taken-test.true in
-    stopped c.args.settings.now c.args.connections (c.loop-taken.taken + 1) c.in-Some.status inv.0 _ _ _ _
+    stopped c.args.settings.now c.args.connections (c.loop-taken.taken + 1) (status_of c.in-Some.stop) inv.0 _ _ _ _
     (omega (arith, inv.1)) (omega (arith, few)) inv.2 c.in-Some.ensures.stops
+
+pub returns-in-Some-clause-read_kept : goal.returns-in-Some-clause-read_kept
+returns-in-Some-clause-read_kept g c = λ no. c.in-Some.ensures.read_kept (λ e. no (one_reason _ _ e)) ∙ c.loop-taken.invariant.3
+
+pub returns-in-Some-clause-kept : goal.returns-in-Some-clause-kept
+returns-in-Some-clause-kept g c = λ no. c.in-Some.ensures.kept (λ e. no (one_reason _ _ e)) ∙ c.loop-taken.invariant.4
+
+pub returns-in-Some-clause-door_kept : goal.returns-in-Some-clause-door_kept
+returns-in-Some-clause-door_kept g c = λ no. c.in-Some.ensures.door_kept (λ e. no (one_reason _ _ e)) ∙ c.loop-taken.invariant.5

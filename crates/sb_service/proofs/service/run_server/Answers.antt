@@ -1,3 +1,5 @@
+use Rattle.std.proofs.Common.{ℕ, sym, subst}
+use Rattle.sb_service.specs.Serving.{IsServeRun}
 use Rattle.sb_service.proofs.Runs.{ReadsOrFails, answered, served, none_risen, not_risen, not_8, zero_or_memory}
 use Rattle.sb_service.proofs.Commands.{is_answer, is_other, is_serve}
 use Rattle.sb_service.proofs.Turns.{nothing_done}
@@ -51,7 +53,13 @@ returns-in-Ok-Some-clause-no_input g c line words =
     c.run_command.ensures.unread line.settings line.connections (is_serve _ _ _ line c.in-Ok-Some.ensures c.in-Ok-Some.field-0-is words)
 
 pub returns-in-Err-clause-serves : goal.returns-in-Err-clause-serves
-returns-in-Err-clause-serves g c line words = nothing_done _ _ _ _ _ _
+returns-in-Err-clause-serves g c line words =
+    let journal = g.J.Source.left c.args.journal.now in
+    let held = g.O.Sink.contents c.args.out.now in
+    let log = g.D.Door.log c.args.door.now in
+    let coming = g.D.Door.coming c.args.door.now in
+    subst (λ (status : ℕ). IsServeRun line.settings line.connections status journal journal held held log log coming) (sym c.status_of.ensures)
+    (nothing_done line.settings line.connections journal held log coming)
 
 pub returns-in-Ok-Some-clause-serves_all : goal.returns-in-Ok-Some-clause-serves_all
 returns-in-Ok-Some-clause-serves_all g c line pieces words told none journal out door =
