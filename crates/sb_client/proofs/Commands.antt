@@ -283,6 +283,22 @@ is_no_run words command h none plan e =
     let same = found.1 in
     cc
 
+-- nor one that reads the input, of words that are none of these
+pub no_reader : (words : List (List ℕ)) (command : Command) → IsCommandOf words (Some command) → replay_of words ≡ None → asks_show words ≡ false
+    → ((names : List ListName) → command ≢ Replay names) × (command ≢ Show)
+no_reader words (Replay names) h no_replay no_show = absurd (cc)
+no_reader words (Run plan) h no_replay no_show = ((λ names e. cc), λ e. cc)
+no_reader words Show h no_replay no_show = absurd (cc)
+no_reader words Vectors h no_replay no_show = ((λ names e. cc), λ e. cc)
+
+-- of words that are none of three commands, the fourth alone is one
+pub vectors_alone : (words : List (List ℕ)) (command : Command) → IsCommandOf words (Some command) → replay_of words ≡ None → run_of words ≡ None → asks_show words ≡ false
+    → command ≡ Vectors
+vectors_alone words (Replay names) h no_replay no_run no_show = absurd (cc)
+vectors_alone words (Run plan) h no_replay no_run no_show = absurd (is_no_run words (Run plan) h no_run plan refl)
+vectors_alone words Show h no_replay no_run no_show = absurd (cc)
+vectors_alone words Vectors h no_replay no_run no_show = refl
+
 -- a command is some command
 pub no_command : (words : List (List ℕ)) (command : Command) → IsCommandOf words (Some command) → IsNoCommand words → ⊥
 no_command words (Replay names) h none = let other = none.replay in cc

@@ -1,63 +1,133 @@
 -- How a run can end.
-use Rattle.std.proofs.Common.{◌≡◌, ◌≢◌, ℕ, ◌-◌, ◌^◌, ◌<◌, ◌≤◌, ◌⊎◌, inl, inr, List, [], ◌∷◌, ◌++◌, Bool, true, false, length, refl, sym, ap, ◌∙◌, subst, Option, Some, None, arith, length-append}
-use Rattle.std.specs.List.{onto_first}
-use Rattle.sb_outside.specs.Outside.{next_piece, Rose, bytes_left, prepended}
-use Rattle.sb_client.specs.Lines.{is_newline, lines_of, IsWithinLimits}
-use Rattle.sb_client.specs.Input.{GivesPast}
-use Rattle.sb_client.specs.Replay.{IsStatus}
-use Rattle.sb_client.proofs.LineCuts.{lines-newline, lines-other, onto_some}
-
--- a longer text has no fewer lines
-onto_one : (b : ℕ) (ls ms : List (List ℕ)) → length ls ≤ length ms → length (onto_first b ls) ≤ length (onto_first b ms)
-onto_one b [] ms h = omega (arith, onto_some b ms)
-onto_one b (l ∷ ls) [] h = absurd (omega arith)
-onto_one b (l ∷ ls) (m ∷ ms) h = h
-
-front_by : (b : ℕ) (bs more : List ℕ) (t : Bool) → is_newline b ≡ t → length (lines_of bs) ≤ length (lines_of (bs ++ more)) → length (lines_of (b ∷ bs)) ≤ length (lines_of (b ∷ (bs ++ more)))
-front_by b bs more true e h = omega (arith, ap length (lines-newline b bs e), ap length (lines-newline b (bs ++ more) e), h)
-front_by b bs more false e h = omega (arith, ap length (lines-other b bs e), ap length (lines-other b (bs ++ more) e), onto_one b (lines_of bs) (lines_of (bs ++ more)) h)
-
-pub lines_of_front : (text more : List ℕ) → length (lines_of text) ≤ length (lines_of (text ++ more))
-lines_of_front [] more = omega arith
-lines_of_front (b ∷ bs) more = front_by b bs more _ refl (lines_of_front bs more)
-
--- a front of a text within the limits is within them
-pub front_within : (front more : List ℕ) → IsWithinLimits (front ++ more) → IsWithinLimits front
-front_within front more h = record { bytes = omega (arith, h.bytes, length-append front more); lines = omega (arith, h.lines, lines_of_front front more) }
-
--- an input within the limits is not past them
-known_past : (pieces : List (List ℕ)) (after : Option (List (List ℕ))) (given : List ℕ) → Some (next_piece pieces) ≡ prepended given (bytes_left after) → IsWithinLimits (next_piece pieces) → IsWithinLimits given
-known_past pieces None given e h = absurd (cc)
-known_past pieces (Some left) given e h =
-    let whole : next_piece pieces ≡ given ++ next_piece left = cc in
-    front_within given (next_piece left) (subst IsWithinLimits whole h)
-
-pub not_past : (before after : Option (List (List ℕ))) (pieces : List (List ℕ)) → before ≡ Some pieces → IsWithinLimits (next_piece pieces) → GivesPast before after → ⊥
-not_past before after pieces e h past = past.past (known_past pieces after past.given (ap bytes_left (sym e) ∙ past.gives.front) h)
+use Rattle.std.proofs.Common.{◌≡◌, ◌≢◌, ℕ, ◌⊎◌, inl, inr, List, Bool, true, false, refl, sym, ap, ◌∙◌, Option, Ok, Err, arith}
+use Rattle.std.specs.Prelude.{IfOk, IsErrOf}
+use Rattle.sb_outside.specs.Outside.{Rose}
+use Rattle.input_lines.specs.Input.{GivesPast, GivesWithin}
+use Rattle.sb_client.specs.declared.stop.Stop.{Stop}
+use Rattle.sb_client.specs.declared.stop.Stop.TheVariants.{ReadFault, WriteFault, PastLimits, OutOfMemory}
+use Rattle.sb_client.specs.Ending.{Ending, EndsReading, IsReadingRun, status_after, status_of}
+use Rattle.sb_client.specs.Runs.{HasNoFault, IsFaultOf, IsStatus}
 
 -- a count that stayed below its end did not rise
-pub not_risen : (before after : ℕ) → after ≡ before → before < 2 ^ 64 - 1 → Rose before after → ⊥
-not_risen before after e l r = omega (arith, e, l, r)
+pub not_risen : (before after : ℕ) → HasNoFault before after → Rose before after → ⊥
+not_risen before after h rose = omega (arith, h.kept, h.low, rose)
 
--- of all statuses three are left to a replay, and three to a run of `show`
-pub left_over : (status : ℕ) → IsStatus status → status ≢ 1 → (status ≡ 2 → ⊥) → (status ≡ 3 → ⊥) → (status ≡ 6 → ⊥) → (status ≢ 4) × (status ≢ 21) → (status ≡ 0) ⊎ (status ≡ 5) ⊎ (status ≡ 8)
-left_over status (inl h) one two three six last = inl h
-left_over status (inr (inl h)) one two three six last = absurd (one h)
-left_over status (inr (inr (inl h))) one two three six last = absurd (two h)
-left_over status (inr (inr (inr (inl h)))) one two three six last = absurd (three h)
-left_over status (inr (inr (inr (inr (inl h))))) one two three six last = absurd (last.0 h)
-left_over status (inr (inr (inr (inr (inr (inl h)))))) one two three six last = inr (inl h)
-left_over status (inr (inr (inr (inr (inr (inr (inl h))))))) one two three six last = absurd (six h)
-left_over status (inr (inr (inr (inr (inr (inr (inr (inl h)))))))) one two three six last = inr (inr h)
-left_over status (inr (inr (inr (inr (inr (inr (inr (inr h)))))))) one two three six last = absurd (last.1 h)
+-- ---- the end of a command that reads its input
 
-pub left_to_show : (status : ℕ) → IsStatus status → status ≢ 1 → (status ≡ 2 → ⊥) → (status ≡ 3 → ⊥) → (status ≡ 6 → ⊥) → (status ≢ 4) × (status ≢ 5) → (status ≡ 0) ⊎ (status ≡ 21) ⊎ (status ≡ 8)
-left_to_show status (inl h) one two three six last = inl h
-left_to_show status (inr (inl h)) one two three six last = absurd (one h)
-left_to_show status (inr (inr (inl h))) one two three six last = absurd (two h)
-left_to_show status (inr (inr (inr (inl h)))) one two three six last = absurd (three h)
-left_to_show status (inr (inr (inr (inr (inl h))))) one two three six last = absurd (last.0 h)
-left_to_show status (inr (inr (inr (inr (inr (inl h)))))) one two three six last = absurd (last.1 h)
-left_to_show status (inr (inr (inr (inr (inr (inr (inl h))))))) one two three six last = absurd (six h)
-left_to_show status (inr (inr (inr (inr (inr (inr (inr (inl h)))))))) one two three six last = inr (inr h)
-left_to_show status (inr (inr (inr (inr (inr (inr (inr (inr h)))))))) one two three six last = inr (inl h)
+pub ended : (Whole : Bool → Type 0) (Part : Type 0) (left left' : Option (List (List ℕ))) (held held' : Option (List ℕ)) (ending : Ending)
+    → IfOk ending Whole
+    → (IsErrOf ending ReadFault → GivesWithin left left' × (held' ≡ held)) → (IsErrOf ending PastLimits → GivesPast left left' × (held' ≡ held))
+    → (IsErrOf ending WriteFault → Part) → (IsErrOf ending OutOfMemory → (held' ≡ held) ⊎ Part)
+    → EndsReading Whole Part ending left left' held held'
+ended Whole Part left left' held held' (Ok refused) whole read past write memory = whole
+ended Whole Part left left' held held' (Err ReadFault) whole read past write memory = read refl
+ended Whole Part left left' held held' (Err PastLimits) whole read past write memory = past refl
+ended Whole Part left left' held held' (Err WriteFault) whole read past write memory = write refl
+ended Whole Part left left' held held' (Err OutOfMemory) whole read past write memory = memory refl
+
+-- a refusal has the status of no stop
+abbrev pub IsRefusal : ℕ → Type 0
+IsRefusal refusal = (refusal ≡ 5) ⊎ (refusal ≡ 21)
+
+no_stop : (refusal : ℕ) (refused : Bool) (stop : Stop) (status : ℕ) → IsRefusal refusal → status ≡ status_of refusal (Ok refused) → status ≡ status_after stop → ⊥
+no_stop refusal false ReadFault status r told h = cc
+no_stop refusal false WriteFault status r told h = cc
+no_stop refusal false PastLimits status r told h = cc
+no_stop refusal false OutOfMemory status r told h = cc
+no_stop refusal true ReadFault status (inl r) told h = cc
+no_stop refusal true ReadFault status (inr r) told h = cc
+no_stop refusal true WriteFault status (inl r) told h = cc
+no_stop refusal true WriteFault status (inr r) told h = cc
+no_stop refusal true PastLimits status (inl r) told h = cc
+no_stop refusal true PastLimits status (inr r) told h = cc
+no_stop refusal true OutOfMemory status (inl r) told h = cc
+no_stop refusal true OutOfMemory status (inr r) told h = cc
+
+-- stops have statuses of their own
+same_stop : (a b : Stop) → status_after a ≡ status_after b → a ≡ b
+same_stop ReadFault ReadFault h = refl
+same_stop ReadFault WriteFault h = absurd (cc)
+same_stop ReadFault PastLimits h = absurd (cc)
+same_stop ReadFault OutOfMemory h = absurd (cc)
+same_stop WriteFault ReadFault h = absurd (cc)
+same_stop WriteFault WriteFault h = refl
+same_stop WriteFault PastLimits h = absurd (cc)
+same_stop WriteFault OutOfMemory h = absurd (cc)
+same_stop PastLimits ReadFault h = absurd (cc)
+same_stop PastLimits WriteFault h = absurd (cc)
+same_stop PastLimits PastLimits h = refl
+same_stop PastLimits OutOfMemory h = absurd (cc)
+same_stop OutOfMemory ReadFault h = absurd (cc)
+same_stop OutOfMemory WriteFault h = absurd (cc)
+same_stop OutOfMemory PastLimits h = absurd (cc)
+same_stop OutOfMemory OutOfMemory h = refl
+
+-- a status that a stop has is of that stop
+pub stop_of : (refusal : ℕ) (ending : Ending) (stop : Stop) (status : ℕ) → IsRefusal refusal → status ≡ status_of refusal ending → status ≡ status_after stop → IsErrOf ending stop
+stop_of refusal (Ok refused) stop status r told h = absurd (no_stop refusal refused stop status r told h)
+stop_of refusal (Err other) stop status r told h = ap Err (same_stop other stop (sym told ∙ h))
+
+-- a fault that is counted has its status
+pub fault_of : {before after : ℕ} (refusal : ℕ) (ending : Ending) (stop : Stop) (status : ℕ) → IsRefusal refusal → status ≡ status_of refusal ending
+    → (IsErrOf ending stop → Rose before after) → (ending ≢ Err stop → after ≡ before) → IsFaultOf (status_after stop) status before after
+fault_of refusal ending stop status r told rose kept = record {
+  rose = λ h. rose (stop_of refusal ending stop status r told h);
+  kept = λ other. kept (λ is. other (told ∙ ap (status_of refusal) is));
+}
+
+-- and a count that stayed has no fault
+pub no_fault : {before after : ℕ} (fault status : ℕ) → status ≢ fault → after ≡ before → IsFaultOf fault status before after
+no_fault fault status other same = record { rose = λ h. absurd (other h); kept = λ _. same }
+
+pub unwritten : {Same : Type 0} (refusal : ℕ) (ending : Ending) (status : ℕ) → IsRefusal refusal → status ≡ status_of refusal ending
+    → (IsErrOf ending ReadFault → Same) → (IsErrOf ending PastLimits → Same) → (status ≡ 2) ⊎ (status ≡ 6) → Same
+unwritten refusal ending status r told read past (inl two) = read (stop_of refusal ending ReadFault status r told two)
+unwritten refusal ending status r told read past (inr six) = past (stop_of refusal ending PastLimits status r told six)
+
+-- ---- the statuses
+
+pub known_status : (refusal : ℕ) (ending : Ending) (status : ℕ) → IsRefusal refusal → status ≡ status_of refusal ending → IsStatus status × (status ≢ 1) × (status ≢ 4)
+known_status refusal (Ok false) status r told = (inl told, (λ h. cc), λ h. cc)
+known_status refusal (Ok true) status (inl r) told = (inr (inr (inr (inr (inr (inl (told ∙ r)))))), (λ h. cc), λ h. cc)
+known_status refusal (Ok true) status (inr r) told = (inr (inr (inr (inr (inr (inr (inr (inr (told ∙ r)))))))), (λ h. cc), λ h. cc)
+known_status refusal (Err ReadFault) status r told = (inr (inr (inl told)), (λ h. cc), λ h. cc)
+known_status refusal (Err WriteFault) status r told = (inr (inr (inr (inl told))), (λ h. cc), λ h. cc)
+known_status refusal (Err PastLimits) status r told = (inr (inr (inr (inr (inr (inr (inl told)))))), (λ h. cc), λ h. cc)
+known_status refusal (Err OutOfMemory) status r told = (inr (inr (inr (inr (inr (inr (inr (inl told))))))), (λ h. cc), λ h. cc)
+
+-- where nothing hinders a command that reads, three are left
+left_by : (Whole : Bool → Type 0) (Part : Type 0) (left left' : Option (List (List ℕ))) (held held' : Option (List ℕ)) (refusal : ℕ) (ending : Ending) (status : ℕ)
+    → status ≡ status_of refusal ending → EndsReading Whole Part ending left left' held held'
+    → (status ≡ 2 → ⊥) → (status ≡ 3 → ⊥) → (GivesPast left left' → ⊥) → (status ≡ 0) ⊎ (status ≡ refusal) ⊎ (status ≡ 8)
+left_by Whole Part left left' held held' refusal (Ok false) status told done two three past = inl told
+left_by Whole Part left left' held held' refusal (Ok true) status told done two three past = inr (inl told)
+left_by Whole Part left left' held held' refusal (Err ReadFault) status told done two three past = absurd (two told)
+left_by Whole Part left left' held held' refusal (Err WriteFault) status told done two three past = absurd (three told)
+left_by Whole Part left left' held held' refusal (Err PastLimits) status told done two three past = absurd (past done.0)
+left_by Whole Part left left' held held' refusal (Err OutOfMemory) status told done two three past = inr (inr told)
+
+pub left_over : {Whole : Bool → Type 0} {Part : Type 0} {left left' : Option (List (List ℕ))} {held held' : Option (List ℕ)} {refusal status : ℕ}
+    → IsReadingRun refusal Whole Part status left left' held held'
+    → (status ≡ 2 → ⊥) → (status ≡ 3 → ⊥) → (GivesPast left left' → ⊥) → (status ≡ 0) ⊎ (status ≡ refusal) ⊎ (status ≡ 8)
+left_over {refusal = refusal} {status = status} run two three past = left_by _ _ _ _ _ _ refusal run.ending status run.told run.done two three past
+
+-- one that came to its end wrote its text whole
+whole_by : (Whole : Bool → Type 0) (Part : Type 0) (left left' : Option (List (List ℕ))) (held held' : Option (List ℕ)) (ending : Ending) (status : ℕ)
+    → status ≡ status_of 5 ending → EndsReading Whole Part ending left left' held held' → (status ≡ 0) ⊎ (status ≡ 5) → (refused : Bool) × Whole refused
+whole_by Whole Part left left' held held' (Ok refused) status told done end = (refused, done)
+whole_by Whole Part left left' held held' (Err ReadFault) status told done (inl h) = absurd (cc)
+whole_by Whole Part left left' held held' (Err ReadFault) status told done (inr h) = absurd (cc)
+whole_by Whole Part left left' held held' (Err WriteFault) status told done (inl h) = absurd (cc)
+whole_by Whole Part left left' held held' (Err WriteFault) status told done (inr h) = absurd (cc)
+whole_by Whole Part left left' held held' (Err PastLimits) status told done (inl h) = absurd (cc)
+whole_by Whole Part left left' held held' (Err PastLimits) status told done (inr h) = absurd (cc)
+whole_by Whole Part left left' held held' (Err OutOfMemory) status told done (inl h) = absurd (cc)
+whole_by Whole Part left left' held held' (Err OutOfMemory) status told done (inr h) = absurd (cc)
+
+pub whole_of : {Whole : Bool → Type 0} {Part : Type 0} {left left' : Option (List (List ℕ))} {held held' : Option (List ℕ)} {status : ℕ}
+    → IsReadingRun 5 Whole Part status left left' held held' → (status ≡ 0) ⊎ (status ≡ 5) → (refused : Bool) × Whole refused
+whole_of {status = status} run end = whole_by _ _ _ _ _ _ run.ending status run.told run.done end
+
+-- where memory was refused before anything was done
+pub not_begun : {Whole : Bool → Type 0} {Part : Type 0} {left : Option (List (List ℕ))} {held : Option (List ℕ)} (refusal : ℕ) → IsReadingRun refusal Whole Part 8 left left held held
+not_begun refusal = record { ending = Err OutOfMemory; told = refl; done = inl refl }

@@ -16,7 +16,7 @@ use Rattle.sb_round.specs.Run.{lists_after}
 use Rattle.sb_round.specs.Honest.{IsHonest}
 use Rattle.sb_round.specs.Collision.{candidates_of, HasNoCollision}
 use Rattle.sb_round.specs.Law.{KeepsReplicas}
-use Rattle.sb_client.specs.Lines.{lines_of}
+use Rattle.input_lines.specs.Lines.{lines_of}
 use Rattle.sb_client.specs.Readings.{Reading, AreReadings, bodies_of}
 use Rattle.sb_client.specs.Printed.{replay_text}
 use Rattle.sb_client.specs.Replay.{IsPrinted, PrintsReplicas}

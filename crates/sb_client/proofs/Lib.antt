@@ -2,10 +2,7 @@ pub mod Commands
 pub mod Endings
 pub mod ExampleDigests
 pub mod ExampleRun
-pub mod FirstBytes
 pub mod Headline
-pub mod InputLines
-pub mod LineCuts
 pub mod Outcomes
 pub mod Readings
 pub mod Replays

@@ -7,7 +7,7 @@ use Rattle.sb_outside.specs.Reading.{ReadsToEnd}
 use Rattle.sb_outside.specs.Writing.{HasFront}
 use Rattle.update_client.specs.Held.{nothing_held_of}
 use Rattle.sb_client.specs.declared.stop.Stop.TheVariants.{WriteFault}
-use Rattle.sb_client.specs.Lines.{lines_of, IsWithinLimits}
+use Rattle.input_lines.specs.Lines.{lines_of, IsWithinLimits}
 use Rattle.sb_client.specs.Writing.{IsStopped}
 use Rattle.sb_client.specs.Printed.{replay_text}
 use Rattle.sb_client.specs.Replay.{has_refusals, IsPrinted, IsPartlyPrinted}

@@ -14,7 +14,7 @@ use Rattle.sb_model.specs.Names.{name_cmp}
 use Rattle.update_client.specs.Step.{after_update, after_updates, results_of}
 use Rattle.sb_round.specs.Printed.{taken_text}
 use Rattle.sb_round.specs.Run.{lists_after}
-use Rattle.sb_client.specs.Lines.{newline}
+use Rattle.input_lines.specs.Lines.{newline}
 use Rattle.sb_client.specs.Readings.{Reading, updates_of, bodies_of}
 use Rattle.sb_client.specs.Printed.{numbered, taken_lines, body_lines, outcome_lines, list_lines, replay_text}
 use Rattle.sb_client.specs.Replay.{has_refusal, has_refusals}

@@ -1,36 +1,144 @@
--- How a run of a client can end.
-use Rattle.std.proofs.Common.{◌≡◌, ◌⊎◌, ℕ, inl, inr, true, false, refl}
+-- How a run of a client can end, and how one of any command.
+use Rattle.std.proofs.Common.{◌≡◌, ◌≢◌, ◌⊎◌, ℕ, inl, inr, Bool, true, false, not, List, Option, Ok, Err, refl, ap, ◌∙◌, subst}
+use Rattle.std.specs.Prelude.{IfOk, IsErrOf}
+use Rattle.sb_model.specs.declared.names.ListName.{ListName}
+use Rattle.sb_outside.specs.Outside.{Rose}
 use Rattle.update_run.specs.declared.plan.Plan.{Plan}
 use Rattle.update_run.specs.Run.{Seen, IsRun, StopsAfter, StopsAtKeeper, StopsForMemory}
 use Rattle.update_run.specs.Law.{IsAnyRun}
 use Rattle.update_run.specs.declared.stop.RunStop.{RunStop}
 use Rattle.update_run.specs.declared.stop.RunStop.TheVariants as stop
-use Rattle.sb_client.specs.Writing.{run_status_after}
+use Rattle.sb_client.specs.declared.command.Command.{Command}
+use Rattle.sb_client.specs.declared.command.Command.TheVariants.{Replay, Run, Show, Vectors}
+use Rattle.sb_client.specs.declared.stop.Stop.TheVariants.{ReadFault, WriteFault, PastLimits, OutOfMemory}
+use Rattle.sb_client.specs.Show.{IsCounted, IsPartlyCounted}
+use Rattle.sb_client.specs.Ending.{Ending, RunEnding, run_status_after, run_status_of, status_of}
+use Rattle.sb_client.specs.Runs.{AreCounted, EndsCounting, EndsUpdating, IsCountRun, IsFaultOf, IsReplayRun, IsRunOf, IsShowRun, IsStatus, IsUpdateRun}
+use Rattle.sb_client.proofs.Endings.{known_status, no_fault}
 
--- the statuses of a run
-abbrev pub EndsRun : ℕ → Type 0
-EndsRun status = (status ≡ 0) ⊎ (status ≡ 3) ⊎ (status ≡ 4) ⊎ (status ≡ 5) ⊎ (status ≡ 8)
+-- ---- a run of updates
 
--- with each of them it is a run
-pub any_run : (status : ℕ) (plan : Plan) (before after : Seen) → EndsRun status
-    → (status ≡ 0 → IsRun plan false before after) → (status ≡ 3 → StopsAfter plan before after) → (status ≡ 4 → StopsAtKeeper plan before after)
-    → (status ≡ 5 → IsRun plan true before after) → (status ≡ 8 → StopsForMemory plan before after) → IsAnyRun plan before after
-any_run status plan before after (inl h) whole short unkept refused memory = inr (inl (whole h))
-any_run status plan before after (inr (inl h)) whole short unkept refused memory = inr (inr (inl (short h)))
-any_run status plan before after (inr (inr (inl h))) whole short unkept refused memory = inr (inr (inr (inl (unkept h))))
-any_run status plan before after (inr (inr (inr (inl h)))) whole short unkept refused memory = inl (refused h)
-any_run status plan before after (inr (inr (inr (inr h)))) whole short unkept refused memory = inr (inr (inr (inr (memory h))))
+pub run_ended : {plan : Plan} {before after : Seen} (ending : RunEnding) → IfOk ending (λ refused. IsRun plan refused before after)
+    → (IsErrOf ending stop.WriteFault → StopsAfter plan before after) → (IsErrOf ending stop.KeepFault → StopsAtKeeper plan before after)
+    → (IsErrOf ending stop.OutOfMemory → StopsForMemory plan before after) → EndsUpdating plan ending before after
+run_ended (Ok refused) whole short unkept memory = whole
+run_ended (Err stop.WriteFault) whole short unkept memory = short refl
+run_ended (Err stop.KeepFault) whole short unkept memory = unkept refl
+run_ended (Err stop.OutOfMemory) whole short unkept memory = memory refl
+
+-- a status that a stop has is of that stop
+pub write_stop : (ending : RunEnding) (status : ℕ) → status ≡ run_status_of ending → status ≡ 3 → IsErrOf ending stop.WriteFault
+write_stop (Ok false) status told h = absurd (cc)
+write_stop (Ok true) status told h = absurd (cc)
+write_stop (Err stop.WriteFault) status told h = refl
+write_stop (Err stop.KeepFault) status told h = absurd (cc)
+write_stop (Err stop.OutOfMemory) status told h = absurd (cc)
+
+pub keep_stop : (ending : RunEnding) (status : ℕ) → status ≡ run_status_of ending → status ≡ 4 → IsErrOf ending stop.KeepFault
+keep_stop (Ok false) status told h = absurd (cc)
+keep_stop (Ok true) status told h = absurd (cc)
+keep_stop (Err stop.WriteFault) status told h = absurd (cc)
+keep_stop (Err stop.KeepFault) status told h = refl
+keep_stop (Err stop.OutOfMemory) status told h = absurd (cc)
+
+-- a fault that is counted has its status
+pub run_fault_of : {before after : ℕ} (ending : RunEnding) (stop : RunStop) (status : ℕ) → status ≡ run_status_of ending
+    → (status ≡ run_status_after stop → IsErrOf ending stop) → (IsErrOf ending stop → Rose before after) → (ending ≢ Err stop → after ≡ before)
+    → IsFaultOf (run_status_after stop) status before after
+run_fault_of ending stop status told is rose kept = record {
+  rose = λ h. rose (is h);
+  kept = λ other. kept (λ e. other (told ∙ ap run_status_of e));
+}
+
+any_by : (plan : Plan) (before after : Seen) (ending : RunEnding) → EndsUpdating plan ending before after → IsAnyRun plan before after
+any_by plan before after (Ok true) done = inl done
+any_by plan before after (Ok false) done = inr (inl done)
+any_by plan before after (Err stop.WriteFault) done = inr (inr (inl done))
+any_by plan before after (Err stop.KeepFault) done = inr (inr (inr (inl done)))
+any_by plan before after (Err stop.OutOfMemory) done = inr (inr (inr (inr done)))
+
+-- with each status it is a run
+pub any_run : {plan : Plan} {status : ℕ} {before after : Seen} → IsUpdateRun plan status before after → IsAnyRun plan before after
+any_run {plan = plan} {before = before} {after = after} run = any_by plan before after run.ending run.done
+
+whole_by : (plan : Plan) (before after : Seen) (ending : RunEnding) (status : ℕ) → status ≡ run_status_of ending → EndsUpdating plan ending before after
+    → (status ≡ 0) ⊎ (status ≡ 5) → (refused : Bool) × IsRun plan refused before after
+whole_by plan before after (Ok refused) status told done end = (refused, done)
+whole_by plan before after (Err stop.WriteFault) status told done (inl h) = absurd (cc)
+whole_by plan before after (Err stop.WriteFault) status told done (inr h) = absurd (cc)
+whole_by plan before after (Err stop.KeepFault) status told done (inl h) = absurd (cc)
+whole_by plan before after (Err stop.KeepFault) status told done (inr h) = absurd (cc)
+whole_by plan before after (Err stop.OutOfMemory) status told done (inl h) = absurd (cc)
+whole_by plan before after (Err stop.OutOfMemory) status told done (inr h) = absurd (cc)
+
+-- one that came to its end is whole
+pub whole_run : {plan : Plan} {status : ℕ} {before after : Seen} → IsUpdateRun plan status before after → (status ≡ 0) ⊎ (status ≡ 5)
+    → (refused : Bool) × IsRun plan refused before after
+whole_run {plan = plan} {status = status} {before = before} {after = after} run end = whole_by plan before after run.ending status run.told run.done end
+
+left_by : (ending : RunEnding) (status : ℕ) → status ≡ run_status_of ending → (status ≡ 3 → ⊥) → (status ≡ 4 → ⊥) → (status ≡ 0) ⊎ (status ≡ 5) ⊎ (status ≡ 8)
+left_by (Ok false) status told three four = inl told
+left_by (Ok true) status told three four = inr (inl told)
+left_by (Err stop.WriteFault) status told three four = absurd (three told)
+left_by (Err stop.KeepFault) status told three four = absurd (four told)
+left_by (Err stop.OutOfMemory) status told three four = inr (inr told)
 
 -- where nothing fails, three are left
-pub left_to_run : (status : ℕ) → EndsRun status → (status ≡ 3 → ⊥) → (status ≡ 4 → ⊥) → (status ≡ 0) ⊎ (status ≡ 5) ⊎ (status ≡ 8)
-left_to_run status (inl h) three four = inl h
-left_to_run status (inr (inl h)) three four = absurd (three h)
-left_to_run status (inr (inr (inl h))) three four = absurd (four h)
-left_to_run status (inr (inr (inr (inl h)))) three four = inr (inl h)
-left_to_run status (inr (inr (inr (inr h)))) three four = inr (inr h)
+pub left_to_run : {plan : Plan} {status : ℕ} {before after : Seen} → IsUpdateRun plan status before after
+    → (status ≡ 3 → ⊥) → (status ≡ 4 → ⊥) → (status ≡ 0) ⊎ (status ≡ 5) ⊎ (status ≡ 8)
+left_to_run {status = status} run three four = left_by run.ending status run.told three four
 
--- a run that ends with 8 was refused memory
-pub memory_of : (why : RunStop) (status : ℕ) → status ≡ run_status_after why → status ≡ 8 → why ≡ stop.OutOfMemory
-memory_of stop.WriteFault status e h = absurd (cc)
-memory_of stop.KeepFault status e h = absurd (cc)
-memory_of stop.OutOfMemory status e h = refl
+run_status : (ending : RunEnding) (status : ℕ) → status ≡ run_status_of ending → IsStatus status × (status ≢ 1)
+run_status (Ok false) status told = (inl told, λ h. cc)
+run_status (Ok true) status told = (inr (inr (inr (inr (inr (inl told))))), λ h. cc)
+run_status (Err stop.WriteFault) status told = (inr (inr (inr (inl told))), λ h. cc)
+run_status (Err stop.KeepFault) status told = (inr (inr (inr (inr (inl told)))), λ h. cc)
+run_status (Err stop.OutOfMemory) status told = (inr (inr (inr (inr (inr (inr (inr (inl told))))))), λ h. cc)
+
+-- where memory was refused before anything was done
+pub run_not_begun : (plan : Plan) (seen : Seen) → IsUpdateRun plan 8 seen seen
+run_not_begun plan seen = record { ending = Err stop.OutOfMemory; told = refl; done = inl refl }
+
+-- ---- a count of examples
+
+pub counted : {held held' : Option (List ℕ)} (ending : Ending) → IfOk ending (λ failed. IsCounted (not failed) held held')
+    → (IsErrOf ending WriteFault → IsPartlyCounted held held') → (IsErrOf ending OutOfMemory → held' ≡ held)
+    → (ending ≢ Err ReadFault) × (ending ≢ Err PastLimits) → EndsCounting ending held held'
+counted (Ok failed) whole write memory others = whole
+counted (Err ReadFault) whole write memory others = others.0 refl
+counted (Err WriteFault) whole write memory others = write refl
+counted (Err PastLimits) whole write memory others = others.1 refl
+counted (Err OutOfMemory) whole write memory others = memory refl
+
+pub count_not_begun : (held : Option (List ℕ)) → IsCountRun 8 held held
+count_not_begun held = record { ending = Err OutOfMemory; told = refl; done = refl }
+
+-- ---- any command
+
+module _ (status : ℕ) (left left' : Option (List (List ℕ))) (before after : Seen) where
+  pub status_of_run : (command : Command) → IsRunOf command status left left' before after → IsStatus status × (status ≢ 1)
+  status_of_run (Replay names) run = let known = known_status 5 run.ending status (inl refl) run.told in (known.0, known.1)
+  status_of_run (Run plan) run = run_status run.ending status run.told
+  status_of_run Show run = let known = known_status 21 run.ending status (inr refl) run.told in (known.0, known.1)
+  status_of_run Vectors run = let known = known_status 21 run.ending status (inr refl) run.told in (known.0, known.1)
+
+  pub run_of_replay : (command : Command) (names : List ListName) → command ≡ Replay names → IsRunOf command status left left' before after
+      → IsReplayRun names status left left' before.held after.held
+  run_of_replay command names e run = subst (λ (command : Command). IsRunOf command status left left' before after) e run
+
+  pub run_of_plan : (command : Command) (plan : Plan) → command ≡ Run plan → IsRunOf command status left left' before after → IsUpdateRun plan status before after
+  run_of_plan command plan e run = subst (λ (command : Command). IsRunOf command status left left' before after) e run
+
+  pub run_of_show : (command : Command) → command ≡ Show → IsRunOf command status left left' before after → IsShowRun status left left' before.held after.held
+  run_of_show command e run = subst (λ (command : Command). IsRunOf command status left left' before after) e run
+
+  pub run_of_vectors : (command : Command) → command ≡ Vectors → IsRunOf command status left left' before after → IsCountRun status before.held after.held
+  run_of_vectors command e run = subst (λ (command : Command). IsRunOf command status left left' before after) e run
+
+-- where no count changed, none rose
+pub none_counted : {input out keep : ℕ} (status : ℕ) → status ≢ 2 → (status ≢ 1 → status ≢ 3) → status ≢ 4 → AreCounted status input input out out keep keep
+none_counted status two three four = record {
+  read = no_fault 2 status two refl;
+  written = λ other. no_fault 3 status (three other) refl;
+  saved = no_fault 4 status four refl;
+}

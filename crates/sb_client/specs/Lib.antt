@@ -1,10 +1,10 @@
 pub mod Command
+pub mod Ending
 pub mod Example
-pub mod Input
-pub mod Lines
 pub mod Printed
 pub mod Readings
 pub mod Replay
+pub mod Runs
 pub mod Show
 pub mod Shown
 pub mod Writing

@@ -11,7 +11,7 @@ use Rattle.update_client.specs.Step.{after_updates, results_of}
 use Rattle.sb_round.specs.Printed.{taken_text}
 use Rattle.sb_round.specs.Run.{lists_after}
 use Rattle.update_run.specs.Printed.{list_line}
-use Rattle.sb_client.specs.Lines.{newline}
+use Rattle.input_lines.specs.Lines.{newline}
 use Rattle.sb_client.specs.Readings.{Reading, updates_of, bodies_of}
 
 -- a line after the number of a body

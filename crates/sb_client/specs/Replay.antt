@@ -1,15 +1,15 @@
 -- What a replay says of its input and its output, with no word on how it gets there.
-use Rattle.std.specs.Prelude.{◌≡◌, ◌⊎◌, ℕ, Bool, true, false, ◌||◌, List, [], ◌∷◌, ◌++◌, map, Option, IfSome, Ok, Err}
+use Rattle.std.specs.Prelude.{◌≡◌, ℕ, Bool, true, false, ◌||◌, List, [], ◌∷◌, ◌++◌, map, Option, IfSome, Ok, Err}
 use Rattle.std.specs.List.{list_any, flat_map}
 use Rattle.sb_model.specs.declared.names.ListName.{ListName}
 use Rattle.sb_model.specs.History.{History}
 use Rattle.sb_model.specs.Naming.{Naming}
-use Rattle.sb_outside.specs.Outside.{next_piece, left_after_end, appended, Rose}
+use Rattle.sb_outside.specs.Outside.{next_piece, left_after_end, appended}
 use Rattle.sb_outside.specs.Writing.{HasFront}
 use Rattle.update_client.specs.Held.{Held, in_order, nothing_held_of}
 use Rattle.update_client.specs.Step.{is_refused, after_updates, results_of}
 use Rattle.update_client.specs.Replica.{AreReplicas}
-use Rattle.sb_client.specs.Lines.{lines_of, IsWithinLimits}
+use Rattle.input_lines.specs.Lines.{lines_of, IsWithinLimits}
 use Rattle.sb_client.specs.Readings.{Reading, AreReadings, updates_of}
 use Rattle.sb_client.specs.Printed.{outcome_lines, list_lines, replay_text}
 
@@ -50,12 +50,3 @@ pub record PrintsReplicas (history : History) (token_at : Naming) (names : List 
   pub named : map (λ (list : Held). list.name) lists ≡ in_order names
   pub replicas : AreReplicas history token_at lists
   pub text : held' ≡ appended held (outcome_lines 1 (nothing_held_of names) readings ++ flat_map list_lines lists)
-
--- The usage text was written: the whole, without a fault, or a front of it where the sink's count of faults rose.
-abbrev pub TellsUsage : List ℕ → (held held' : Option (List ℕ)) → (faults faults' : ℕ) → Type 0
-TellsUsage usage held held' faults faults' =
-    ((held' ≡ appended held usage) × (faults' ≡ faults)) ⊎ (Rose faults faults' × HasFront held held' usage)
-
--- each exit status that a run can have
-abbrev pub IsStatus : ℕ → Type 0
-IsStatus status = (status ≡ 0) ⊎ (status ≡ 1) ⊎ (status ≡ 2) ⊎ (status ≡ 3) ⊎ (status ≡ 4) ⊎ (status ≡ 5) ⊎ (status ≡ 6) ⊎ (status ≡ 8) ⊎ (status ≡ 21)

@@ -4,7 +4,7 @@ use Rattle.sb_outside.specs.Outside.{next_piece, left_after_end, appended}
 use Rattle.sb_outside.specs.Writing.{HasFront}
 use Rattle.conformance_vectors.specs.declared.case.Case.{Case}
 use Rattle.conformance_vectors.specs.Vectors.{Meets, MeetCount}
-use Rattle.sb_client.specs.Lines.{newline, lines_of, IsWithinLimits}
+use Rattle.input_lines.specs.Lines.{newline, lines_of, IsWithinLimits}
 use Rattle.sb_client.specs.Shown.{show_text, has_refused_url}
 
 -- The URLs were shown: the text is that of an input, which the source gave to its end and which passes no limit.

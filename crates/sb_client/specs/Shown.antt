@@ -8,7 +8,7 @@ use Rattle.url_canon.specs.Canonical.{canonical_of}
 use Rattle.url_canon.specs.declared.fault.UrlFault.{UrlFault}
 use Rattle.url_canon.specs.declared.fault.UrlFault.TheVariants.{Empty, NoHost, TooLong, OutOfMemory}
 use Rattle.url_expressions.specs.Expressions.{expressions_of}
-use Rattle.sb_client.specs.Lines.{newline, lines_of}
+use Rattle.input_lines.specs.Lines.{newline, lines_of}
 use Rattle.sb_client.specs.Printed.{numbered}
 
 -- why a text has no canonical URL; want of memory is never told

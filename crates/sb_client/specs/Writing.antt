@@ -2,9 +2,7 @@
 use Rattle.std.specs.Prelude.{◌≡◌, ℕ, ◌⊎◌, List, ◌++◌, Option}
 use Rattle.sb_outside.specs.Outside.{Rose, appended}
 use Rattle.sb_client.specs.declared.stop.Stop.{Stop}
-use Rattle.sb_client.specs.declared.stop.Stop.TheVariants.{ReadFault, WriteFault, PastLimits, OutOfMemory}
-use Rattle.update_run.specs.declared.stop.RunStop.{RunStop}
-use Rattle.update_run.specs.declared.stop.RunStop.TheVariants as stop
+use Rattle.sb_client.specs.declared.stop.Stop.TheVariants.{WriteFault, OutOfMemory}
 
 -- Writing ended before its end: the sink failed and its count of faults rose, or memory was refused and the count is as it was.
 abbrev pub IsStopped : Stop → ℕ → ℕ → Type 0
@@ -16,16 +14,3 @@ pub record HasPart (before after : Option (List ℕ)) (text : List ℕ) : Type 0
   pub lost : List ℕ
   pub has : after ≡ appended before taken
   pub rest : taken ++ lost ≡ text
-
--- the exit status of a command that ended before its end
-abbrev pub status_after : Stop → ℕ
-status_after ReadFault = 2
-status_after WriteFault = 3
-status_after PastLimits = 6
-status_after OutOfMemory = 8
-
--- and of a run of a client that did
-abbrev pub run_status_after : RunStop → ℕ
-run_status_after stop.WriteFault = 3
-run_status_after stop.KeepFault = 4
-run_status_after stop.OutOfMemory = 8

@@ -1,22 +1,14 @@
-ghost use Rattle.std.specs.Prelude.{◌≡◌, ℕ, List, [], ◌∷◌, ◌++◌, All};
+ghost use Rattle.std.specs.Prelude.{◌≡◌, [], ◌∷◌};
 ghost use Rattle.sb_model.specs.History.{IsWellFormed};
 ghost use Rattle.sb_model.specs.Naming.{IsNaming};
 ghost use Rattle.update_client.specs.Held.{nothing_held_of};
 ghost use Rattle.sb_round.specs.Run.{lists_after};
 ghost use Rattle.sb_round.specs.Honest.{IsHonest};
 ghost use Rattle.sb_round.specs.Collision.{candidates_of, HasNoCollision};
-ghost use Rattle.sb_client.specs.Lines.{HasNoNewline, joined_lines, last_newline, lines_of};
 ghost use Rattle.sb_client.specs.Readings.{bodies_of};
 ghost use Rattle.sb_client.specs.Example.{example_name, example_history, example_tokens, example_readings, example_held};
 
 use sb_model::names_go_by_their_codes;
-
-/// What the lines of an input are: none has a newline in it, and joined, each with its newline, they are the
-/// input, and a newline where the input ends in a line without one.
-pub fn lines_are_the_input()
-    ensures plain { (input : List ℕ) → All HasNoNewline (lines_of input) }
-    ensures whole { (input : List ℕ) → joined_lines (lines_of input) ≡ input ++ last_newline input }
-{}
 
 /// The premises of the headline can be met: by a server with three changes, and a run of a whole update that is
 /// Rice coded, a partial one with a base state, the same once more, which is stale then, one with a wrong

@@ -5,13 +5,12 @@
 #![tactic(auto)]
 
 pub use client::{USAGE, run_client};
-pub use laws::{lines_are_the_input, premises_are_met};
+pub use laws::premises_are_met;
 pub use objects::Targets;
 pub use targeting::targets;
 
 mod client;
 mod command;
-mod input;
 mod laws;
 mod lines;
 mod objects;

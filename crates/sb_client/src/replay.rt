@@ -7,18 +7,18 @@ ghost use Rattle.update_client.specs.Held.{most_lists, nothing_held_of};
 ghost use Rattle.update_client.specs.Step.{after_updates, is_refused, results_of};
 ghost use Rattle.sb_round.specs.Printed.{taken_text};
 ghost use Rattle.sb_round.specs.Run.{lists_after};
-ghost use Rattle.sb_client.specs.Lines.{lines_of};
-ghost use Rattle.sb_client.specs.declared.input.TheConstants.{MAX_INPUT};
+ghost use Rattle.input_lines.specs.Lines.{lines_of};
+ghost use Rattle.input_lines.specs.declared.input.TheConstants.{MAX_INPUT};
 ghost use Rattle.sb_client.specs.Readings.{Reading as ReadingOf, updates_of, bodies_of, IsReader};
 ghost use Rattle.sb_client.specs.Printed.{numbered, taken_lines, body_lines, outcome_lines, list_lines, prefix_line, replay_text};
-ghost use Rattle.sb_client.specs.Input.{GivesWithin, GivesPast};
+ghost use Rattle.input_lines.specs.Input.{GivesWithin, GivesPast};
 ghost use Rattle.sb_client.specs.Writing.{IsStopped, HasPart};
 ghost use Rattle.sb_client.specs.Replay.{has_refusal, has_refusals, IsPrinted, IsPartlyPrinted};
 
-use crate::input::{first_line, read_input};
 use crate::lines::{Reading, read_line};
 use crate::printing::{push_prefix_line, push_taken_line, push_unreadable_line};
 use crate::stop::Stop;
+use input_lines::{first_line, read_input};
 use sb_json::MessageFault;
 use sb_model::{Bytes, ListName};
 use sb_outside::{Sink, Source, flush, flush_if_full};
@@ -366,7 +366,7 @@ pub(crate) fn replay<S: Source, O: Sink>(
     values_read_or_have_a_fault();
     let text = match read_input(alloc, input) {
         Ok(text) => text,
-        Err(stop) => return Err(stop),
+        Err(fault) => return Err(Stop::from(fault)),
     };
     replay_input(alloc, names, text.as_slice(), out)
 }

@@ -5,17 +5,17 @@ ghost use Rattle.sb_outside.specs.Writing.{IsOnItsWay, HasFront};
 ghost use Rattle.url_canon.specs.Url.{text_of};
 ghost use Rattle.url_canon.specs.Canonical.{canonical_of};
 ghost use Rattle.url_expressions.specs.Expressions.{expressions_of};
-ghost use Rattle.sb_client.specs.Lines.{lines_of};
-ghost use Rattle.sb_client.specs.declared.input.TheConstants.{MAX_INPUT};
+ghost use Rattle.input_lines.specs.Lines.{lines_of};
+ghost use Rattle.input_lines.specs.declared.input.TheConstants.{MAX_INPUT};
 ghost use Rattle.sb_client.specs.Printed.{numbered};
 ghost use Rattle.sb_client.specs.Shown.{url_cause, expression_line, shown_lines, all_shown, show_text, is_refused_url, has_refused_url};
 ghost use Rattle.sb_client.specs.Show.{IsShown, IsPartlyShown};
-ghost use Rattle.sb_client.specs.Input.{GivesWithin, GivesPast};
+ghost use Rattle.input_lines.specs.Input.{GivesWithin, GivesPast};
 ghost use Rattle.sb_client.specs.Writing.{IsStopped};
 
-use crate::input::{first_line, read_input};
 use crate::stop::Stop;
 use hash_prefixes::{append_hex, full_hash};
+use input_lines::{first_line, read_input};
 use sb_model::{Bytes, OutOfMemory};
 use sb_outside::{Sink, Source, flush, flush_if_full};
 use std::alloc::Global;
@@ -206,7 +206,7 @@ pub(crate) fn show<S: Source, O: Sink>(
 {
     let text = match read_input(alloc, input) {
         Ok(text) => text,
-        Err(stop) => return Err(stop),
+        Err(fault) => return Err(Stop::from(fault)),
     };
     show_input(alloc, text.as_slice(), out)
 }

@@ -1,7 +1,8 @@
 ghost use Rattle.std.specs.Prelude.{◌≡◌};
 ghost use Rattle.sb_client.specs.declared.stop.Stop.TheVariants.{WriteFault};
+ghost use Rattle.sb_client.specs.Ending.{stop_of_input};
 
-use sb_outside::Failed;
+use sb_outside::{Failed, InputFault};
 
 /// Why a run ends before its end.
 #[derive(Clone, Copy, Debug, PartialEq, Eq)]
@@ -21,5 +22,18 @@ impl From<Failed> for Stop {
 
     fn from(_failed: Failed) -> Stop {
         Stop::WriteFault
+    }
+}
+
+/// Why an input is not read to its end.
+impl From<InputFault> for Stop {
+    ghost from_gives = { λ fault stop. stop ≡ stop_of_input fault };
+
+    fn from(fault: InputFault) -> Stop {
+        match fault {
+            InputFault::Failed => Stop::ReadFault,
+            InputFault::PastLimit => Stop::PastLimits,
+            InputFault::OutOfMemory => Stop::OutOfMemory,
+        }
     }
 }

@@ -1,4 +1,4 @@
-ghost use Rattle.std.specs.Prelude.{◌≡◌, ◌≢◌, ◌⊎◌, ◌↔◌, ◌++◌, ℕ, length, IsTrue, All, Ok, Err, IfOk, OnOk, OnErr, IsErrOf};
+ghost use Rattle.std.specs.Prelude.{◌≡◌, ◌≢◌, ◌⊎◌, ◌↔◌, ◌++◌, ℕ, length, not, IsTrue, All, Ok, Err, IfOk, OnOk, OnErr, IsErrOf};
 ghost use Rattle.sb_outside.specs.Outside.{Rose, appended};
 ghost use Rattle.conformance_vectors.specs.Vectors.{Meets, MeetCount};
 ghost use Rattle.sb_client.specs.Show.{count_text, IsCounted, IsPartlyCounted};
@@ -32,9 +32,9 @@ fn count(alloc: Global, cases: &[Case]) -> Result<(Bytes, bool), OutOfMemory>
     Ok((page, outcome.passed == cases.len()))
 }
 
-/// Counts the published examples with which the definitions agree. Answers whether these are all.
+/// Counts the published examples with which the definitions agree. Answers whether one is not among them.
 pub(crate) fn vectors<O: Sink>(alloc: Global, out: &mut O) -> Result<bool, Stop>
-    ensures counted { IfOk result (λ all_met. IsCounted all_met (O.contents out.old) (O.contents out.new)) }
+    ensures counted { IfOk result (λ failed. IsCounted (not failed) (O.contents out.old) (O.contents out.new)) }
     ensures write_fault { IsErrOf result Stop.WriteFault → Rose (O.faults out.old) (O.faults out.new)
         × IsPartlyCounted (O.contents out.old) (O.contents out.new) }
     ensures memory { IsErrOf result Stop.OutOfMemory → out.new ≡ out.old }
@@ -46,7 +46,7 @@ pub(crate) fn vectors<O: Sink>(alloc: Global, out: &mut O) -> Result<bool, Stop>
         return Err(Stop::OutOfMemory);
     };
     match flush(out, &mut page) {
-        Ok(()) => Ok(all_met),
+        Ok(()) => Ok(!all_met),
         Err(failed) => Err(Stop::from(failed)),
     }
 }

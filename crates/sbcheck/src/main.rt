@@ -45,6 +45,7 @@ fn main(rt: HostRuntime) -> ExitCode {
     let mut clock = SystemClock::new(&rt);
     let mut dice = SystemDice::new(&rt);
     let status = run_client(
+        &rt,
         alloc,
         words.as_slice(),
         &mut input,

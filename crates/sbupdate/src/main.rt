@@ -11,6 +11,8 @@ use sb_outside::{
 use std::alloc::Global;
 use std::io::ErrorKind;
 use std::process::ExitCode;
+use std::sync::Wait;
+use std::thread::Threads;
 use std::{env, io};
 
 /// The words of the command line, the first of them this program's name.
@@ -58,15 +60,20 @@ fn tell(rt: &HostRuntime, object: &str, why: Option<Why>) {
     }
 }
 
-/// Says why the store failed, where that is known.
-fn tell_store(rt: &HostRuntime, path: &Option<Text>, why: Option<Why>) {
-    if let (Some(path), Some(why)) = (path, why) {
-        let _ = eprintln!(rt; "sbupdate: the store {} {why}", path.as_str());
+/// Says why the store or the server that the words name failed, where that is known.
+fn tell_of(rt: &HostRuntime, object: &str, name: &Option<Text>, why: Option<Why>) {
+    if let (Some(name), Some(why)) = (name, why) {
+        let _ = eprintln!(rt; "sbupdate: {object} {} {why}", name.as_str());
     }
 }
 
-/// Runs the command that the words are.
-fn run(rt: &HostRuntime, alloc: Global, words: &[String]) -> Result<u8, OutOfMemory> {
+/// Runs the command that the words are. The handle is for threads.
+fn run<R: Threads + Wait + Sync>(
+    rt: &HostRuntime,
+    handle: &R,
+    alloc: Global,
+    words: &[String],
+) -> Result<u8, OutOfMemory> {
     let targets = targets(alloc, words)?;
     let mut keep = keeper_of(rt, alloc, &targets)?;
     let mut link = link_to(rt, alloc, &targets.server)?;
@@ -75,12 +82,14 @@ fn run(rt: &HostRuntime, alloc: Global, words: &[String]) -> Result<u8, OutOfMem
     let mut clock = SystemClock::new(rt);
     let mut dice = SystemDice::new(rt);
     let status = run_client(
-        alloc, words, &mut input, &mut out, &mut keep, &mut link, &mut clock, &mut dice, &OpenGate,
+        handle, alloc, words, &mut input, &mut out, &mut keep, &mut link, &mut clock, &mut dice,
+        &OpenGate,
     );
     match status {
         2 => tell(rt, "standard input", input.why()),
         3 => tell(rt, "standard output", out.why()),
-        4 => tell_store(rt, &targets.store, keep.why()),
+        4 => tell_of(rt, "the store", &targets.store, keep.why()),
+        5 => tell_of(rt, "the server", &targets.server, link.why()),
         _ => {}
     }
     Ok(status)
@@ -95,7 +104,7 @@ fn main(rt: HostRuntime) -> ExitCode {
         Err(fault) if fault.kind() == ErrorKind::InvalidData => Vec::new(alloc),
         Err(_) => return ExitCode::from(8),
     };
-    match run(&rt, alloc, words.as_slice()) {
+    match run(&rt, &rt, alloc, words.as_slice()) {
         Ok(status) => ExitCode::from(status),
         Err(OutOfMemory) => ExitCode::from(8),
     }

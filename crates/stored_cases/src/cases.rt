@@ -6,6 +6,8 @@ use case_texts::{
 };
 use sb_model::{Bytes, OutOfMemory};
 use std::alloc::Global;
+use std::sync::Wait;
+use std::thread::Threads;
 
 /// How many cases there were, and what is printed.
 #[derive(Drop)]
@@ -23,7 +25,11 @@ struct Open {
 }
 
 /// Runs all cases of a book.
-pub fn run_book(alloc: Global, book: &Book) -> Result<Summary, CaseFault> {
+pub fn run_book<R: Threads + Wait + Sync>(
+    rt: &R,
+    alloc: Global,
+    book: &Book,
+) -> Result<Summary, CaseFault> {
     let mut summary = Summary {
         page: Bytes::new(alloc),
         cases: 0,
@@ -36,11 +42,11 @@ pub fn run_book(alloc: Global, book: &Book) -> Result<Summary, CaseFault> {
     for number in 0..book.sheet.len() {
         let line = book.sheet.line(number);
         if line.starts_with(b"# ") || line.starts_with(b"## ") {
-            end_case(alloc, book, open, number, &mut summary)?;
+            end_case(rt, alloc, book, open, number, &mut summary)?;
             open = next_open(open, line.starts_with(b"## "), number);
         }
     }
-    end_case(alloc, book, open, book.sheet.len(), &mut summary)?;
+    end_case(rt, alloc, book, open, book.sheet.len(), &mut summary)?;
     summary.end()?;
     Ok(summary)
 }
@@ -71,7 +77,8 @@ fn next_open(open: Open, is_case: bool, number: usize) -> Open {
 }
 
 /// Runs the case that is open, and tells how it differs.
-fn end_case(
+fn end_case<R: Threads + Wait + Sync>(
+    rt: &R,
     alloc: Global,
     book: &Book,
     open: Open,
@@ -86,7 +93,7 @@ fn end_case(
         to: end,
     };
     check(&book.sheet, open.group)?;
-    let differences = run_case(alloc, book, open.group, span)?;
+    let differences = run_case(rt, alloc, book, open.group, span)?;
     summary.cases = summary.cases.saturating_add(1);
     if !differences.page.is_empty() {
         summary.tell(book.sheet.line(span.from.saturating_sub(1)), &differences)?;
@@ -126,7 +133,13 @@ fn run_end(sheet: &Sheet, from: usize, end: usize) -> usize {
 }
 
 /// The first differences of a case, over each step and each cut.
-fn run_case(alloc: Global, book: &Book, group: Span, span: Span) -> Result<Differences, CaseFault> {
+fn run_case<R: Threads + Wait + Sync>(
+    rt: &R,
+    alloc: Global,
+    book: &Book,
+    group: Span,
+    span: Span,
+) -> Result<Differences, CaseFault> {
     let scope = Scope {
         own: span,
         before: Span {
@@ -141,7 +154,7 @@ fn run_case(alloc: Global, book: &Book, group: Span, span: Span) -> Result<Diffe
         steps.push(u64::MAX)?;
     }
     for step in steps.iter() {
-        let differences = run_cuts(alloc, book, group, span, size_of_number(*step))?;
+        let differences = run_cuts(rt, alloc, book, group, span, size_of_number(*step))?;
         if !differences.page.is_empty() {
             return Ok(differences);
         }
@@ -150,7 +163,8 @@ fn run_case(alloc: Global, book: &Book, group: Span, span: Span) -> Result<Diffe
 }
 
 /// The first differences of a case at a step, over each cut.
-fn run_cuts(
+fn run_cuts<R: Threads + Wait + Sync>(
+    rt: &R,
     alloc: Global,
     book: &Book,
     group: Span,
@@ -164,7 +178,7 @@ fn run_cuts(
             cut,
             fronts: 0,
         };
-        let differences = run_runs(&mut reader, book, group, span, step)?;
+        let differences = run_runs(rt, &mut reader, book, group, span, step)?;
         cut = cut.saturating_add(1);
         if !differences.page.is_empty() || cut >= reader.fronts {
             return Ok(differences);
@@ -174,7 +188,8 @@ fn run_cuts(
 }
 
 /// The differences of the runs of a case. Each but the first begins with what the keeper kept in the one before.
-fn run_runs(
+fn run_runs<R: Threads + Wait + Sync>(
+    rt: &R,
     reader: &mut Reader,
     book: &Book,
     group: Span,
@@ -195,7 +210,7 @@ fn run_runs(
         let scope = Scope { own, before, group };
         let place = Place { book, scope, step };
         differences.line = (from as u64).saturating_add(1);
-        let left = run(reader, &place, store)?;
+        let left = run(rt, reader, &place, store)?;
         compare(reader, &place, &left, &mut differences)?;
         if to >= span.to {
             break;

@@ -8,6 +8,8 @@ use sb_model::Bytes;
 use sb_outside::{StdSink, StdSource, read_to_end, write_all};
 use std::alloc::Global;
 use std::process::ExitCode;
+use std::sync::Wait;
+use std::thread::Threads;
 
 mod case_link;
 mod cases;
@@ -18,10 +20,14 @@ mod running;
 const LIMIT: usize = 67_108_864;
 
 /// What is printed of the cases of a text.
-fn page_of(alloc: Global, text: Bytes) -> Result<Bytes, CaseFault> {
+fn page_of<R: Threads + Wait + Sync>(
+    rt: &R,
+    alloc: Global,
+    text: Bytes,
+) -> Result<Bytes, CaseFault> {
     let sheet = Sheet::new(alloc, text)?;
     let book = Book::new(alloc, sheet)?;
-    let summary = run_book(alloc, &book)?;
+    let summary = run_book(rt, alloc, &book)?;
     Ok(summary.page)
 }
 
@@ -47,7 +53,7 @@ fn main(rt: HostRuntime) -> ExitCode {
         return ExitCode::from(2);
     };
     let mut out = StdSink::new(rt.stdout());
-    let (page, status) = match page_of(alloc, text) {
+    let (page, status) = match page_of(&rt, alloc, text) {
         Ok(page) => (page, 0),
         Err(fault) => (fault_page(alloc, fault), 1),
     };

@@ -7,9 +7,12 @@ use sb_model::{Bytes, OutOfMemory};
 use sb_outside::OpenGate;
 use sb_service::run_server;
 use std::alloc::Global;
+use std::sync::Wait;
+use std::thread::Threads;
 
 /// Makes a run. This is what the keeper kept at the end of the run before, if it kept anything.
-pub fn run(
+pub fn run<R: Threads + Wait + Sync>(
+    rt: &R,
     reader: &mut Reader,
     place: &Place<'_>,
     store: Option<Bytes>,
@@ -26,11 +29,12 @@ pub fn run(
         (None, None) => return Err(CaseFault::Line(place.scope.own.from)),
     };
     let words = words_of(reader.alloc, sheet.rest(line), line)?;
-    Ok(run_words(reader.alloc, words.as_slice(), is_client, objects, link)?)
+    Ok(run_words(rt, reader.alloc, words.as_slice(), is_client, objects, link)?)
 }
 
 /// Has the client or the server run these words.
-fn run_words(
+fn run_words<R: Threads + Wait + Sync>(
+    rt: &R,
     alloc: Global,
     words: &[String],
     is_client: bool,
@@ -38,13 +42,14 @@ fn run_words(
     link: CaseLink,
 ) -> Result<Left, OutOfMemory> {
     if is_client {
-        return by_client(alloc, words, objects, link);
+        return by_client(rt, alloc, words, objects, link);
     }
     by_server(alloc, words, objects, link)
 }
 
 /// What the client leaves that runs these words.
-fn by_client(
+fn by_client<R: Threads + Wait + Sync>(
+    rt: &R,
     alloc: Global,
     words: &[String],
     objects: Objects,
@@ -57,7 +62,8 @@ fn by_client(
     let mut dice = objects.dice;
     let door = objects.door;
     let status = run_client(
-        alloc, words, &mut input, &mut out, &mut keep, &mut link, &mut clock, &mut dice, &OpenGate,
+        rt, alloc, words, &mut input, &mut out, &mut keep, &mut link, &mut clock, &mut dice,
+        &OpenGate,
     );
     Ok(Left {
         status,

@@ -1,7 +1,22 @@
-use Rattle.std.proofs.Common.{ap, Err}
-use Rattle.sb_client.proofs.Runs.{memory_of}
+use Rattle.update_run.specs.declared.stop.RunStop.TheVariants.{WriteFault, KeepFault}
+use Rattle.sb_client.proofs.Runs.{keep_stop, run_ended, run_fault_of, write_stop}
 use Rattle.sb_client.proofs.client.run_status.Goals as goal
 
-pub returns-in-Err-clause-memory : goal.returns-in-Err-clause-memory
-returns-in-Err-clause-memory g c eight =
-    c.in-Err.ensures.memory (ap Err (memory_of c.in-Err.stop c.status_of_run.result c.status_of_run.ensures eight))
+pub returns-clause-runs : goal.returns-clause-runs
+returns-clause-runs g c =
+    let did = c.run.ensures in
+    record {
+      ending = c.run.result;
+      told = c.run_exit_status.ensures;
+      done = run_ended c.run.result did.run did.write_fault did.keep_fault did.memory;
+    }
+
+pub returns-clause-written : goal.returns-clause-written
+returns-clause-written g c =
+    let told = c.run_exit_status.ensures in
+    run_fault_of c.run.result WriteFault _ told (write_stop c.run.result _ told) c.run.ensures.output_failed c.run.ensures.output_kept
+
+pub returns-clause-saved : goal.returns-clause-saved
+returns-clause-saved g c =
+    let told = c.run_exit_status.ensures in
+    run_fault_of c.run.result KeepFault _ told (keep_stop c.run.result _ told) c.run.ensures.keeper_failed c.run.ensures.keeper_kept

@@ -1,5 +1,5 @@
 use Rattle.std.proofs.Common.{◌++◌}
-use Rattle.sb_client.specs.Lines.{newline}
+use Rattle.input_lines.specs.Lines.{newline}
 use Rattle.sb_client.specs.Printed.{prefix_line}
 use Rattle.sb_client.proofs.Ways.{front_none, some_back, ended_some}
 use Rattle.sb_client.proofs.replay.print_prefix.Goals as goal

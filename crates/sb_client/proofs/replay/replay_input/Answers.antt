@@ -2,7 +2,7 @@ use Rattle.std.proofs.Common.{ap, ◌∙◌, subst, map}
 use Rattle.std.specs.List.{flat_map}
 use Rattle.sb_outside.specs.Outside.{appended}
 use Rattle.sb_outside.specs.Writing.{HasFront}
-use Rattle.sb_client.specs.Lines.{lines_of}
+use Rattle.input_lines.specs.Lines.{lines_of}
 use Rattle.sb_client.specs.Printed.{outcome_lines, list_lines, replay_text}
 use Rattle.sb_client.proofs.Ways.{front_none, way_longer, way_end, way_front}
 use Rattle.sb_client.proofs.Replays.{text_some, whole_text, lines_front}

@@ -2,7 +2,7 @@ use Rattle.std.proofs.Common.{ℕ, ◌+◌, List, ◌++◌, map, refl, sym, ap, 
 use Rattle.std.specs.Prelude.{◌||◌}
 use Rattle.update_client.specs.Step.{after_updates}
 use Rattle.sb_round.specs.Run.{lists_after}
-use Rattle.sb_client.specs.Lines.{lines_of}
+use Rattle.input_lines.specs.Lines.{lines_of}
 use Rattle.sb_client.specs.Readings.{Reading, updates_of, bodies_of}
 use Rattle.sb_client.specs.Printed.{body_lines, outcome_lines}
 use Rattle.sb_client.specs.Replay.{has_refusals}

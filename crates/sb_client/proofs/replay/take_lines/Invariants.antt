@@ -2,7 +2,7 @@ use Rattle.std.proofs.Common.{◌≡◌, ◌+◌, ◌≤◌, ℕ, List, ◌++◌
 use Rattle.std.specs.Prelude.{◌||◌}
 use Rattle.sb_outside.specs.Writing.{IsOnItsWay}
 use Rattle.sb_round.specs.Run.{lists_after}
-use Rattle.sb_client.specs.Lines.{lines_of}
+use Rattle.input_lines.specs.Lines.{lines_of}
 use Rattle.sb_client.specs.Readings.{Reading, bodies_of, IsReader}
 use Rattle.sb_client.specs.Printed.{outcome_lines}
 use Rattle.sb_client.specs.Replay.{has_refusals}

@@ -1,7 +1,7 @@
 use Rattle.std.proofs.Common.{◌≡◌, ◌+◌, ◌≤◌, ℕ, List, ◌++◌, length}
 use Rattle.std.specs.Prelude.{◌||◌}
 use Rattle.sb_outside.specs.Writing.{IsOnItsWay}
-use Rattle.sb_client.specs.Lines.{lines_of}
+use Rattle.input_lines.specs.Lines.{lines_of}
 use Rattle.sb_client.specs.Shown.{all_shown, show_text, has_refused_url}
 use Rattle.sb_client.proofs.show.show_lines.Given as goal
 

@@ -5,7 +5,7 @@ use Rattle.std.specs.List.{position_or_len}
 use Rattle.std.proofs.lemmas.List.Sums.{position_or_len_is, fails_before_first, sum_by-cons}
 use borrow.Author.Tests.{ltb-false}
 use Rattle.memchr.specs.Find.{IsFirstByte, is_byte}
-use Rattle.sb_client.specs.Lines.{is_newline}
+use Rattle.input_lines.specs.Lines.{is_newline}
 
 fails : (b : ℕ) (t : Bool) → is_newline b ≡ t → (is_newline b ≡ true → ⊥) → is_newline b ≡ false
 fails b true e h = absurd (h e)

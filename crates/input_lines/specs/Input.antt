@@ -1,7 +1,7 @@
 -- What reading an input whole does to a source.
 use Rattle.std.specs.Prelude.{ℕ, List, Option}
 use Rattle.sb_outside.specs.Outside.{GivesFront}
-use Rattle.sb_client.specs.Lines.{IsWithinLimits}
+use Rattle.input_lines.specs.Lines.{IsWithinLimits}
 
 -- The source gave some bytes and no end of input, and the bytes are within the limits.
 pub record GivesWithin (before after : Option (List (List ℕ))) : Type 0 where

@@ -1,7 +1,7 @@
 use Rattle.std.proofs.Common.{sym, ap, ◌∙◌, not}
-use Rattle.sb_client.specs.Lines.{is_newline}
-use Rattle.sb_client.proofs.LineCuts.{open_last, open_none, count_closed, count_open, other_byte}
-use Rattle.sb_client.proofs.input.count_lines.Goals as goal
+use Rattle.input_lines.specs.Lines.{is_newline}
+use Rattle.input_lines.proofs.LineCuts.{open_last, open_none, count_closed, count_open, other_byte}
+use Rattle.input_lines.proofs.input.count_lines.Goals as goal
 
 pub returns-in_default : goal.returns-in_default
 returns-in_default c = count_closed c.args.text.now c.args.ended c.requires (open_none c.args.text.now (sym c.in_default.ensures.value))

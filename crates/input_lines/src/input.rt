@@ -1,20 +1,19 @@
 ghost use Rattle.std.specs.Prelude.{◌≡◌, ◌≢◌, ◌<◌, ◌≤◌, [], ◌∷◌, length, count_by, position, vec_len, IfOk, OnOk, OnErr, IsErrOf};
 ghost use Rattle.sb_outside.specs.Outside.{Rose};
-ghost use Rattle.sb_client.specs.Lines.{is_newline, lines_of, IsWithinLimits};
+ghost use Rattle.input_lines.specs.Lines.{is_newline, lines_of, IsWithinLimits};
 ghost use Rattle.sb_outside.specs.Reading.{ReadsToEnd};
-ghost use Rattle.sb_client.specs.Input.{GivesWithin, GivesPast};
+ghost use Rattle.input_lines.specs.Input.{GivesWithin, GivesPast};
 
-use crate::stop::Stop;
 use memchr::memchr;
 use sb_model::Bytes;
-use sb_outside::{ReadFault, Source, read_piece};
+use sb_outside::{InputFault, ReadFault, Source, read_piece};
 use std::alloc::{AllocError, Global};
 
 /// The most bytes of an input.
-pub(crate) const MAX_INPUT: usize = 201_326_592;
+pub const MAX_INPUT: usize = 201_326_592;
 
 /// The most lines of an input.
-pub(crate) const MAX_LINES: usize = 65_536;
+pub const MAX_LINES: usize = 65_536;
 
 /// How many bytes a read asks for.
 const PIECE: usize = 262_144;
@@ -48,18 +47,21 @@ fn buffer_of(alloc: Global) -> Result<Vec<u8>, AllocError>
     vec![in alloc; 0; PIECE]
 }
 
-/// Reads the input to its next end, in large pieces.
-pub(crate) fn read_input<S: Source>(alloc: Global, input: &mut S) -> Result<Bytes, Stop>
+/// Reads the input to its next end, in large pieces. It may have at most 201,326,592 bytes and 65,536 lines.
+///
+/// # Errors
+///
+/// `Failed` where the source failed, `PastLimit` where it gave more before it came to an end, and `OutOfMemory`.
+pub fn read_input<S: Source>(alloc: Global, input: &mut S) -> Result<Bytes, InputFault>
     ensures whole { IfOk result (λ text. ReadsToEnd text (S.left input.old) (S.left input.new)) }
     ensures within { IfOk result IsWithinLimits }
-    ensures fault { IsErrOf result Stop.ReadFault → Rose (S.faults input.old) (S.faults input.new)
+    ensures failed { IsErrOf result InputFault.Failed → Rose (S.faults input.old) (S.faults input.new)
         × GivesWithin (S.left input.old) (S.left input.new) }
-    ensures past { IsErrOf result Stop.PastLimits → GivesPast (S.left input.old) (S.left input.new) }
-    ensures other { result ≢ Err Stop.WriteFault }
-    ensures kept { result ≢ Err Stop.ReadFault → S.faults input.new ≡ S.faults input.old }
+    ensures past { IsErrOf result InputFault.PastLimit → GivesPast (S.left input.old) (S.left input.new) }
+    ensures kept { result ≢ Err InputFault.Failed → S.faults input.new ≡ S.faults input.old }
 {
     let Ok(mut buffer) = buffer_of(alloc) else {
-        return Err(Stop::OutOfMemory);
+        return Err(InputFault::OutOfMemory);
     };
     let mut text = Bytes::new(alloc);
     let mut ended = 0;
@@ -68,15 +70,15 @@ pub(crate) fn read_input<S: Source>(alloc: Global, input: &mut S) -> Result<Byte
         match read_piece(input, buffer.as_mut_slice(), &mut text) {
             Ok(0) => return Ok(text),
             Ok(_) => {}
-            Err(ReadFault::Failed) => return Err(Stop::ReadFault),
-            Err(ReadFault::OutOfMemory) => return Err(Stop::OutOfMemory),
+            Err(ReadFault::Failed) => return Err(InputFault::Failed),
+            Err(ReadFault::OutOfMemory) => return Err(InputFault::OutOfMemory),
         }
         ended += count_newlines(&text.as_slice()[before..]);
         if count_lines(text.as_slice(), ended) > MAX_LINES {
-            return Err(Stop::PastLimits);
+            return Err(InputFault::PastLimit);
         }
     }
-    Err(Stop::PastLimits)
+    Err(InputFault::PastLimit)
 }
 
 fn first_newline(text: &[u8]) -> Option<usize>
@@ -85,8 +87,8 @@ fn first_newline(text: &[u8]) -> Option<usize>
     memchr(b'\n', text)
 }
 
-/// The first line of a text that has some byte, and what stands after its newline.
-pub(crate) fn first_line(text: &[u8]) -> (&[u8], &[u8])
+/// The first line of a text that has some byte, without its newline, and what stands after that.
+pub fn first_line(text: &[u8]) -> (&[u8], &[u8])
     requires { 0 < length text.now }
     ensures lines { lines_of text.now ≡ result.0.now ∷ lines_of result.1.now }
     ensures shorter { length result.1.now < length text.now }

@@ -4,8 +4,8 @@ use Rattle.std.specs.Prelude.{All, ◌||◌}
 use Rattle.std.specs.List.{onto_first, list_any}
 use Rattle.std.proofs.lemmas.List.Elements.{All-nil, All-cons, All-head, All-tail}
 use borrow.Author.Tests.{eqb-true}
-use Rattle.sb_client.specs.Lines.{newline, is_newline, lines_of, HasNoNewline, joined_lines, last_newline}
-use Rattle.sb_client.proofs.LineCuts.{lines-newline, lines-other, lines_some}
+use Rattle.input_lines.specs.Lines.{newline, is_newline, lines_of, HasNoNewline, joined_lines, last_newline}
+use Rattle.input_lines.proofs.LineCuts.{lines-newline, lines-other, lines_some}
 
 -- ---- joined they are the input
 

@@ -1,5 +1,5 @@
-use Rattle.sb_client.proofs.InputLines.{each_plain, joined_whole}
-use Rattle.sb_client.proofs.laws.lines_are_the_input.Goals as goal
+use Rattle.input_lines.proofs.InputLines.{each_plain, joined_whole}
+use Rattle.input_lines.proofs.laws.lines_are_the_input.Goals as goal
 
 pub returns-clause-plain : goal.returns-clause-plain
 returns-clause-plain c = each_plain

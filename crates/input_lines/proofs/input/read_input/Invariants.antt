@@ -1,8 +1,8 @@
 use Rattle.std.proofs.Common.{◌≡◌, ◌-◌, ◌≤◌, length, vec_len}
 use Rattle.std.specs.Prelude.{count_by}
 use Rattle.sb_outside.specs.Outside.{GivesFront}
-use Rattle.sb_client.specs.Lines.{is_newline, lines_of}
-use Rattle.sb_client.proofs.input.read_input.Given as goal
+use Rattle.input_lines.specs.Lines.{is_newline, lines_of}
+use Rattle.input_lines.proofs.input.read_input.Given as goal
 
 abbrev pub invariant-loop-text : goal.invariant-loop-text
 invariant-loop-text g l = record {

@@ -1,6 +1,6 @@
 use Rattle.std.proofs.Common.{sym}
-use Rattle.sb_client.proofs.LineCuts.{line_found, line_none}
-use Rattle.sb_client.proofs.input.first_line.Goals as goal
+use Rattle.input_lines.proofs.LineCuts.{line_found, line_none}
+use Rattle.input_lines.proofs.input.first_line.Goals as goal
 
 pub returns-in-Some-clause-lines : goal.returns-in-Some-clause-lines
 returns-in-Some-clause-lines c = line_found c.args.text.now c.in-Some.end (sym c.in-Some.ensures)

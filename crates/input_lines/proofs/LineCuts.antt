@@ -8,8 +8,8 @@ use Rattle.std.proofs.lemmas.List.Splits.{slice_split_first, slice_split_none, s
 use Rattle.std.proofs.lemmas.List.Elements.{All-from_get_or}
 use Rattle.std.proofs.lemmas.List.{length-drop, take_all}
 use borrow.Author.Tests.{eqb-true}
-use Rattle.sb_client.proofs.FirstBytes.{none_at}
-use Rattle.sb_client.specs.Lines.{ends_open, newline, is_newline, without_empty_end, lines_of}
+use Rattle.input_lines.proofs.FirstBytes.{none_at}
+use Rattle.input_lines.specs.Lines.{ends_open, newline, is_newline, without_empty_end, lines_of}
 
 parts_some : (xs : List ℕ) → 0 < length (slice_split is_newline xs)
 parts_some xs = omega (arith, length-slice_split is_newline xs)

@@ -1,0 +1,4 @@
+pub mod FirstBytes
+pub mod Fronts
+pub mod InputLines
+pub mod LineCuts

@@ -1,5 +1,0 @@
-use Rattle.sb_client.proofs.FirstBytes.{first_is_position}
-use Rattle.sb_client.proofs.input.first_newline.Goals as goal
-
-pub returns : goal.returns
-returns c = first_is_position c.args.text.now c.memchr.result c.memchr.ensures
