@@ -8,7 +8,7 @@ LIST := MALWARE/ANY_PLATFORM/URL
 PROGRAMS := sbupdate sbcheck sblistd kernels
 BUILT := $(wildcard bin/sbupdate bin/sblistd)
 
-.PHONY: all test check gate wrong-bodies demo compare try-http try-run bench clean
+.PHONY: all test check gate wrong-bodies demo compare try-http try-run try-memory bench clean
 
 all:
 	python3 tools/build.py $(PROGRAMS)
@@ -56,6 +56,10 @@ try-http: all
 # descriptors, and stores that are held or taken.
 try-run: all
 	bash try/run.sh
+
+# Measures the memory that sbupdate and sblistd take for hostile JSON, and fails where it is more than the limits allow.
+try-memory: all
+	python3 try/memory.py
 
 bench: all
 	python3 bench/bench.py

@@ -1,8 +1,8 @@
 #!/usr/bin/env python3
 """Runs the second program over the stored cases, as docs/FORMATS.md says how a case is written.
 
-A case is left out where a run has another command than `sbupdate replay`, `sbcheck show` and `sblistd answer`, an object that
-fails, or a URL whose host has bytes from 128 on. The last case is wrong on purpose, so exactly that one has to differ: else the exit status is 1.
+A case is left out where it holds sessions or connections (`sbupdate run`, `sblistd serve`), where an object fails at a call with a number,
+for another program makes other calls, or where the host of a URL has bytes from 128 on. The last case is wrong on purpose, so exactly that one has to differ: else the exit status is 1.
 """
 
 import base64
@@ -14,6 +14,7 @@ import sys
 
 import server
 import urls
+import vectors
 from compare import REPOSITORY, replay
 
 CASES = os.path.join(REPOSITORY, "crates", "stored_cases", "stdin")
@@ -170,6 +171,11 @@ def answer(words, text, journal):
     if command == ["sblistd", "answer"]:
         found = answer_words(rest)
         return server.answer(journal, text, *found) if found else (None, 1)
+    if command not in KNOWN:
+        return None, 1
+    if command == ["sbcheck", "vectors"]:
+        found = options_of(rest, ())
+        return (vectors.vectors(), 0) if found and not found[1] else (None, 1)
     names = lists_of(rest) if command == ["sbupdate", "replay"] else options_of(rest, ())
     if not names or command == ["sbcheck", "show"] and names[1]:
         return None, 1
@@ -180,7 +186,8 @@ def answer(words, text, journal):
 
 # ---- cases
 
-KNOWN = (["sbupdate", "replay"], ["sbcheck", "show"], ["sblistd", "answer"])
+KNOWN = (["sbupdate", "replay"], ["sbcheck", "show"], ["sbcheck", "vectors"], ["sblistd", "answer"])
+LEFT_OUT = (["sbupdate", "run"], ["sblistd", "serve"])
 
 
 class Run:
@@ -204,7 +211,7 @@ class Run:
 
     def is_known(self):
         fails = any(re.match(rb"[a-z]+-fails ", self.book.lines[number]) for number in self.own)
-        return self.words()[:2] in KNOWN and not fails
+        return self.words()[:2] not in LEFT_OUT and not fails
 
     def text(self, name, cut):
         number = self.find(name, (self.own, self.group))

@@ -4,7 +4,7 @@
 The second program is the first part of this file. It follows docs/FORMATS.md with Python's own JSON,
 base64 and SHA-256, and shares nothing with the crates. First come the recordings of compare/recordings.py, whose
 texts are known; then seeded inputs: bodies that are right, bodies with changed fields, and bodies with changed
-bytes. `sbcheck show` runs beside compare/urls.py on seeded URLs, and `sblistd answer` beside compare/server.py on seeded
+bytes, and texts that stand at the limits of lists, objects and values. `sbcheck show` runs beside compare/urls.py on seeded URLs, and `sblistd answer` beside compare/server.py on seeded
 journals, fetch requests and find requests. The exit status is 1 where a run differs.
 """
 
@@ -19,6 +19,7 @@ import subprocess
 import sys
 import tempfile
 
+import dense
 import server
 import urls
 from changing import change_bytes, change_field
@@ -138,7 +139,8 @@ def replay(text, names):
         try:
             updates = read_body(line)
         except Unreadable as fault:
-            outcomes["not JSON" if str(fault) == "not-json" else "with a field fault"] += 1
+            cause = str(fault).split(" ")[0]
+            outcomes[{"not-json": "not JSON", "too-dense": "too dense"}.get(cause, "with a field fault")] += 1
             printed.append(f"{number} unreadable {fault}")
             continue
         for update in updates:
@@ -303,7 +305,7 @@ def answered(data, text, kind, times):
 def answers_differ(number, question):
     wanted, found = server.answer(*question), answered(*question)
     if found != wanted:
-        print(f"answer {number}: {question!r}\n  wanted {wanted}\n  found  {found}")
+        print(f"answer {number}: {question!r:.2000}\n  wanted {wanted}\n  found  {found}")
     return found != wanted
 
 
@@ -322,6 +324,21 @@ def compare_answers(rand, kind, count):
     return differing
 
 
+def compare_dense(rand, count):
+    """Runs the programs on texts about the limits of lists, objects and values: how many runs differ."""
+    differing, refused = 0, 0
+    for number in range(count):
+        text = dense.any_text(rand)
+        wanted, status, outcomes = replay(text, ["MALWARE/ANY_PLATFORM/URL"])
+        refused += outcomes["too dense"]
+        differing += differs(f"dense text {number}", ["MALWARE/ANY_PLATFORM/URL"], text, (wanted, status))
+        for kind in ("fetch", "find"):
+            question = b"sblist 1 0000000000000001\n", text, kind, {"wait": 1, "cache": 1, "negative": 1}
+            differing += answers_differ(f"to dense text {number}", question)
+    print(f"{count:,} texts about the limits of lists, objects and values, {refused:,} of them too dense")
+    return differing
+
+
 def differs(told, names, text, wanted, run=run):
     found = run(names, text)
     if found == wanted:
@@ -334,6 +351,7 @@ def differs(told, names, text, wanted, run=run):
 def main():
     parser = argparse.ArgumentParser(description=__doc__.splitlines()[0])
     parser.add_argument("--runs", type=int, default=5_000, help="how many inputs (5000)")
+    parser.add_argument("--dense", type=int, default=300, help="how many texts about the limits of density (300)")
     parser.add_argument("--urls", type=int, default=20_000, help="how many URLs (20000)")
     parser.add_argument("--answers", type=int, default=3_000, help="how many journals and requests of each kind (3000)")
     parser.add_argument("--seed", type=int, default=20_240_229, help="where they begin")
@@ -355,6 +373,7 @@ def main():
         differing += differs(f"input {number}", names, text, (wanted, status))
     told = ", ".join(f"{count:,} {outcome}" for outcome, count in sorted(outcomes.items()))
     print(f"{options.runs:,} inputs: {told}")
+    differing += compare_dense(random.Random(options.seed), options.dense)
     refused = 0
     for number in range(options.urls // 1_000):
         lines = urls.some_urls(rand, 1_000)

@@ -24,6 +24,26 @@ class Unreadable(Exception):
     """A line has no reading, for the cause that is the exception's text."""
 
 
+# a string, to its end or the text's, or a byte that opens a list or an object or stands before a value
+SIGNS = re.compile(rb'"(?:[^"\\]+|\\.)*"?|[\[{,:]', re.DOTALL)
+
+
+def too_dense(text):
+    """The place of the byte at which a text has too many lists and objects, or values, for its length."""
+    most_openings, most_values = 8_192 + len(text) // 48, 65_536 + len(text) // 6
+    openings = text.count(b"[") + text.count(b"{")
+    if openings <= most_openings and openings + text.count(b",") + text.count(b":") <= most_values:
+        return None
+    openings = values = 0
+    for found in SIGNS.finditer(text):
+        sign = found[0][:1]
+        openings += sign in b"[{"
+        values += sign in b"[{,:"
+        if openings > most_openings or values > most_values:
+            return found.start()
+    return None
+
+
 def no_constant(name):
     raise Unreadable("not-json")
 
@@ -69,6 +89,9 @@ def read_object(pairs):
 
 
 def read_json(line):
+    place = too_dense(line)
+    if place is not None:
+        raise Unreadable(f"too-dense {place}")
     try:
         value = json.loads(
             line.decode("utf-8"),
@@ -153,12 +176,12 @@ class Reader:
             self.refuse("base64", label)
         return data
 
-    def bytes_or_none(self, holder, name, label=None):
+    def bytes_or_empty(self, holder, name, label=None):
         value = holder.get(name)
         return b"" if value is None else self.bytes(value, label or name)
 
     def state(self, holder, name):
-        data = self.bytes_or_none(holder, name)
+        data = self.bytes_or_empty(holder, name)
         if len(data) > MOST_STATE:
             self.refuse(f"size {len(data)}", name)
         return data
@@ -168,7 +191,7 @@ class Reader:
         first = self.number_or_zero(record, "firstValue", I64)
         parameter = self.number_or_zero(record, "riceParameter", I32)
         count = self.number_or_zero(record, "numEntries", I32)
-        return ("rice", first, parameter, count, self.bytes_or_none(record, "encodedData"))
+        return ("rice", first, parameter, count, self.bytes_or_empty(record, "encodedData"))
 
     def addition(self, value):
         entry = self.object(value, "additions")
@@ -176,7 +199,7 @@ class Reader:
             return self.rice(entry, "riceHashes")
         raw = self.inner(entry, "rawHashes")
         size = self.number(self.needed(raw, "prefixSize"), "prefixSize", 4, 32)
-        data = self.bytes_or_none(raw, "rawHashes", "rawHashes.rawHashes")
+        data = self.bytes_or_empty(raw, "rawHashes", "rawHashes.rawHashes")
         if len(data) % size != 0:
             self.refuse(f"size {len(data)}", "rawHashes.rawHashes")
         return ("raw", [data[at : at + size] for at in range(0, len(data), size)])

@@ -1,6 +1,7 @@
 """A second reading of the rules of canonical URLs and expressions, and seeded URLs to try it on.
 
-It follows docs/FORMATS.md. Hosts with bytes from 128 on are left out, as Python reads them otherwise.
+It follows docs/FORMATS.md. Hosts with bytes from 128 on are left out, as Python reads them otherwise, but where a caller says how
+they are read.
 """
 
 import hashlib
@@ -57,7 +58,11 @@ def address_of(name):
     return b".".join(b"%d" % byte for byte in value.to_bytes(4, "big"))
 
 
-def host_of(authority):
+def unknown(name):
+    raise Skipped
+
+
+def host_of(authority, other_script):
     """The host, and whether it is an address."""
     rest = authority.rpartition(b"@")[2]
     bracketed = rest.lstrip(b".")
@@ -65,7 +70,7 @@ def host_of(authority):
         return bracketed[: bracketed.index(b"]") + 1].lower(), True
     name = b".".join(label for label in rest.split(b":")[0].split(b".") if label).lower()
     if any(byte >= 128 for byte in name):
-        raise Skipped
+        name = other_script(name)
     if not name:
         raise NoUrl("no-host")
     address = address_of(name)
@@ -84,7 +89,7 @@ def path_of(path):
     return [component for component in components[:-1] if component] + components[-1:]
 
 
-def canonical(text):
+def canonical(text, other_script=unknown):
     """The scheme, the host and whether it is an address, the components of the path, and the query or None."""
     if len(text) > LONGEST:
         raise NoUrl(f"too-long {len(text)}")
@@ -95,7 +100,7 @@ def canonical(text):
     found = re.match(rb"([A-Za-z][A-Za-z0-9+.\-]*)://", text)
     scheme, text = (found[1].lower(), text[found.end() :]) if found else (b"http", text)
     end = min(place for place in (text.find(b"/"), text.find(b"?"), len(text)) if place >= 0)
-    host, is_address = host_of(text[:end])
+    host, is_address = host_of(text[:end], other_script)
     path, mark, query = text[end:].partition(b"?")
     components = [escaped(component) for component in path_of(path)]
     return scheme, escaped(host), is_address, components, escaped(query) if mark else None
