@@ -24,7 +24,6 @@ import tempfile
 REPOSITORY = os.path.dirname(os.path.dirname(os.path.abspath(__file__)))
 CRATES = os.path.join(REPOSITORY, "crates")
 WITHOUT = os.path.join(REPOSITORY, "tools", "without_wrong_bodies.txt")
-OWED = os.path.join(REPOSITORY, "tools", "owed_wrong_bodies.txt")
 TRIED = "tried.md"
 KEPT = ".edit.md"
 OPEN = ".edit"
@@ -143,7 +142,7 @@ def lacks(name, path):
     return old is None
 
 
-def faults_of(name, uses, without, owed):
+def faults_of(name, uses, without):
     """Why a crate's wrong bodies are not as they have to be, and what is only to be known."""
     kept, opened = bodies_of(name, KEPT), bodies_of(name, OPEN)
     tried = os.path.exists(os.path.join(CRATES, name, "must-fail", TRIED))
@@ -159,10 +158,6 @@ def faults_of(name, uses, without, owed):
     if opened:
         return (["is open, and has a tried.md"] if tried else []), []
     found = read_tried(name)
-    if name in owed:
-        if found:
-            return ["is listed as a crate whose wrong bodies are owed a try, and has a tried.md"], []
-        return [], [f"has {len(kept)} wrong bodies that are owed a try: {owed[name]}"]
     if not found:
         return ["has no tried.md that can be read: `make wrong-bodies` writes it"], []
     count, own, specs = found
@@ -177,8 +172,8 @@ def faults_of(name, uses, without, owed):
 
 def check():
     uses = uses_of()
-    without, owed = dict(lines_of(WITHOUT)), dict(lines_of(OWED))
-    failed = kept = opened = late = 0
+    without = dict(lines_of(WITHOUT))
+    failed = kept = opened = 0
     for name in sorted(without):
         if name not in uses:
             print(f"wrong bodies: {name} is listed as a crate without any, and is no crate")
@@ -187,17 +182,13 @@ def check():
             print(f"wrong bodies: {name} is listed without its reason")
             failed += 1
     for name in uses:
-        faults, notes = faults_of(name, uses, without, owed)
+        faults, notes = faults_of(name, uses, without)
         for text in faults + notes:
             print(f"wrong bodies: {name} {text}")
         failed += len(faults)
-        late += len(bodies_of(name, KEPT)) if name in owed else 0
-        kept += len(bodies_of(name, KEPT)) if name not in owed else 0
+        kept += len(bodies_of(name, KEPT))
         opened += len(bodies_of(name, OPEN))
-    print(
-        f"wrong bodies: {opened} are tried by each gate, {kept} were refused when their crate last changed, "
-        f"{late} were refused before that and are owed a try"
-    )
+    print(f"wrong bodies: {opened} are tried by each gate, {kept} were refused when their crate last changed")
     return 1 if failed else 0
 
 
