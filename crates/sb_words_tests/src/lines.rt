@@ -266,7 +266,7 @@ fn run_takes_options_in_any_order(rt: HostRuntime) -> Result<(), Fail> {
 }
 
 #[test]
-fn run_refuses_what_breaks_a_rule(rt: HostRuntime) -> Result<(), Fail> {
+fn run_needs_its_options_each_once(rt: HostRuntime) -> Result<(), Fail> {
     for line in [
         // what is needed is not there
         "",
@@ -281,6 +281,15 @@ fn run_refuses_what_breaks_a_rule(rt: HostRuntime) -> Result<(), Fail> {
         "--store s --server h:1 --rounds 3 --store=t",
         "--store s --server h:1 --rounds 3 --raw-only --raw-only",
         "--key k --store s --server h:1 --rounds 3 --key k",
+    ] {
+        is_refused(&rt, rt.alloc(), &RUN, line)?;
+    }
+    Ok(())
+}
+
+#[test]
+fn run_refuses_values_that_are_none(rt: HostRuntime) -> Result<(), Fail> {
+    for line in [
         // a value is empty, begins with a dash or is not there
         "--store= --server h:1 --rounds 3",
         "--store  --server h:1 --rounds 3",
@@ -299,6 +308,15 @@ fn run_refuses_what_breaks_a_rule(rt: HostRuntime) -> Result<(), Fail> {
         "--store s --server h:1 --rounds 3 --raw-only=",
         "--store s --server h:1 --rounds 3 --raw-only=true",
         "--store s --server h:1 --rounds 3 --raw-only=-1",
+    ] {
+        is_refused(&rt, rt.alloc(), &RUN, line)?;
+    }
+    Ok(())
+}
+
+#[test]
+fn run_refuses_other_options(rt: HostRuntime) -> Result<(), Fail> {
+    for line in [
         // no option has the name
         "--store s --serv h:1 --rounds 3",
         "--stores s --server h:1 --rounds 3 --store s",
