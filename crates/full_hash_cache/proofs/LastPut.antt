@@ -1,5 +1,5 @@
 -- What is kept of a pair is from the last answer that put it.
-use Rattle.std.proofs.Common.{rules, ◌≡◌, ℕ, zero, suc, ◌-◌, ◌⊎◌, Bool, true, false, cond, nat_eq, List, [], ◌∷◌, take, Contains, Option, Some, None, IfSome, refl, sym, subst, inl, inr, arith}
+use Rattle.std.proofs.Common.{◌≡◌, ℕ, zero, suc, ◌-◌, ◌⊎◌, Bool, true, false, cond, nat_eq, List, [], ◌∷◌, take, Contains, Option, Some, None, IfSome, refl, sym, subst, inl, inr, arith}
 use Rattle.std.specs.Prelude.{◌&&◌}
 use Rattle.std.specs.List.{AllByRecursion}
 use Rattle.std.specs.Option.{option_map_or}
@@ -16,7 +16,7 @@ use Rattle.full_hash_cache.specs.declared.pair.Pair.{Pair}
 use Rattle.full_hash_cache.specs.Cache.{Kept, Pairs, most_pairs, same_pair, kept_of, asked_pairs, with_pair, put_pair, put_pairs, pairs_asked, taken}
 use Rattle.full_hash_cache.specs.Law.{Step, after_steps, Puts, IsLastPut}
 use Rattle.full_hash_cache.specs.Law.Step.{Takes, Asks}
-use Rattle.full_hash_cache.proofs.Told.{here, there, equal_names, first_of_two}
+use Rattle.full_hash_cache.proofs.Told.{here, there, equal_pairs}
 use Rattle.full_hash_cache.proofs.Returned.{either_place, in_none, IsFrom, is_from}
 
 -- ---- entries of a pair
@@ -78,28 +78,9 @@ passes test (e ∷ es) = go (test e.0) refl (passes test es)
 
 -- ---- equal pairs
 
-equal_prefixes : (a b : List ℕ) → bytes_eq a b ≡ true → a ≡ b
-equal_prefixes [] [] h = refl
-equal_prefixes [] (y ∷ ys) h = cc h
-equal_prefixes (x ∷ xs) [] h = cc h
-equal_prefixes (x ∷ xs) (y ∷ ys) h = go (nat_eq x y) refl h (equal_prefixes xs ys)
-  where
-    go : (b : Bool) → nat_eq x y ≡ b → (b && bytes_eq xs ys) ≡ true → (bytes_eq xs ys ≡ true → xs ≡ ys) → x ∷ xs ≡ y ∷ ys
-    go true is h more = let same : x ≡ y = grind (arith, nat_tests) in λ i. same i ∷ more h i
-    go false is h more = cc h
-
 pub same_prefix : (a : List ℕ) → bytes_eq a a ≡ true
 same_prefix [] = refl
 same_prefix (x ∷ xs) = let same : nat_eq x x ≡ true = grind (arith, nat_tests) in λ i. same i && same_prefix xs i
-
-second_of_two : (p q : Bool) → (p && q) ≡ true → q ≡ true
-second_of_two p q h = search rules
-
-equal_pairs : (a b : Pair) → same_pair a b ≡ true → a ≡ b
-equal_pairs a b h =
-    let lists = equal_names a.list b.list (first_of_two _ _ h) in
-    let prefixes = equal_prefixes a.prefix b.prefix (second_of_two _ _ h) in
-    λ i. record { list = lists i; prefix = prefixes i }
 
 same_code : (n : ℕ) → nat_eq n n ≡ true
 same_code n = grind (arith, nat_tests)

@@ -6,6 +6,7 @@ use Rattle.std.specs.declared.cmp.Ordering.TheVariants.{Less, Equal, Greater}
 use Rattle.std.specs.Ordering.{nat_cmp, ordering_then, is_eq, match_ordering}
 use Rattle.std.specs.List.{fold, AllByRecursion}
 use Rattle.std.specs.Option.{option_map_or}
+use Rattle.std.specs.Str.{bytes_eq}
 use Rattle.std.specs.Map.{lookup_entry, remove_entry}
 use Rattle.std.specs.BTreeMap.{insert_entry}
 use Rattle.std.proofs.lemmas.Bool.Decides.{nat_tests}
@@ -91,7 +92,7 @@ module _ {K V : Type 0} (P : K × V → Type 0) (test : K → Bool) where
       go None is = h
       go (Some e) is = (is.0, each_removed es h)
 
--- ---- equal names and hashes
+-- ---- equal pairs and hashes
 
 threat_by_code : (a b : ThreatType) → nat_eq (threat_code a) (threat_code b) ≡ true → a ≡ b
 threat_by_code a b h = search rules
@@ -108,16 +109,32 @@ all_three p q r h = search rules
 named : (a b : ListName) → a.threat ≡ b.threat → a.platform ≡ b.platform → a.entry ≡ b.entry → a ≡ b
 named a b t p e = search rules
 
-pub equal_names : (a b : ListName) → same_name a b ≡ true → a ≡ b
+equal_names : (a b : ListName) → same_name a b ≡ true → a ≡ b
 equal_names a b h =
     let parts = all_three _ _ _ h in
     named a b (threat_by_code _ _ parts.0) (platform_by_code _ _ parts.1) (entry_by_code _ _ parts.2)
 
-pub first_of_two : (p q : Bool) → (p && q) ≡ true → p ≡ true
+first_of_two : (p q : Bool) → (p && q) ≡ true → p ≡ true
 first_of_two p q h = search rules
 
-equal_lists : (a b : Pair) → same_pair a b ≡ true → a.list ≡ b.list
-equal_lists a b h = equal_names a.list b.list (first_of_two _ _ h)
+equal_prefixes : (a b : List ℕ) → bytes_eq a b ≡ true → a ≡ b
+equal_prefixes [] [] h = refl
+equal_prefixes [] (y ∷ ys) h = cc h
+equal_prefixes (x ∷ xs) [] h = cc h
+equal_prefixes (x ∷ xs) (y ∷ ys) h = go (nat_eq x y) refl h (equal_prefixes xs ys)
+  where
+    go : (b : Bool) → nat_eq x y ≡ b → (b && bytes_eq xs ys) ≡ true → (bytes_eq xs ys ≡ true → xs ≡ ys) → x ∷ xs ≡ y ∷ ys
+    go true is h more = let same : x ≡ y = grind (arith, nat_tests) in λ i. same i ∷ more h i
+    go false is h more = cc h
+
+second_of_two : (p q : Bool) → (p && q) ≡ true → q ≡ true
+second_of_two p q h = search rules
+
+pub equal_pairs : (a b : Pair) → same_pair a b ≡ true → a ≡ b
+equal_pairs a b h =
+    let lists = equal_names a.list b.list (first_of_two _ _ h) in
+    let prefixes = equal_prefixes a.prefix b.prefix (second_of_two _ _ h) in
+    λ i. record { list = lists i; prefix = prefixes i }
 
 equal_numbers : (x y : ℕ) → nat_cmp x y ≡ Equal → x ≡ y
 equal_numbers x y h = grind (arith, nat_tests)
@@ -141,107 +158,115 @@ by_is_eq Less h = cc h
 by_is_eq Equal h = refl
 by_is_eq Greater h = cc h
 
--- ---- matches of a list that were told
+-- ---- matches of a pair that were told
 
-module _ (T : ListName → FullHash → Moment → Type 0) where
-  abbrev Holds : ListName → Matches → Type 0
-  Holds list matches = Each (λ m. T list m.0 m.1) matches
+module _ (T : Pair → FullHash → Moment → Type 0) where
+  abbrev Holds : Pair → Matches → Type 0
+  Holds pair matches = Each (λ m. T pair m.0 m.1) matches
 
-  kept_end : (list : ListName) (hash : FullHash) (matches : Matches) → Holds list matches → IfSome (end_of matches hash) (λ end. T list hash end)
-  kept_end list hash [] h = tt
-  kept_end list hash (m ∷ ms) h = go (same_hash hash m.0) refl (kept_end list hash ms h.1)
+  kept_end : (pair : Pair) (hash : FullHash) (matches : Matches) → Holds pair matches → IfSome (end_of matches hash) (λ end. T pair hash end)
+  kept_end pair hash [] h = tt
+  kept_end pair hash (m ∷ ms) h = go (same_hash hash m.0) refl (kept_end pair hash ms h.1)
     where
-      go : (b : Bool) → same_hash hash m.0 ≡ b → IfSome (end_of ms hash) (λ end. T list hash end)
-          → IfSome (cond b (Some m.1) (end_of ms hash)) (λ end. T list hash end)
-      go true is more = subst (λ k. T list k m.1) (sym (equal_hashes hash m.0 (by_is_eq _ is))) h.0
+      go : (b : Bool) → same_hash hash m.0 ≡ b → IfSome (end_of ms hash) (λ end. T pair hash end)
+          → IfSome (cond b (Some m.1) (end_of ms hash)) (λ end. T pair hash end)
+      go true is more = subst (λ k. T pair k m.1) (sym (equal_hashes hash m.0 (by_is_eq _ is))) h.0
       go false is more = more
 
-  told_later : (list : ListName) (hash : FullHash) (end : Moment) (o : Option Moment) → T list hash end → IfSome o (λ end. T list hash end) → T list hash (later_end end o)
-  told_later list hash end None h k = h
-  told_later list hash end (Some other) h k = go (is_before end other)
+  told_later : (pair : Pair) (hash : FullHash) (end : Moment) (o : Option Moment) → T pair hash end → IfSome o (λ end. T pair hash end) → T pair hash (later_end end o)
+  told_later pair hash end None h k = h
+  told_later pair hash end (Some other) h k = go (is_before end other)
     where
-      go : (b : Bool) → T list hash (cond b other end)
+      go : (b : Bool) → T pair hash (cond b other end)
       go true = k
       go false = h
 
-  inserted : (list : ListName) (hash : FullHash) (end : Moment) (matches : Matches) → T list hash end → Holds list matches → Holds list (insert_entry hash_cmp matches hash end)
-  inserted list hash end [] t h = (t, tt)
-  inserted list hash end (m ∷ ms) t h = go (hash_cmp hash m.0) refl (inserted list hash end ms t h.1)
+  inserted : (pair : Pair) (hash : FullHash) (end : Moment) (matches : Matches) → T pair hash end → Holds pair matches → Holds pair (insert_entry hash_cmp matches hash end)
+  inserted pair hash end [] t h = (t, tt)
+  inserted pair hash end (m ∷ ms) t h = go (hash_cmp hash m.0) refl (inserted pair hash end ms t h.1)
     where
-      go : (o : Ordering) → hash_cmp hash m.0 ≡ o → Holds list (insert_entry hash_cmp ms hash end)
-          → Holds list (match_ordering o ((hash, end) ∷ m ∷ ms) ((m.0, end) ∷ ms) (m ∷ insert_entry hash_cmp ms hash end))
+      go : (o : Ordering) → hash_cmp hash m.0 ≡ o → Holds pair (insert_entry hash_cmp ms hash end)
+          → Holds pair (match_ordering o ((hash, end) ∷ m ∷ ms) ((m.0, end) ∷ ms) (m ∷ insert_entry hash_cmp ms hash end))
       go Less is more = (t, h)
-      go Equal is more = (subst (λ k. T list k end) (equal_hashes hash m.0 is) t, h.1)
+      go Equal is more = (subst (λ k. T pair k end) (equal_hashes hash m.0 is) t, h.1)
       go Greater is more = (h.0, more)
 
-  with_told : (list : ListName) (matches : Matches) (m : FullHash × Moment) → Holds list matches → T list m.0 m.1 → Holds list (with_match matches m)
-  with_told list matches m h t = inserted list m.0 _ matches (told_later list m.0 m.1 (end_of matches m.0) t (kept_end list m.0 matches h)) h
+  with_told : (pair : Pair) (matches : Matches) (m : FullHash × Moment) → Holds pair matches → T pair m.0 m.1 → Holds pair (with_match matches m)
+  with_told pair matches m h t = inserted pair m.0 _ matches (told_later pair m.0 m.1 (end_of matches m.0) t (kept_end pair m.0 matches h)) h
 
-  all_told : (list : ListName) (found matches : Matches) → Holds list matches → Holds list found → Holds list (fold with_match matches found)
-  all_told list [] matches h k = h
-  all_told list (m ∷ ms) matches h k = all_told list ms (with_match matches m) (with_told list matches m h k.0) k.1
+  all_told : (pair : Pair) (found matches : Matches) → Holds pair matches → Holds pair found → Holds pair (fold with_match matches found)
+  all_told pair [] matches h k = h
+  all_told pair (m ∷ ms) matches h k = all_told pair ms (with_match matches m) (with_told pair matches m h k.0) k.1
 
   -- ---- pairs
 
   abbrev IsFounded : Pairs → Type 0
-  IsFounded pairs = Each (λ (e : Pair × Kept). Holds e.0.list e.1.matches) pairs
+  IsFounded pairs = Each (λ (e : Pair × Kept). Holds e.0 e.1.matches) pairs
 
-  kept_matches : (pair : Pair) (pairs : Pairs) → IsFounded pairs → Holds pair.list (matches_of pairs pair)
+  kept_matches : (pair : Pair) (pairs : Pairs) → IsFounded pairs → Holds pair (matches_of pairs pair)
   kept_matches pair [] h = tt
   kept_matches pair (e ∷ es) h = go (same_pair pair e.0) refl (kept_matches pair es h.1)
     where
-      go : (b : Bool) → same_pair pair e.0 ≡ b → Holds pair.list (matches_of es pair)
-          → Holds pair.list (option_map_or (λ (kept : Kept). kept.matches) (cond b (Some e.1) (kept_of es pair)) [])
-      go true is more = subst (λ l. Holds l e.1.matches) (sym (equal_lists pair e.0 is)) h.0
+      go : (b : Bool) → same_pair pair e.0 ≡ b → Holds pair (matches_of es pair)
+          → Holds pair (option_map_or (λ (kept : Kept). kept.matches) (cond b (Some e.1) (kept_of es pair)) [])
+      go true is more = subst (λ p. Holds p e.1.matches) (sym (equal_pairs pair e.0 is)) h.0
       go false is more = more
 
-  founded_with : (pairs : Pairs) (pair : Pair) (kept : Kept) → IsFounded pairs → Holds pair.list kept.matches → IsFounded (with_pair pairs pair kept)
-  founded_with pairs pair kept h k = go (lookup_entry (same_pair pair) pairs) (found_entry (λ (e : Pair × Kept). Holds e.0.list e.1.matches) (same_pair pair) pairs h)
+  founded_with : (pairs : Pairs) (pair : Pair) (kept : Kept) → IsFounded pairs → Holds pair kept.matches → IsFounded (with_pair pairs pair kept)
+  founded_with pairs pair kept h k = go (lookup_entry (same_pair pair) pairs) (found_entry (λ (e : Pair × Kept). Holds e.0 e.1.matches) (same_pair pair) pairs h)
     where
-      go : (o : Option (Pair × Kept)) → IfSome o (λ e. Holds e.0.list e.1.matches × (same_pair pair e.0 ≡ true))
+      go : (o : Option (Pair × Kept)) → IfSome o (λ e. Holds e.0 e.1.matches × (same_pair pair e.0 ≡ true))
           → IsFounded (option_map_or (λ e. (e.0, kept) ∷ remove_entry (same_pair pair) pairs) o ((pair, kept) ∷ take (most_pairs - 1) pairs))
-      go None is = (k, each_take (λ (e : Pair × Kept). Holds e.0.list e.1.matches) (most_pairs - 1) pairs h)
+      go None is = (k, each_take (λ (e : Pair × Kept). Holds e.0 e.1.matches) (most_pairs - 1) pairs h)
       go (Some e) is = (
-        subst (λ l. Holds l kept.matches) (equal_lists pair e.0 is.1) k,
-        each_removed (λ (e : Pair × Kept). Holds e.0.list e.1.matches) (same_pair pair) pairs h,
+        subst (λ p. Holds p kept.matches) (equal_pairs pair e.0 is.1) k,
+        each_removed (λ (e : Pair × Kept). Holds e.0 e.1.matches) (same_pair pair) pairs h,
       )
 
-  abbrev Returns : Moment → FindResponse → Type 0
-  Returns at response = (list : ListName) → Each (λ (m : Match). same_name m.name list ≡ true → T list m.hash (later_than at (cache_of m.cache))) response.matches
+  -- what an answer received at a moment returned tells of a pair
+  abbrev Returns : Moment → Pair → List Match → Type 0
+  Returns at pair found = Each (λ (m : Match). same_name m.name pair.list ≡ true → T pair m.hash (later_than at (cache_of m.cache))) found
 
-  listed : (at : Moment) (list : ListName) (found : List Match) → Each (λ (m : Match). same_name m.name list ≡ true → T list m.hash (later_than at (cache_of m.cache))) found
-      → Holds list (map (ending at) (filter (λ m. same_name m.name list) found))
-  listed at list [] h = tt
-  listed at list (m ∷ ms) h = go (same_name m.name list) refl (listed at list ms h.1)
+  listed : (at : Moment) (pair : Pair) (found : List Match) → Returns at pair found → Holds pair (map (ending at) (filter (λ m. same_name m.name pair.list) found))
+  listed at pair [] h = tt
+  listed at pair (m ∷ ms) h = go (same_name m.name pair.list) refl (listed at pair ms h.1)
     where
-      go : (b : Bool) → same_name m.name list ≡ b → Holds list (map (ending at) (filter (λ m. same_name m.name list) ms))
-          → Holds list (map (ending at) (cond b (m ∷ filter (λ m. same_name m.name list) ms) (filter (λ m. same_name m.name list) ms)))
+      go : (b : Bool) → same_name m.name pair.list ≡ b → Holds pair (map (ending at) (filter (λ m. same_name m.name pair.list) ms))
+          → Holds pair (map (ending at) (cond b (m ∷ filter (λ m. same_name m.name pair.list) ms) (filter (λ m. same_name m.name pair.list) ms)))
       go true is more = (h.0 is, more)
       go false is more = more
 
-  founded_put : (at : Moment) (response : FindResponse) → Returns at response → (pairs : Pairs) (pair : Pair) → IsFounded pairs → IsFounded (put_pair at response pairs pair)
-  founded_put at response returned pairs pair h =
-      let told = λ (m : FullHash × Moment). T pair.list m.0 m.1 in
+  founded_put : (at : Moment) (response : FindResponse) (pair : Pair) → Returns at pair response.matches → (pairs : Pairs) → IsFounded pairs → IsFounded (put_pair at response pairs pair)
+  founded_put at response pair returned pairs h =
+      let told = λ (m : FullHash × Moment). T pair m.0 m.1 in
       let old = each_filter told (λ m. is_before at m.1) (matches_of pairs pair) (kept_matches pair pairs h) in
-      let found = all_told pair.list (map (ending at) (filter (λ m. same_name m.name pair.list) response.matches)) [] tt (listed at pair.list response.matches (returned pair.list)) in
+      let found = all_told pair (map (ending at) (filter (λ m. same_name m.name pair.list) response.matches)) [] tt (listed at pair response.matches returned) in
       let new = each_filter told (λ m. begins pair.prefix m.0) (matches_for at pair.list response.matches) found in
-      founded_with pairs pair _ h (all_told pair.list _ [] tt (each_append told _ _ old new))
+      founded_with pairs pair _ h (all_told pair _ [] tt (each_append told _ _ old new))
 
-  founded_puts : (at : Moment) (response : FindResponse) → Returns at response → (asked : List Pair) (pairs : Pairs) → IsFounded pairs → IsFounded (put_pairs at response pairs asked)
-  founded_puts at response returned [] pairs h = h
-  founded_puts at response returned (pair ∷ asked) pairs h = founded_puts at response returned asked (put_pair at response pairs pair) (founded_put at response returned pairs pair h)
+  founded_puts : (at : Moment) (response : FindResponse) (asked : List Pair) → Each (λ pair. Returns at pair response.matches) asked → (pairs : Pairs) → IsFounded pairs
+      → IsFounded (put_pairs at response pairs asked)
+  founded_puts at response [] returned pairs h = h
+  founded_puts at response (pair ∷ asked) returned pairs h =
+      founded_puts at response asked returned.1 (put_pair at response pairs pair) (founded_put at response pair returned.0 pairs h)
 
 -- ---- steps
 
 returned_by : (all : List Step) (at : Moment) (lists : List ListName) (asked : AskedHashes) (response : FindResponse) → Contains all (Takes at lists asked response)
-    → Returns (IsTold all) at response
-returned_by all at lists asked response h list =
+    → (pair : Pair) → Contains (pairs_asked asked lists) pair → Returns (IsTold all) at pair response.matches
+returned_by all at lists asked response h pair a =
     each_map (Contains response.matches) _
-    (λ m c is. record { at = at; lists = lists; asked = asked; response = response; found = m; was_taken = h; was_returned = c; of_list = is; of_hash = refl; ends = refl })
+    (λ m c is. record { at = at; lists = lists; asked = asked; response = response; found = m; was_taken = h; was_asked = a; was_returned = c; of_list = is; of_hash = refl; ends = refl })
     response.matches (each_there response.matches)
 
+all_returned : (all : List Step) (at : Moment) (lists : List ListName) (asked : AskedHashes) (response : FindResponse) → Contains all (Takes at lists asked response)
+    → Each (λ pair. Returns (IsTold all) at pair response.matches) (pairs_asked asked lists)
+all_returned all at lists asked response h =
+    each_map (Contains (pairs_asked asked lists)) _ (returned_by all at lists asked response h) (pairs_asked asked lists) (each_there (pairs_asked asked lists))
+
 founded_step : (all : List Step) (step : Step) (pairs : Pairs) → Contains all step → IsFounded (IsTold all) pairs → IsFounded (IsTold all) (after_step pairs step)
-founded_step all (Takes at lists asked response) pairs c h = founded_puts (IsTold all) at response (returned_by all at lists asked response c) (pairs_asked asked lists) pairs h
+founded_step all (Takes at lists asked response) pairs c h =
+    founded_puts (IsTold all) at response (pairs_asked asked lists) (all_returned all at lists asked response c) pairs h
 founded_step all (Asks now pair hash) pairs c h = each_promoted _ (same_pair pair) pairs h
 
 -- from any pairs whose matches were told
@@ -249,28 +274,28 @@ pub founded_steps : (all steps : List Step) (pairs : Pairs) → Each (Contains a
 founded_steps all [] pairs c h = h
 founded_steps all (step ∷ steps) pairs c h = founded_steps all steps (after_step pairs step) c.1 (founded_step all step pairs c.0 h)
 
-unsafe_is_told : (all : List Step) (now : Moment) (list : ListName) (hash : FullHash) (negative_end : Moment) (o : Option Moment)
-    → IfSome o (λ end. IsTold all list hash end) → said_by now negative_end o ≡ Unsafe → IsToldAfter all now list hash
-unsafe_is_told all now list hash negative_end None h is = go (is_before now negative_end) is
+unsafe_is_told : (all : List Step) (now : Moment) (pair : Pair) (hash : FullHash) (negative_end : Moment) (o : Option Moment)
+    → IfSome o (λ end. IsTold all pair hash end) → said_by now negative_end o ≡ Unsafe → IsToldAfter all now pair hash
+unsafe_is_told all now pair hash negative_end None h is = go (is_before now negative_end) is
   where
-    go : (b : Bool) → cond b Safe Ask ≡ Unsafe → IsToldAfter all now list hash
+    go : (b : Bool) → cond b Safe Ask ≡ Unsafe → IsToldAfter all now pair hash
     go true e = cc e
     go false e = cc e
-unsafe_is_told all now list hash negative_end (Some end) h is = go (is_before now end) refl is
+unsafe_is_told all now pair hash negative_end (Some end) h is = go (is_before now end) refl is
   where
-    go : (b : Bool) → is_before now end ≡ b → cond b Unsafe Ask ≡ Unsafe → IsToldAfter all now list hash
+    go : (b : Bool) → is_before now end ≡ b → cond b Unsafe Ask ≡ Unsafe → IsToldAfter all now pair hash
     go true before e = record { end = end; told = h; not_ended = before }
     go false before e = cc e
 
 unsafe_in : (all : List Step) (now : Moment) (pair : Pair) (hash : FullHash) (pairs : Pairs) → IsFounded (IsTold all) pairs
-    → answer_of pairs now pair hash ≡ Unsafe → IsToldAfter all now pair.list hash
+    → answer_of pairs now pair hash ≡ Unsafe → IsToldAfter all now pair hash
 unsafe_in all now pair hash pairs h is =
     go (kept_of pairs pair) (kept_matches (IsTold all) pair pairs h) is
   where
-    go : (o : Option Kept) → Holds (IsTold all) pair.list (option_map_or (λ (kept : Kept). kept.matches) o [])
-        → option_map_or (λ (kept : Kept). said_by now kept.negative_end (end_of kept.matches hash)) o Ask ≡ Unsafe → IsToldAfter all now pair.list hash
+    go : (o : Option Kept) → Holds (IsTold all) pair (option_map_or (λ (kept : Kept). kept.matches) o [])
+        → option_map_or (λ (kept : Kept). said_by now kept.negative_end (end_of kept.matches hash)) o Ask ≡ Unsafe → IsToldAfter all now pair hash
     go None h e = cc e
-    go (Some kept) h e = unsafe_is_told all now pair.list hash kept.negative_end (end_of kept.matches hash) (kept_end (IsTold all) pair.list hash kept.matches h) e
+    go (Some kept) h e = unsafe_is_told all now pair hash kept.negative_end (end_of kept.matches hash) (kept_end (IsTold all) pair hash kept.matches h) e
 
-pub told_after : (steps : List Step) (now : Moment) (pair : Pair) (hash : FullHash) → answer_of (after_steps [] steps) now pair hash ≡ Unsafe → IsToldAfter steps now pair.list hash
+pub told_after : (steps : List Step) (now : Moment) (pair : Pair) (hash : FullHash) → answer_of (after_steps [] steps) now pair hash ≡ Unsafe → IsToldAfter steps now pair hash
 told_after steps now pair hash is = unsafe_in steps now pair hash (after_steps [] steps) (founded_steps steps steps [] (each_there steps) tt) is

@@ -25,23 +25,25 @@ after_step pairs (Asks now pair hash) = asked_pairs pairs pair
 abbrev pub after_steps : Pairs → List Step → Pairs
 after_steps pairs steps = fold after_step pairs steps
 
--- An answer that was taken has a match of a list and a hash, which may be kept up to an end.
-pub record IsTold (steps : List Step) (list : ListName) (hash : FullHash) (end : Moment) : Type 0 where
+-- An answer that was taken to a request that asks for a pair has a match of the pair's list and a hash, which may be
+-- kept up to an end.
+pub record IsTold (steps : List Step) (pair : Pair) (hash : FullHash) (end : Moment) : Type 0 where
   pub at : Moment
   pub lists : List ListName
   pub asked : AskedHashes
   pub response : FindResponse
   pub found : Match
   pub was_taken : Contains steps (Takes at lists asked response)
+  pub was_asked : Contains (pairs_asked asked lists) pair
   pub was_returned : Contains response.matches found
-  pub of_list : IsTrue (same_name found.name list)
+  pub of_list : IsTrue (same_name found.name pair.list)
   pub of_hash : found.hash ≡ hash
   pub ends : end ≡ later_than at (cache_of found.cache)
 
 -- the same with an end after a moment
-pub record IsToldAfter (steps : List Step) (now : Moment) (list : ListName) (hash : FullHash) : Type 0 where
+pub record IsToldAfter (steps : List Step) (now : Moment) (pair : Pair) (hash : FullHash) : Type 0 where
   pub end : Moment
-  pub told : IsTold steps list hash end
+  pub told : IsTold steps pair hash end
   pub not_ended : IsTrue (is_before now end)
 
 -- A step puts a pair where it takes an answer to a request that asks for the pair.

@@ -7,12 +7,13 @@ ghost use Rattle.full_hash_cache.specs.declared.pair.Pair.{Pair};
 
 use crate::Cached;
 
-/// A cache that began with no pairs says that a hash is unsafe only where an answer that it took has
-/// a match of the list and the hash, and the time that this match may be kept has not passed.
+/// A cache that began with no pairs says that a hash is unsafe, for a list and a prefix, only where an
+/// answer that it took was asked for this pair and has a match of the list and the hash, and the time
+/// that this match may be kept has not passed.
 pub fn unsafe_hashes_were_told()
     ensures { (steps : List Step) (now : Moment) (pair : Pair) (hash : FullHash)
         → answer_of (after_steps [] steps) now pair hash ≡ Cached.Unsafe
-        → IsToldAfter steps now pair.list hash }
+        → IsToldAfter steps now pair hash }
 {}
 
 /// A cache that began with no pairs says that a hash is safe, for a list and a prefix that begins the
