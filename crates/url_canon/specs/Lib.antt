@@ -8,3 +8,4 @@ pub mod Host
 pub mod Path
 pub mod Url
 pub mod Canonical
+pub mod Printed

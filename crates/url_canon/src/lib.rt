@@ -6,6 +6,7 @@ pub use address::address_has_four_bytes;
 pub use canonicalize::canonical;
 pub use fault::UrlFault;
 pub use path::canonical_paths_are_normal;
+pub use printing::push_url_cause;
 pub use unescape::unescaping_has_one_end;
 pub use url::CanonicalUrl;
 
@@ -16,6 +17,7 @@ mod fault;
 mod host;
 mod parts;
 mod path;
+mod printing;
 mod split;
 mod strip;
 mod unescape;
