@@ -10,3 +10,4 @@ mod Endings
 mod Readings
 mod Getters
 mod NumeralTexts
+mod Addresses

@@ -1,6 +1,6 @@
 -- The values that options and positional words have to be.
 use Rattle.std.specs.Prelude.{ℕ, Bool, true, not, ◌&&◌, ◌||◌, ◌==◌, nat_lt, nat_le, if◌then◌else◌, List, [], ◌∷◌, length, slice_index, Option, Some, None, option_map, option_and_then}
-use Rattle.std.specs.Char.{is_ascii_digit, is_ascii_alphanumeric}
+use Rattle.std.specs.Char.{is_ascii_digit, is_ascii_hexdigit, is_ascii_alphanumeric}
 use Rattle.std.specs.List.{list_any, list_all, before_first, after_first}
 use Rattle.std.specs.Result.{result_ok}
 use Rattle.std.specs.Str.Parse.{digits_value}
@@ -71,3 +71,38 @@ address_of host port = if is_host host then option_map (λ number. (host, number
 unfoldable pub host_port_of : Text → Option (Text × ℕ)
 host_port_of text =
     if list_any is_colon text then address_of (before_first is_colon text) (after_first is_colon text) else None
+
+-- ---- addresses at which connections come in
+
+-- what stands before the first such byte and what stands after it, where there is one, give this
+abbrev pub cut_at : (ℕ → Bool) → (Text → Text → Option (Text × ℕ)) → Text → Option (Text × ℕ)
+cut_at is_mark both text = if list_any is_mark text then both (before_first is_mark text) (after_first is_mark text) else None
+
+-- a host and a port of 0 to 65535, where 0 leaves it open which
+abbrev pub listening_at : Text → Text → Option (Text × ℕ)
+listening_at host port = if is_host host then option_map (λ number. (host, number)) (number_of 0 65535 port) else None
+
+abbrev pub is_ipv6_byte : ℕ → Bool
+is_ipv6_byte byte = is_ascii_hexdigit byte || byte == 58 || byte == 46
+
+-- the bytes of an IPv6 address: one or more hexadecimal digits, `:` and `.`
+abbrev pub is_ipv6 : Text → Bool
+is_ipv6 text = nat_lt 0 (length text) && list_all is_ipv6_byte text
+
+-- the port after a colon
+abbrev pub port_after_colon : Text → Option ℕ
+port_after_colon [] = None
+port_after_colon (first ∷ port) = if first == 58 then number_of 0 65535 port else None
+
+-- an IPv6 address, and after its closing bracket a colon and a port
+abbrev pub listening_in : Text → Text → Option (Text × ℕ)
+listening_in host rest = if is_ipv6 host then option_map (λ number. (host, number)) (port_after_colon rest) else None
+
+abbrev pub is_closing : ℕ → Bool
+is_closing byte = byte == 93
+
+-- `HOST:PORT`, or `[IPV6]:PORT`
+unfoldable pub listen_address_of : Text → Option (Text × ℕ)
+listen_address_of [] = None
+listen_address_of (first ∷ rest) =
+    if first == 91 then cut_at is_closing listening_in rest else cut_at is_colon listening_at (first ∷ rest)

@@ -5,7 +5,7 @@ pub use laws::clap_gives_the_same;
 pub use named_lists::lists;
 pub use reading::{Words, read_words};
 pub use shape::{OptionKind, OptionShape, Shape};
-pub use values::{HostPort, host_port, key, number};
+pub use values::{HostPort, host_port, key, listen_address, number};
 
 mod barred;
 mod building;

@@ -2,7 +2,7 @@ ghost use Rattle.std.specs.Prelude.{◌≡◌, ◌≤◌, ◌+◌, IfSome, Some,
 ghost use Rattle.std.specs.Char.{is_ascii_digit};
 ghost use Rattle.std.specs.List.{list_all};
 ghost use Rattle.sb_words.specs.CommandLine.{is_value};
-ghost use Rattle.sb_words.specs.Values.{address_of, host_port_of, is_colon, is_host as is_host_text, is_host_byte as is_byte_of_host, is_key, is_key_byte as is_byte_of_key, is_numeral as is_numeral_text, number_of, within};
+ghost use Rattle.sb_words.specs.Values.{address_of, host_port_of, is_colon, is_host as is_host_text, is_host_byte as is_byte_of_host, is_key, is_closing, is_ipv6 as is_ipv6_text, is_ipv6_byte as is_byte_of_ipv6, is_key, is_key_byte as is_byte_of_key, is_numeral as is_numeral_text, cut_at, listen_address_of, listening_at, listening_in, number_of, port_after_colon as port_of, within};
 
 /// Whether a text is not empty and does not begin with a dash.
 fn is_plain(text: &[u8]) -> bool
@@ -128,4 +128,99 @@ pub fn host_port(text: &str) -> Option<HostPort<'_>>
         return None;
     };
     address(host, port)
+}
+
+// ---- addresses at which connections come in
+
+/// The address of a host and any port.
+fn any_port<'a>(host: &'a str, port: &str) -> Option<HostPort<'a>>
+    ensures { option_map (λ a. (a.host.now, a.port)) result ≡ listening_at host.entry.now port.now }
+{
+    if !is_host(host.as_bytes()) {
+        return None;
+    }
+    let Some(port) = number(port, 0, 65535) else {
+        return None;
+    };
+    Some(HostPort {
+        host,
+        port: port as u16,
+    })
+}
+
+/// The address that `HOST:PORT` is, with any port.
+fn plain_address(text: &str) -> Option<HostPort<'_>>
+    ensures { option_map (λ a. (a.host.now, a.port)) result ≡ cut_at is_colon listening_at text.entry.now }
+{
+    let Some((host, port)) = text.split_once(':') else {
+        return None;
+    };
+    any_port(host, port)
+}
+
+fn is_ipv6_byte(byte: u8) -> bool
+    ensures { result ≡ is_byte_of_ipv6 byte }
+{
+    byte.is_ascii_hexdigit() || byte == b':' || byte == b'.'
+}
+
+fn are_ipv6_bytes(text: &[u8]) -> bool
+    ensures { result ≡ list_all is_byte_of_ipv6 text.now }
+{
+    text.iter().all(|byte| is_ipv6_byte(*byte))
+}
+
+fn is_ipv6(text: &[u8]) -> bool
+    ensures { result ≡ is_ipv6_text text.now }
+{
+    !text.is_empty() && are_ipv6_bytes(text)
+}
+
+/// The port after a colon.
+fn port_after_colon(text: &str) -> Option<u64>
+    ensures value { result ≡ port_of text.now }
+    ensures range { IfSome result (λ n. n ≤ 65535) }
+{
+    match text.strip_prefix(':') {
+        Some(port) => number(port, 0, 65535),
+        None => None,
+    }
+}
+
+/// The address of an IPv6 address, and of what stands after its closing bracket.
+fn ipv6_port<'a>(host: &'a str, rest: &str) -> Option<HostPort<'a>>
+    ensures { option_map (λ a. (a.host.now, a.port)) result ≡ listening_in host.entry.now rest.now }
+{
+    if !is_ipv6(host.as_bytes()) {
+        return None;
+    }
+    let Some(port) = port_after_colon(rest) else {
+        return None;
+    };
+    Some(HostPort {
+        host,
+        port: port as u16,
+    })
+}
+
+/// The address that `IPV6]:PORT` is.
+fn bracketed_address(text: &str) -> Option<HostPort<'_>>
+    ensures { option_map (λ a. (a.host.now, a.port)) result ≡ cut_at is_closing listening_in text.entry.now }
+{
+    let Some((host, rest)) = text.split_once(']') else {
+        return None;
+    };
+    ipv6_port(host, rest)
+}
+
+/// The host and the port of an address at which connections come in: `HOST:PORT`, with HOST as for [`host_port`], or
+/// `[IPV6]:PORT`, with one or more hexadecimal digits, `:` and `.` between the brackets. PORT is 0 to 65535, in decimal
+/// digits without a leading zero. The host is answered without its brackets.
+pub fn listen_address(text: &str) -> Option<HostPort<'_>>
+    ensures { option_map (λ a. (a.host.now, a.port)) result ≡ listen_address_of text.entry.now }
+{
+    match text.strip_prefix('[') {
+        Some(rest) => bracketed_address(rest),
+        None => plain_address(text),
+    }
 }

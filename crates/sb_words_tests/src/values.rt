@@ -1,6 +1,6 @@
 //! Numbers, keys, addresses and lists.
 use sb_model::{EntryType, ListName, PlatformType, ThreatType};
-use sb_words::{host_port, key, lists, number};
+use sb_words::{host_port, key, listen_address, lists, number};
 use std::alloc::Global;
 use std::test::Fail;
 
@@ -67,6 +67,40 @@ fn addresses_are_a_host_and_a_port(rt: HostRuntime) {
         "h :1", "h:1 ", "é:1", "h/:1", "h:a",
     ] {
         assert!(rt; host_port(text).is_none(), "{text}");
+    }
+}
+
+#[test]
+fn connections_come_in_at_any_port_and_at_an_address_in_brackets(rt: HostRuntime) {
+    for (text, host, port) in [
+        ("h:0", "h", 0),
+        ("0.0.0.0:65535", "0.0.0.0", 65535),
+        ("[::1]:0", "::1", 0),
+        ("[::ffff:192.0.2.1]:443", "::ffff:192.0.2.1", 443),
+    ] {
+        let read = listen_address(text);
+        assert!(rt;
+            read.is_some_and(|a| a.host == host && a.port == port),
+            "{text}"
+        );
+    }
+    for text in [
+        "",
+        "h",
+        ":0",
+        "h:65536",
+        "h:00",
+        "::1:0",
+        "[]:0",
+        "[::1]",
+        "[::1]0",
+        "[::1:0",
+        "[h]:0",
+        "[::1%1]:0",
+        "[[::1]]:0",
+        "-h:0",
+    ] {
+        assert!(rt; listen_address(text).is_none(), "{text}");
     }
 }
 
