@@ -18,6 +18,7 @@ pub mod Holding
 pub mod Keeping
 pub mod LineEnds
 pub mod LineFaults
+pub mod LineTexts
 pub mod Mapped
 pub mod Membership
 pub mod NameCodes
@@ -36,3 +37,4 @@ pub mod TakingOut
 pub mod Unordered
 pub mod Starting
 pub mod Words
+pub mod Written

@@ -123,24 +123,24 @@ moves_line draft begin adds adds' removes removes' bytes line rest h line_is goo
       ∙ ap (λ r. r >>= λ next. after_bytes next (rest ++ more)) (good seen);
 }
 
-short_is : {A : Type 0} (line : List ℕ) (read : Option A) → length line ≤ 128 → if_short line read ≡ read
+pub short_is : {A : Type 0} (line : List ℕ) (read : Option A) → length line ≤ 128 → if_short line read ≡ read
 short_is line read h = rw (not_long (length line) h) refl
 
-choose_true : {A : Type 0} (b : Bool) (x y : A) → b ≡ true → (if b then x else y) ≡ x
+pub choose_true : {A : Type 0} (b : Bool) (x y : A) → b ≡ true → (if b then x else y) ≡ x
 choose_true true x y h = refl
 choose_true false x y h = absurd (cc)
 
-choose_false : {A : Type 0} (b : Bool) (x y : A) → b ≡ false → (if b then x else y) ≡ y
+pub choose_false : {A : Type 0} (b : Bool) (x y : A) → b ≡ false → (if b then x else y) ≡ y
 choose_false true x y h = absurd (cc)
 choose_false false x y h = refl
 
-line_add : (kept : Kept) (begun : Begun) (line : List ℕ) → adds_next begun ≡ true → length line ≤ 128
+pub line_add : (kept : Kept) (begun : Begun) (line : List ℕ) → adds_next begun ≡ true → length line ≤ 128
     → after_line (record { kept = kept; begun = Some begun }) line ≡ with_add (with_bytes (line ++ newline ∷ []) kept) begun (added_of kept.sized begun.declared_size line)
 unfolding after_line
 line_add kept begun line h short =
     choose_true (adds_next begun) _ _ h ∙ ap (λ read. with_add (with_bytes (line ++ newline ∷ []) kept) begun read) (short_is line (added_of kept.sized begun.declared_size line) short)
 
-line_remove : (kept : Kept) (begun : Begun) (line : List ℕ) → adds_next begun ≡ false → length line ≤ 128
+pub line_remove : (kept : Kept) (begun : Begun) (line : List ℕ) → adds_next begun ≡ false → length line ≤ 128
     → after_line (record { kept = kept; begun = Some begun }) line ≡ with_remove (with_bytes (line ++ newline ∷ []) kept) begun (removed_of line)
 unfolding after_line
 line_remove kept begun line h short =
@@ -153,7 +153,7 @@ next_adds begin adds removes h = grind (arith, nat_tests)
 next_removes : (begin : Begin) (adds : List Added) (removes : List (List ℕ)) → length adds ≡ begin.to_add → adds_next (begun_of begin adds removes) ≡ false
 next_removes begin adds removes h = grind (arith, nat_tests)
 
-within : (n : ℕ) → n ≤ 2097152 → nat_lt most_hash_lines n ≡ false
+pub within : (n : ℕ) → n ≤ 2097152 → nat_lt most_hash_lines n ≡ false
 within n h = grind (arith, nat_tests)
 
 past : (n : ℕ) → 2097152 < n → nat_lt most_hash_lines n ≡ true

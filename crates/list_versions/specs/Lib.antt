@@ -14,3 +14,4 @@ pub mod Pieces
 pub mod Printed
 pub mod Renewing
 pub mod Split
+pub mod Written

@@ -1,16 +1,17 @@
 //! The journal of a list server, and the versions of its lists: which lists there are, each change
-//! of them, and the prefixes of every version.
+//! of them, and the prefixes of every version. A history is written as a journal in pieces.
 #![tactic(auto)]
 
 pub use fault::JournalFault;
 pub use hash_sizes::Folding;
 pub use heads::{Head, Header};
 pub use history::History;
-pub use laws::cuts_make_no_difference;
+pub use laws::{cuts_make_no_difference, journals_read_as_written};
 pub use lines::{read_add, read_head, read_header, read_remove};
 pub use newest::Newest;
 pub use printing::push_journal_cause;
 pub use split::{LongLine, next_line};
+pub use writing::{push_change, push_header, push_list};
 
 mod bucket;
 mod buckets;
@@ -37,3 +38,4 @@ mod published;
 mod refreshing;
 mod renewing;
 mod split;
+mod writing;

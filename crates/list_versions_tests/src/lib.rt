@@ -13,3 +13,5 @@ mod journals;
 mod many_changes;
 #[cfg(test)]
 mod tests;
+#[cfg(test)]
+mod writing;

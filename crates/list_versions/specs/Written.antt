@@ -1,0 +1,78 @@
+-- The text of a journal that tells a history: its first line, a line for each declared list, and then the changes, the
+-- oldest first. It has the second form, and each line that adds names a size.
+use Rattle.std.specs.Prelude.{◌≡◌, ℕ, ◌+◌, ◌^◌, ◌<◌, ◌≤◌, ⊤, false, true, List, [], ◌∷◌, ◌++◌, length, All, codes, decimal}
+use Rattle.std.specs.Int.{w64, to_be_bytes}
+use Rattle.std.specs.List.{flat_map, join_with_byte}
+use Rattle.hex.specs.Hex.{IsBytes, encode_lower}
+use Rattle.sb_model.specs.declared.history.Added.{Added}
+use Rattle.sb_model.specs.declared.history.Change.{Change}
+use Rattle.sb_model.specs.declared.names.ListName.{ListName}
+use Rattle.sb_model.specs.Names.{same_name, text_of}
+use Rattle.sb_model.specs.History.{History, IsWellFormed, declares}
+use Rattle.list_versions.specs.Journal.{Kept}
+use Rattle.list_versions.specs.Limits.{WithinLimits, hash_lines, most_changes, most_hash_lines, most_lists}
+use Rattle.list_versions.specs.Lines.{newline}
+
+-- some words, parted by single spaces, and the end of the line
+abbrev pub line_of : List (List ℕ) → List ℕ
+line_of words = join_with_byte 32 words ++ newline ∷ []
+
+-- the first line, with the epoch in 16 digits
+abbrev pub header_line : ℕ → List ℕ
+header_line epoch = line_of (codes "sblist" ∷ codes "2" ∷ encode_lower (to_be_bytes w64 epoch) ∷ [])
+
+-- the line that declares a list: its name, and its declared size
+abbrev pub list_line : ListName × ℕ → List ℕ
+list_line list = line_of (codes "list" ∷ text_of list.0 ∷ decimal list.1 ∷ [])
+
+-- the line that begins a change: the name of its list, and how many hashes it adds and removes
+abbrev pub change_line : Change → List ℕ
+change_line change =
+    line_of (codes "change" ∷ text_of change.list ∷ decimal (length change.adds) ∷ decimal (length change.removes) ∷ [])
+
+-- `+`, a hash and its size
+abbrev pub add_line : Added → List ℕ
+add_line added = 43 ∷ line_of (encode_lower added.hash ∷ decimal added.size ∷ [])
+
+-- `-` and a hash
+abbrev pub remove_line : List ℕ → List ℕ
+remove_line hash = 45 ∷ line_of (encode_lower hash ∷ [])
+
+-- a change: the line that begins it, then what it adds, and then what it removes
+unfoldable pub change_text : Change → List ℕ
+change_text change = change_line change ++ flat_map add_line change.adds ++ flat_map remove_line change.removes
+
+-- a whole journal
+unfoldable pub journal_text : History → List ℕ
+journal_text history = header_line history.epoch ++ flat_map list_line history.declared ++ flat_map change_text history.changes
+
+-- ---- what a journal can tell
+
+-- no two of these lists have one name
+abbrev pub AreApart : List (ListName × ℕ) → Type 0
+AreApart [] = ⊤
+AreApart (list ∷ lists) = All (λ other. same_name list.0 other.0 ≡ false) lists × AreApart lists
+
+-- A change that has lines: of a list that is declared, with 1 to 1,024 hashes, which are bytes. A hash may stand in it
+-- more than once, and one that it removes need not be there.
+pub record HasLines (history : History) (change : Change) : Type 0 where
+  pub declared : declares history change.list ≡ true
+  pub some : 1 ≤ length change.adds + length change.removes
+  pub few : length change.adds + length change.removes ≤ 1024
+  pub adds : All (λ added. IsBytes added.hash) change.adds
+  pub removes : All IsBytes change.removes
+
+-- A history that a journal can tell.
+pub record HasJournal (history : History) : Type 0 where
+  pub epoch : history.epoch < 2 ^ 64
+  pub well_formed : IsWellFormed history
+  pub apart : AreApart history.declared
+  pub changes : All (HasLines history) history.changes
+  pub few_lists : length history.declared ≤ most_lists
+  pub few_changes : length history.changes ≤ most_changes
+  pub few_hashes : hash_lines history.changes ≤ most_hash_lines
+  pub within : WithinLimits history
+
+-- what such a journal says: this history, and nothing after it
+abbrev pub wholly : History → Kept
+wholly history = record { sized = true; versions = history; rest = [] }
