@@ -14,8 +14,10 @@ use update_messages::{FetchRequest, FetchResponse, ListRequest};
 /// What a server says of times, each in seconds.
 #[derive(Clone, Copy, Debug)]
 pub struct Settings {
-    /// The minimum wait of each answer (`minimumWaitDuration`).
+    /// The minimum wait of each answer to a fetch request (`minimumWaitDuration`), at most a day (86,400).
     pub wait: u32,
+    /// The minimum wait of each answer to a find request (`minimumWaitDuration`), at most a day (86,400).
+    pub find_wait: u32,
     /// How long a match of a full hash may be kept (`cacheDuration`).
     pub cache: u32,
     /// How long a prefix without a match may be kept (`negativeCacheDuration`).

@@ -165,11 +165,11 @@ pub fn answer_find(
     request: &FindRequest,
 ) -> Result<FindResponse, OutOfMemory>
     ensures { IfOk result (λ response. response
-        ≡ find_answer history.now.versions settings.now.wait settings.now.cache settings.now.negative request.now) }
+        ≡ find_answer history.now.versions settings.now.find_wait settings.now.cache settings.now.negative request.now) }
 {
     Ok(FindResponse {
         matches: matches_of(alloc, history, settings.cache, request)?,
-        wait: Duration::from_seconds(settings.wait),
+        wait: Duration::from_seconds(settings.find_wait),
         negative: Duration::from_seconds(settings.negative),
     })
 }

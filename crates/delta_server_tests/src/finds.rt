@@ -58,37 +58,37 @@ fn the_full_hashes_of_asked_prefixes(rt: HostRuntime) -> Result<(), Fail> {
             "two prefixes with a match each, and one without",
             "'MALWARE'",
             "{'hash':'YWFhYQ=='},{'hash':'Y2NjYw=='},{'hash':'MTIzNDU2Nzg='}",
-            "{'matches':[{'cacheDuration':'300s','platformType':'ANY_PLATFORM','threat':{'hash':'MTIzNDU2NzgAAAAAAAAAAAAAAAAAAAAAAAAAAAAAAAA='},'threatEntryType':'URL','threatType':'MALWARE'},{'cacheDuration':'300s','platformType':'ANY_PLATFORM','threat':{'hash':'YWFhYQAAAAAAAAAAAAAAAAAAAAAAAAAAAAAAAAAAAAA='},'threatEntryType':'URL','threatType':'MALWARE'}],'minimumWaitDuration':'1800s','negativeCacheDuration':'300s'}",
+            "{'matches':[{'cacheDuration':'300s','platformType':'ANY_PLATFORM','threat':{'hash':'MTIzNDU2NzgAAAAAAAAAAAAAAAAAAAAAAAAAAAAAAAA='},'threatEntryType':'URL','threatType':'MALWARE'},{'cacheDuration':'300s','platformType':'ANY_PLATFORM','threat':{'hash':'YWFhYQAAAAAAAAAAAAAAAAAAAAAAAAAAAAAAAAAAAAA='},'threatEntryType':'URL','threatType':'MALWARE'}],'minimumWaitDuration':'900s','negativeCacheDuration':'300s'}",
         ),
         (
             "a whole hash, and a prefix of four bytes",
             "'MALWARE'",
             "{'hash':'MTIzNAAAAAAAAAAAAAAAAAAAAAAAAAAAAAAAAAAAAAA='},{'hash':'YWFhYQ=='}",
-            "{'matches':[{'cacheDuration':'300s','platformType':'ANY_PLATFORM','threat':{'hash':'MTIzNAAAAAAAAAAAAAAAAAAAAAAAAAAAAAAAAAAAAAA='},'threatEntryType':'URL','threatType':'MALWARE'},{'cacheDuration':'300s','platformType':'ANY_PLATFORM','threat':{'hash':'YWFhYQAAAAAAAAAAAAAAAAAAAAAAAAAAAAAAAAAAAAA='},'threatEntryType':'URL','threatType':'MALWARE'}],'minimumWaitDuration':'1800s','negativeCacheDuration':'300s'}",
+            "{'matches':[{'cacheDuration':'300s','platformType':'ANY_PLATFORM','threat':{'hash':'MTIzNAAAAAAAAAAAAAAAAAAAAAAAAAAAAAAAAAAAAAA='},'threatEntryType':'URL','threatType':'MALWARE'},{'cacheDuration':'300s','platformType':'ANY_PLATFORM','threat':{'hash':'YWFhYQAAAAAAAAAAAAAAAAAAAAAAAAAAAAAAAAAAAAA='},'threatEntryType':'URL','threatType':'MALWARE'}],'minimumWaitDuration':'900s','negativeCacheDuration':'300s'}",
         ),
         (
             "prefixes that begin one another",
             "'MALWARE'",
             "{'hash':'MTIzNDU2Nzg='},{'hash':'MTIzNA=='},{'hash':'MTIzNAAAAAAAAAAAAAAAAAAAAAAAAAAAAAAAAAAAAAA='},{'hash':'MTIzNA=='}",
-            "{'matches':[{'cacheDuration':'300s','platformType':'ANY_PLATFORM','threat':{'hash':'MTIzNAAAAAAAAAAAAAAAAAAAAAAAAAAAAAAAAAAAAAA='},'threatEntryType':'URL','threatType':'MALWARE'},{'cacheDuration':'300s','platformType':'ANY_PLATFORM','threat':{'hash':'MTIzNDU2NzgAAAAAAAAAAAAAAAAAAAAAAAAAAAAAAAA='},'threatEntryType':'URL','threatType':'MALWARE'}],'minimumWaitDuration':'1800s','negativeCacheDuration':'300s'}",
+            "{'matches':[{'cacheDuration':'300s','platformType':'ANY_PLATFORM','threat':{'hash':'MTIzNAAAAAAAAAAAAAAAAAAAAAAAAAAAAAAAAAAAAAA='},'threatEntryType':'URL','threatType':'MALWARE'},{'cacheDuration':'300s','platformType':'ANY_PLATFORM','threat':{'hash':'MTIzNDU2NzgAAAAAAAAAAAAAAAAAAAAAAAAAAAAAAAA='},'threatEntryType':'URL','threatType':'MALWARE'}],'minimumWaitDuration':'900s','negativeCacheDuration':'300s'}",
         ),
         (
             "a list whose type is not asked",
             "'SOCIAL_ENGINEERING'",
             "{'hash':'MTIzNA=='}",
-            "{'matches':[{'cacheDuration':'300s','platformType':'ANY_PLATFORM','threat':{'hash':'MTIzNDU2NzgAAAAAAAAAAAAAAAAAAAAAAAAAAAAAAAA='},'threatEntryType':'URL','threatType':'SOCIAL_ENGINEERING'}],'minimumWaitDuration':'1800s','negativeCacheDuration':'300s'}",
+            "{'matches':[{'cacheDuration':'300s','platformType':'ANY_PLATFORM','threat':{'hash':'MTIzNDU2NzgAAAAAAAAAAAAAAAAAAAAAAAAAAAAAAAA='},'threatEntryType':'URL','threatType':'SOCIAL_ENGINEERING'}],'minimumWaitDuration':'900s','negativeCacheDuration':'300s'}",
         ),
         (
             "a hash that was removed",
             "'MALWARE'",
             "{'hash':'YmJiYg=='}",
-            "{'minimumWaitDuration':'1800s','negativeCacheDuration':'300s'}",
+            "{'minimumWaitDuration':'900s','negativeCacheDuration':'300s'}",
         ),
         (
             "lists in the order of names",
             "'SOCIAL_ENGINEERING','MALWARE','SOCIAL_ENGINEERING'",
             "{'hash':'YWFhYQ=='},{'hash':'MTIzNA=='}",
-            "{'matches':[{'cacheDuration':'300s','platformType':'ANY_PLATFORM','threat':{'hash':'MTIzNAAAAAAAAAAAAAAAAAAAAAAAAAAAAAAAAAAAAAA='},'threatEntryType':'URL','threatType':'MALWARE'},{'cacheDuration':'300s','platformType':'ANY_PLATFORM','threat':{'hash':'MTIzNDU2NzgAAAAAAAAAAAAAAAAAAAAAAAAAAAAAAAA='},'threatEntryType':'URL','threatType':'MALWARE'},{'cacheDuration':'300s','platformType':'ANY_PLATFORM','threat':{'hash':'YWFhYQAAAAAAAAAAAAAAAAAAAAAAAAAAAAAAAAAAAAA='},'threatEntryType':'URL','threatType':'MALWARE'},{'cacheDuration':'300s','platformType':'ANY_PLATFORM','threat':{'hash':'MTIzNDU2NzgAAAAAAAAAAAAAAAAAAAAAAAAAAAAAAAA='},'threatEntryType':'URL','threatType':'SOCIAL_ENGINEERING'}],'minimumWaitDuration':'1800s','negativeCacheDuration':'300s'}",
+            "{'matches':[{'cacheDuration':'300s','platformType':'ANY_PLATFORM','threat':{'hash':'MTIzNAAAAAAAAAAAAAAAAAAAAAAAAAAAAAAAAAAAAAA='},'threatEntryType':'URL','threatType':'MALWARE'},{'cacheDuration':'300s','platformType':'ANY_PLATFORM','threat':{'hash':'MTIzNDU2NzgAAAAAAAAAAAAAAAAAAAAAAAAAAAAAAAA='},'threatEntryType':'URL','threatType':'MALWARE'},{'cacheDuration':'300s','platformType':'ANY_PLATFORM','threat':{'hash':'YWFhYQAAAAAAAAAAAAAAAAAAAAAAAAAAAAAAAAAAAAA='},'threatEntryType':'URL','threatType':'MALWARE'},{'cacheDuration':'300s','platformType':'ANY_PLATFORM','threat':{'hash':'MTIzNDU2NzgAAAAAAAAAAAAAAAAAAAAAAAAAAAAAAAA='},'threatEntryType':'URL','threatType':'SOCIAL_ENGINEERING'}],'minimumWaitDuration':'900s','negativeCacheDuration':'300s'}",
         ),
     ] {
         assert!(rt; is_found(rt.alloc(), threats, prefixes, wanted)?, "{what}");

@@ -29,6 +29,7 @@ change MALWARE/ANY_PLATFORM/URL 1 0
 /// What the server says of times.
 pub const SETTINGS: Settings = Settings {
     wait: 1_800,
+    find_wait: 900,
     cache: 300,
     negative: 300,
 };

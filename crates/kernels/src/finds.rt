@@ -18,6 +18,7 @@ const ASKED: u32 = 1_048_576;
 /// The times that answers tell, in seconds.
 const SETTINGS: Settings = Settings {
     wait: 1_800,
+    find_wait: 1_800,
     cache: 300,
     negative: 300,
 };

@@ -48,11 +48,11 @@ seconds_of default (Some text) = number_of 0 86400 text
 abbrev pub seconds_given : Text → ℕ → List (Text × Text) → Option ℕ
 seconds_given name default named = seconds_of default (value_among name named)
 
--- what a server says of times: its minimum wait, and how long a match and its absence may be kept
+-- what a server says of times: its minimum wait, that of every answer, and how long a match and its absence may be kept
 abbrev pub settings_given : List (Text × Text) → Option Settings
 settings_given named =
     option_and_then (λ wait. option_and_then (λ cache. option_map
-    (λ negative. record { wait = wait; cache = cache; negative = negative })
+    (λ negative. record { wait = wait; find_wait = wait; cache = cache; negative = negative })
     (seconds_given (codes "negative") 300 named))
     (seconds_given (codes "cache") 300 named))
     (seconds_given (codes "wait") 1800 named)

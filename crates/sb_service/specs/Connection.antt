@@ -56,7 +56,7 @@ updates_text history times message = spelling_of_response (fetch_answer history 
 -- the full hashes that a message asks for
 abbrev pub matches_text : History → Settings → AskedHashes → List ℕ
 matches_text history times message =
-    spelling_of_find_response (find_answer history times.wait times.cache times.negative message)
+    spelling_of_find_response (find_answer history times.find_wait times.cache times.negative message)
 
 -- The answer to a body, by the kind of its request. Other bodies have none.
 abbrev pub IsAnswerText : History → Settings → Kind → List ℕ → List ℕ → Type 0

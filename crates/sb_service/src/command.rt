@@ -130,6 +130,7 @@ fn settings_in(given: &Words<'_>) -> Option<Settings>
     let negative = seconds(given, "negative", 300)?;
     Some(Settings {
         wait,
+        find_wait: wait,
         cache,
         negative,
     })
