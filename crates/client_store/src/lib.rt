@@ -5,7 +5,7 @@
 #![tactic(auto)]
 
 pub use fault::StoreFault;
-pub use laws::cut_stores_are_not_read;
+pub use laws::{cut_stores_are_not_read, read_texts_are_stores};
 pub use printing::push_store_cause;
 pub use reading::{LONGEST_STORE, STORE_MAGIC, read_store};
 pub use selecting::select;

@@ -1,4 +1,4 @@
-ghost use Rattle.std.specs.Prelude.{◌≡◌, ◌≤◌, ◌++◌, length, Ok, OnOk, IfOk};
+ghost use Rattle.std.specs.Prelude.{◌≡◌, ◌≤◌, ◌<◌, ◌++◌, length, Ok, OnOk, IfOk, All};
 ghost use Rattle.std.specs.List.{flat_map};
 ghost use Rattle.prefix_set.specs.Limits.{IsPrefixSet};
 ghost use Rattle.client_store.specs.Store.{prefix_text, set_text, name_text, mark_text, token_text, list_text, body_text, store_text, IsKept, AreKept, IsStoreOf};
@@ -10,6 +10,11 @@ use sb_model::{Bytes, ListName, OutOfMemory};
 use sha2::{Digest, Sha256};
 use std::alloc::Global;
 use update_client::{ClientLists, HeldList};
+
+// The members of a text are bytes.
+fn are_bytes(text: &[u8])
+    ensures { All (λ byte. byte < 256) text.now }
+{}
 
 // Appends a name.
 fn push_name(text: &mut Bytes, name: ListName) -> Result<(), OutOfMemory>
@@ -87,6 +92,7 @@ fn body(alloc: Global, lists: &ClientLists) -> Result<Bytes, OutOfMemory>
 pub fn write_store(alloc: Global, lists: &ClientLists) -> Result<Bytes, OutOfMemory>
     ensures text { IfOk result (λ text. text ≡ store_text lists.now) }
     ensures read_again { IfOk result (λ text. store_reading text ≡ Ok lists.now) }
+    ensures bytes { IfOk result (λ text. All (λ byte. byte < 256) text) }
 
     // What `read_store` says of stores holds of the text.
     ensures store { IfOk result (λ text. IsStoreOf lists.now text) }
@@ -95,5 +101,6 @@ pub fn write_store(alloc: Global, lists: &ClientLists) -> Result<Bytes, OutOfMem
     let mut text = body(alloc, lists)?;
     let digest = Sha256::digest(text.as_slice());
     text.append(&digest)?;
+    are_bytes(text.as_slice());
     Ok(text)
 }
