@@ -8,3 +8,8 @@ pub mod ChunkFacts
 pub mod ChunkStepFacts
 pub mod RequestFacts
 pub mod ResponseFacts
+pub mod ChunkOutcomes
+pub mod ReadFacts
+pub mod OneAnswer
+pub mod Written
+pub mod Targets

@@ -1,5 +1,5 @@
 -- How a chunked body is read, chunk by chunk: what the bytes from a place on say of the next one, and how far a body was read.
-use Rattle.std.specs.Prelude.{◌≡◌, ℕ, ◌+◌, ◌<◌, ◌≤◌, ◌⊎◌, List, length, take, drop, MatchBool, Bool, IsTrue, ⊤}
+use Rattle.std.specs.Prelude.{◌≡◌, ℕ, ◌+◌, ◌<◌, ◌≤◌, ◌⊎◌, List, ◌++◌, length, take, drop, MatchBool, Bool, IsTrue, ⊤}
 use Rattle.httparse.specs.Ascii.{crlf_bytes}
 use Rattle.httparse.specs.Grammar.{ChunkLine, print_chunk_line, ReadsChunkLine, chunk_size, Field}
 use Rattle.http_edge.specs.Fields.{capped}
@@ -82,6 +82,13 @@ IsChunkStep text place (chunk.Long total) = (body : List ℕ) → IsReadTo body 
 -- Nothing is decided of it yet.
 abbrev pub IsOpenAt : List ℕ → ChunkPlace → Type 0
 IsOpenAt text place = (body : List ℕ) → IsReadTo body text place → IsOpenBody body
+
+-- the same of a text with further bytes, and of a body with them
+abbrev pub IsOpenWith : List ℕ → ChunkPlace → List ℕ → Type 0
+IsOpenWith text place given = IsOpenAt (text ++ given) place
+
+abbrev pub IsOpenBodyWith : List ℕ → List ℕ → Type 0
+IsOpenBodyWith body given = IsOpenBody (body ++ given)
 
 -- the bytes of a chunked body, and their end where it came, come to this fault
 abbrev pub IsFaultOfBody : List ℕ → Bool → ExchangeFault → Type 0

@@ -1,9 +1,9 @@
 -- An exchange: one session, what is sent in it, and when it is begun and closed.
-use Rattle.std.specs.Prelude.{◌≡◌, ◌≢◌, ℕ, ◌≤◌, List, [], ◌∷◌, ◌++◌, length, codes, decimal, encode_utf8_all, Bool, Option, Some, None, Result, Err, IfOk, OnErr, IsErrOf, IsFalse}
+use Rattle.std.specs.Prelude.{◌≡◌, ◌≢◌, ℕ, ◌==◌, ◌&&◌, not, ◌≤◌, List, [], ◌∷◌, ◌++◌, length, codes, decimal, encode_utf8_all, All, Bool, Option, Some, None, Result, Err, IfOk, OnErr, IsErrOf, IsFalse}
 use Rattle.sb_outside.specs.Outside.{Rose, IfTold, with_entry}
 use Rattle.http_edge.specs.declared.faults.ExchangeFault.{ExchangeFault}
 use Rattle.http_edge.specs.declared.faults.ExchangeFault.TheVariants.{Link}
-use Rattle.http_edge.specs.Outcomes.{SessionOutcome}
+use Rattle.http_edge.specs.Outcomes.{SessionOutcome, ReadsNoFurther}
 use Rattle.sb_model.specs.declared.time.Moment.{Moment}
 use Rattle.sb_model.specs.declared.memory.OutOfMemory.{OutOfMemory}
 use Rattle.sb_outside.specs.declared.links.Kind.{Kind}
@@ -11,6 +11,19 @@ use Rattle.sb_outside.specs.declared.links.Kind.TheVariants.{Update, Find}
 use Rattle.sb_outside.specs.declared.links.Session.{Session}
 use Rattle.http_edge.specs.declared.messages.Target.{Target}
 use Rattle.http_edge.specs.Responses.{line}
+
+-- A text that stands in one line of a head: no character is a CR or an LF.
+abbrev pub IsOneLine : List ℕ → Type 0
+IsOneLine text = All (λ char. (char ≢ 13) × (char ≢ 10)) text
+
+-- the test of one character
+abbrev pub is_in_line : ℕ → Bool
+is_in_line char = not (char == 13) && not (char == 10)
+
+-- Neither the host nor the key begins a further line of the head in which it stands.
+pub record IsTarget (target : Target) : Type 0 where
+  pub host : IsOneLine target.host
+  pub key : IsOneLine target.key
 
 abbrev pub path_of : Kind → List ℕ
 path_of Update = codes "/v4/threatListUpdates:fetch"
@@ -54,19 +67,21 @@ pub record IsTalkOf (target : Target) (asked : Kind) (body : List ℕ) (at : Mom
   pub unsent : List ℕ
   pub front : session.sent ++ unsent ≡ request_text target asked body
 
--- One session was held: the log has it at its end, and its outcome is the answer.
+-- One session was held: the log has it at its end, its outcome is the answer, and nothing was read past what decides it.
 pub record HoldsSession (target : Target) (asked : Kind) (body : List ℕ) (at : Moment) (need : Bool) (end : Moment) (before after : Option (List Session)) (answer : Result (List ℕ) ExchangeFault) : Type 0 where
   pub session : Session
   pub told : IfTold after (with_entry before session)
   pub is : IsSessionOf target asked body at end session
   pub sends : SendsWhole target asked body session
   pub outcome : SessionOutcome need session answer
+  pub reads : ReadsNoFurther need session
 
 -- A part of a session was held, and the session was closed.
-pub record HoldsPart (target : Target) (asked : Kind) (body : List ℕ) (at end : Moment) (before after : Option (List Session)) : Type 0 where
+pub record HoldsPart (target : Target) (asked : Kind) (body : List ℕ) (at : Moment) (need : Bool) (end : Moment) (before after : Option (List Session)) : Type 0 where
   pub session : Session
   pub told : IfTold after (with_entry before session)
   pub is : IsSessionOf target asked body at end session
+  pub reads : ReadsNoFurther need session
 
 -- the same, while the session is not closed
 pub record IsConversation (target : Target) (asked : Kind) (body : List ℕ) (at : Moment) (need : Bool) (before after : Option (List Session)) (answer : Result (List ℕ) ExchangeFault) : Type 0 where
@@ -75,11 +90,13 @@ pub record IsConversation (target : Target) (asked : Kind) (body : List ℕ) (at
   pub is : IsTalkOf target asked body at session
   pub sends : SendsWhole target asked body session
   pub outcome : SessionOutcome need session answer
+  pub reads : ReadsNoFurther need session
 
-pub record IsPartOfConversation (target : Target) (asked : Kind) (body : List ℕ) (at : Moment) (before after : Option (List Session)) : Type 0 where
+pub record IsPartOfConversation (target : Target) (asked : Kind) (body : List ℕ) (at : Moment) (need : Bool) (before after : Option (List Session)) : Type 0 where
   pub session : Session
   pub told : IfTold after (with_entry before session)
   pub is : IsTalkOf target asked body at session
+  pub reads : ReadsNoFurther need session
 
 -- A fault of the link is counted where it is the answer, and nothing else is.
 pub record CountsLinkFault (result : Result (Result (List ℕ) ExchangeFault) OutOfMemory) (before after : ℕ) : Type 0 where

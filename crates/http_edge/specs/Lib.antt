@@ -10,3 +10,4 @@ pub mod Exchanges
 pub mod Receiving
 pub mod ChunkSteps
 pub mod SessionBytes
+pub mod Law

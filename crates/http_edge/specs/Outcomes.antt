@@ -1,6 +1,6 @@
 -- The outcome of a session with a server: a function of the bytes received, of whether the session ended, and of whether
 -- it failed. How the bytes were cut does not count.
-use Rattle.std.specs.Prelude.{◌≡◌, ◌≢◌, ℕ, ◌<◌, ◌≤◌, ◌⊎◌, List, [], ◌∷◌, length, take, codes, Bool, true, if◌then◌else◌, Option, Some, None, Result, Ok, Err, IsTrue, MatchBool}
+use Rattle.std.specs.Prelude.{◌≡◌, ◌≢◌, ℕ, ◌<◌, ◌≤◌, ◌⊎◌, List, [], ◌∷◌, ◌++◌, length, take, codes, Bool, true, false, if◌then◌else◌, Option, Some, None, Result, Ok, Err, IsTrue, MatchBool}
 use Rattle.std.specs.Str.{str_eq_ignore_ascii_case}
 use Rattle.sha2.specs.Sha256.{sha256}
 use Rattle.sb_outside.specs.declared.links.Session.{Session}
@@ -113,3 +113,22 @@ BytesOutcome need bytes ended (Err fault) = IsFault need bytes ended fault
 abbrev pub SessionOutcome : Bool → Session → Result (List ℕ) ExchangeFault → Type 0
 SessionOutcome need session outcome =
     MatchBool session.failed (outcome ≡ Err Link) (BytesOutcome need session.received session.ended outcome)
+
+-- The bytes decide nothing yet: without an end they come to no answer.
+abbrev pub IsUndecided : Bool → List ℕ → Type 0
+IsUndecided need bytes = (answer : Result (List ℕ) ExchangeFault) → ¬ (BytesOutcome need bytes false answer)
+
+-- Bytes were read no further than to what decides them. Those before the last read decide nothing, and one read gives at
+-- most 65,536 bytes. Where the end was read, and where a read failed, all of them decide nothing.
+pub record ReadsToDecision (need : Bool) (bytes : List ℕ) (ended failed : Bool) : Type 0 where
+  pub before : List ℕ
+  pub last : List ℕ
+  pub parts : bytes ≡ before ++ last
+  pub needed : IsUndecided need before
+  pub short : length last ≤ 65536
+  pub end : IsTrue ended → IsUndecided need bytes
+  pub fault : IsTrue failed → IsUndecided need bytes
+
+-- Nothing was read in a session past what decides its outcome.
+abbrev pub ReadsNoFurther : Bool → Session → Type 0
+ReadsNoFurther need session = ReadsToDecision need session.received session.ended session.failed

@@ -1,5 +1,5 @@
 -- How a response is received over a link: what each step does to the session that began last, and to the bytes that wait.
-use Rattle.std.specs.Prelude.{◌≡◌, ◌≢◌, ℕ, ◌<◌, ◌≤◌, List, ◌++◌, length, take, drop, map, Bool, true, false, Option, Some, None, Result, Ok, Err, IsTrue, MatchBool, ⊤}
+use Rattle.std.specs.Prelude.{◌≡◌, ◌≢◌, ℕ, ◌<◌, ◌≤◌, ◌⊎◌, List, [], ◌++◌, length, take, drop, map, Bool, true, false, Option, Some, None, Result, Ok, Err, IsTrue, MatchBool, ⊤}
 use Rattle.sha2.specs.Sha256.{sha256}
 use Rattle.httparse.specs.declared.spans.HeaderSpan.{HeaderSpan}
 use Rattle.httparse.specs.declared.spans.ResponseSpans.{ResponseSpans}
@@ -7,7 +7,7 @@ use Rattle.httparse.specs.Grammar.{ResponseHead, print_response, ReadsResponse, 
 use Rattle.httparse.specs.Spans.{header_bytes, name_and_value}
 use Rattle.http_edge.specs.Heads.{IsRefusedResponse, IsOpenResponse}
 use Rattle.http_edge.specs.Digests.{IsDigestGiven}
-use Rattle.http_edge.specs.Outcomes.{HasResponse, framing_of, IsFault, IsRightDigest, BytesOutcome}
+use Rattle.http_edge.specs.Outcomes.{HasResponse, framing_of, IsFault, IsRightDigest, BytesOutcome, IsUndecided}
 use Rattle.http_edge.specs.declared.faults.ExchangeFault.{ExchangeFault}
 use Rattle.http_edge.specs.declared.faults.ExchangeFault.TheVariants.{Link, NoDigest, Digest}
 use Rattle.http_edge.specs.declared.response_heads.ResponseParts.{ResponseParts}
@@ -39,41 +39,80 @@ after_receiving bytes ended failed session = fail_if failed (end_if ended (with_
 abbrev pub Receives : List ℕ → Bool → Bool → Option (List Session) → Option (List Session) → Type 0
 Receives bytes ended failed before after = Turns (after_receiving bytes ended failed) before after
 
--- Bytes came, and wait after those that waited.
+-- Bytes came by reads, of which the last gave at most 65,536, and those before it still needed more.
+pub record EndsByRead (needs : List ℕ → Type 0) (given : List ℕ) : Type 0 where
+  pub before : List ℕ
+  pub last : List ℕ
+  pub parts : given ≡ before ++ last
+  pub short : length last ≤ 65536
+  pub needed : needs before
+
+-- Bytes were read only while more were needed.
+abbrev pub ReadsWhile : (List ℕ → Type 0) → List ℕ → Type 0
+ReadsWhile needs given = (given ≡ []) ⊎ EndsByRead needs given
+
+-- The same, and the end came, or a fault, only where more were needed.
+pub record ReadsOnly (needs : List ℕ → Type 0) (given : List ℕ) (ended failed : Bool) : Type 0 where
+  pub bytes : ReadsWhile needs given
+  pub end : IsTrue ended → needs given
+  pub fault : IsTrue failed → needs given
+
+-- A text and these bytes are fewer than are wanted.
+abbrev pub IsShort : List ℕ → ℕ → List ℕ → Type 0
+IsShort text wanted given = length (text ++ given) < wanted
+
+-- No head is whole or refused yet, and more bytes may come.
+abbrev pub IsOpenHead : List ℕ → Type 0
+IsOpenHead bytes = (length bytes < 16384) × IsOpenResponse bytes
+
+-- One read gave bytes, and they wait after those that waited.
 pub record ReceivesMore (waiting grown : List ℕ) (before after : Option (List Session)) : Type 0 where
   pub given : List ℕ
   pub some : 0 < length given
+  pub short : length given ≤ 65536
   pub whole : grown ≡ waiting ++ given
   pub receives : Turns (with_received given) before after
 
+-- one read gave bytes
+pub record ReceivesPiece (before after : Option (List Session)) : Type 0 where
+  pub given : List ℕ
+  pub short : length given ≤ 65536
+  pub receives : Turns (with_received given) before after
+
 -- Some bytes came, or none, and then perhaps the end of the session. They wait after those that waited.
-pub record ReceivesOn (waiting grown : List ℕ) (ended : Bool) (before after : Option (List Session)) : Type 0 where
+pub record ReceivesOn (needs : List ℕ → Type 0) (waiting grown : List ℕ) (ended : Bool) (before after : Option (List Session)) : Type 0 where
   pub given : List ℕ
   pub whole : grown ≡ waiting ++ given
   pub receives : Receives given ended false before after
+  pub reads : ReadsWhile needs given
 
 -- some bytes came
-pub record ReceivesSome (before after : Option (List Session)) : Type 0 where
+pub record ReceivesSome (needs : List ℕ → Type 0) (before after : Option (List Session)) : Type 0 where
   pub given : List ℕ
   pub receives : Receives given false false before after
+  pub reads : ReadsWhile needs given
 
 -- A session gave some bytes and then its end, and a text with them has fewer bytes than are wanted.
 pub record SessionEndsShort (text : List ℕ) (wanted : ℕ) (before after : Option (List Session)) : Type 0 where
   pub given : List ℕ
   pub receives : Receives given true false before after
+  pub reads : ReadsWhile (IsShort text wanted) given
   pub short : length (text ++ given) < wanted
 
 -- A session gave some bytes, and a text with them has the wanted ones, which are kept.
 pub record SessionFillsUp (text filled : List ℕ) (wanted : ℕ) (before after : Option (List Session)) : Type 0 where
   pub given : List ℕ
   pub receives : Receives given false false before after
+  pub reads : ReadsWhile (IsShort text wanted) given
   pub enough : wanted ≤ length (text ++ given)
   pub is : filled ≡ take wanted (text ++ given)
 
 -- some bytes came, and then a fault
-pub record FailsAfter (before after : Option (List Session)) : Type 0 where
+pub record FailsAfter (needs : List ℕ → Type 0) (before after : Option (List Session)) : Type 0 where
   pub given : List ℕ
   pub receives : Receives given false true before after
+  pub reads : ReadsWhile needs given
+  pub needed : needs given
 
 -- The parser found a head at the front of a buffer, and these are its fields.
 pub record IsFoundResponse (buffer : List ℕ) (fields : List HeaderSpan) (spans : ResponseSpans) (head : ResponseHead) : Type 0 where
@@ -117,11 +156,13 @@ ReceivedOutcome need bytes ended failed answer = MatchBool failed (answer ≡ Er
 -- a session was received to some end
 abbrev pub IsReceived : Bool → Option (List Session) → Option (List Session) → Result (List ℕ) ExchangeFault → Type 0
 IsReceived need before after answer =
-    (bytes : List ℕ) × (ended : Bool) × (failed : Bool) × Receives bytes ended failed before after × ReceivedOutcome need bytes ended failed answer
+    (bytes : List ℕ) × (ended : Bool) × (failed : Bool) × Receives bytes ended failed before after
+    × ReadsOnly (IsUndecided need) bytes ended failed × ReceivedOutcome need bytes ended failed answer
 
 -- some of a session was received
-abbrev pub IsPartReceived : Option (List Session) → Option (List Session) → Type 0
-IsPartReceived before after = (bytes : List ℕ) × (ended : Bool) × (failed : Bool) × Receives bytes ended failed before after
+abbrev pub IsPartReceived : Bool → Option (List Session) → Option (List Session) → Type 0
+IsPartReceived need before after =
+    (bytes : List ℕ) × (ended : Bool) × (failed : Bool) × Receives bytes ended failed before after × ReadsOnly (IsUndecided need) bytes ended failed
 
 -- a front of a text was sent, and then came a fault
 pub record SendsFront (text : List ℕ) (before after : Option (List Session)) : Type 0 where

@@ -4,10 +4,10 @@ ghost use Rattle.sb_outside.specs.Sessions.{with_sent, with_failure};
 ghost use Rattle.sb_model.specs.declared.time.Moment.{Moment};
 ghost use Rattle.sb_outside.specs.declared.links.Session.{Session};
 ghost use Rattle.http_edge.specs.Responses.{line};
-ghost use Rattle.http_edge.specs.Exchanges.{CountsLinkFault, path_of, query_of, request_head, HoldsSession, HoldsPart, IsConversation, IsPartOfConversation};
-ghost use Rattle.http_edge.specs.SessionBytes.{Turns, Receives, IsResponsePartsOf, IsDigestCompared, IsReceived, IsPartReceived, SendsFront};
+ghost use Rattle.http_edge.specs.Exchanges.{CountsLinkFault, path_of, query_of, request_head, IsTarget, HoldsSession, HoldsPart, IsConversation, IsPartOfConversation};
+ghost use Rattle.http_edge.specs.SessionBytes.{Turns, Receives, ReadsWhile, IsOpenHead, IsResponsePartsOf, IsDigestCompared, IsReceived, IsPartReceived, SendsFront};
 
-use crate::heads::buffer_of;
+use crate::heads::{PIECE, buffer_of};
 use crate::paths::path_of;
 use crate::receiving::Stop;
 use crate::responding::{push_length, push_line};
@@ -61,14 +61,15 @@ fn receive_by_length<L: Link>(
     size: u64,
     need_digest: bool,
 ) -> Result<Received, OutOfMemory>
-    requires room { 0 < length buffer.old }
+    requires room { length buffer.old ≡ PIECE }
+    requires reads { ReadsWhile IsOpenHead text.now }
     requires parts { IsResponsePartsOf text.now parts }
     requires success { parts.status ≡ 200 }
     requires framing { parts.framing ≡ Framing.ByLength size }
     ensures received { (start : Option (List Session)) → Receives text.now false false start (L.log link.old)
         → IfOk result (λ answer. IsReceived need_digest start (L.log link.new) answer) }
     ensures refused { OnErr result ((start : Option (List Session)) → Receives text.now false false start (L.log link.old)
-        → IsPartReceived start (L.log link.new)) }
+        → IsPartReceived need_digest start (L.log link.new)) }
     ensures counted { CountsLinkFault result (L.faults link.old) (L.faults link.new) }
 {
     if size > BODY_LIMIT {
@@ -92,14 +93,15 @@ fn receive_chunked<L: Link>(
     parts: ResponseParts,
     need_digest: bool,
 ) -> Result<Received, OutOfMemory>
-    requires room { 0 < length buffer.old }
+    requires room { length buffer.old ≡ PIECE }
+    requires reads { ReadsWhile IsOpenHead text.now }
     requires parts { IsResponsePartsOf text.now parts }
     requires success { parts.status ≡ 200 }
     requires framing { parts.framing ≡ Framing.Chunked }
     ensures received { (start : Option (List Session)) → Receives text.now false false start (L.log link.old)
         → IfOk result (λ answer. IsReceived need_digest start (L.log link.new) answer) }
     ensures refused { OnErr result ((start : Option (List Session)) → Receives text.now false false start (L.log link.old)
-        → IsPartReceived start (L.log link.new)) }
+        → IsPartReceived need_digest start (L.log link.new)) }
     ensures counted { CountsLinkFault result (L.faults link.old) (L.faults link.new) }
 {
     let body = Bytes::from_slice(alloc, &text.as_slice()[parts.start..])?;
@@ -119,12 +121,13 @@ fn receive_rest<L: Link>(
     parts: ResponseParts,
     need_digest: bool,
 ) -> Result<Received, OutOfMemory>
-    requires room { 0 < length buffer.old }
+    requires room { length buffer.old ≡ PIECE }
+    requires reads { ReadsWhile IsOpenHead text.now }
     requires parts { IsResponsePartsOf text.now parts }
     ensures received { (start : Option (List Session)) → Receives text.now false false start (L.log link.old)
         → IfOk result (λ answer. IsReceived need_digest start (L.log link.new) answer) }
     ensures refused { OnErr result ((start : Option (List Session)) → Receives text.now false false start (L.log link.old)
-        → IsPartReceived start (L.log link.new)) }
+        → IsPartReceived need_digest start (L.log link.new)) }
     ensures counted { CountsLinkFault result (L.faults link.old) (L.faults link.new) }
 {
     if parts.status != 200 {
@@ -146,7 +149,7 @@ fn receive_response<L: Link>(
     need_digest: bool,
 ) -> Result<Received, OutOfMemory>
     ensures received { IfOk result (λ answer. IsReceived need_digest (L.log link.old) (L.log link.new) answer) }
-    ensures refused { OnErr result (IsPartReceived (L.log link.old) (L.log link.new)) }
+    ensures refused { OnErr result (IsPartReceived need_digest (L.log link.old) (L.log link.new)) }
     ensures counted { CountsLinkFault result (L.faults link.old) (L.faults link.new) }
 {
     let mut buffer = buffer_of(alloc)?;
@@ -236,7 +239,7 @@ fn converse<L: Link>(
     need_digest: bool,
 ) -> Result<Received, OutOfMemory>
     ensures answer { IfOk result (λ answer. IsConversation target.now kind body.now at need_digest (L.log link.old) (L.log link.new) answer) }
-    ensures refused { OnErr result (IsPartOfConversation target.now kind body.now at (L.log link.old) (L.log link.new)) }
+    ensures refused { OnErr result (IsPartOfConversation target.now kind body.now at need_digest (L.log link.old) (L.log link.new)) }
     ensures counted { CountsLinkFault result (L.faults link.old) (L.faults link.new) }
 {
     match link.begin(at, kind) {
@@ -252,7 +255,9 @@ fn converse<L: Link>(
 
 /// Sends a request in a session of its own and receives the response (RFC 9112), whose body has a length or is
 /// chunked, and has at most 201,326,592 bytes. The session is begun at `at`, which is the clock's last answer, and
-/// closed at its next one, in every case.
+/// closed at its next one, in every case. It is read no further than to what decides the answer: past that come at most
+/// the other bytes of one read, which are 65,535 at most, and its end is not waited for. Neither the host nor the key
+/// may have a CR or an LF.
 pub fn exchange<L: Link, C: Clock>(
     alloc: Global,
     link: &mut L,
@@ -263,17 +268,22 @@ pub fn exchange<L: Link, C: Clock>(
     body: &[u8],
     need_digest: bool,
 ) -> Result<Exchanged, OutOfMemory>
-    requires { C.last clock.old ≡ at.0 }
+    requires clock { C.last clock.old ≡ at.0 }
+    requires target { IsTarget target.now }
 
-    // One session, begun and closed at these moments, whose outcome is the answer.
+    // One session, begun and closed at these moments, whose outcome is the answer. Nothing was read in it past what
+    // decides that.
     ensures session { IfOk result (λ e. HoldsSession target.now kind body.now at need_digest e.ended (L.log link.old) (L.log link.new) e.answer) }
-    ensures refused { OnErr result ((ended : Moment) × HoldsPart target.now kind body.now at ended (L.log link.old) (L.log link.new)
+    ensures refused { OnErr result ((ended : Moment) × HoldsPart target.now kind body.now at need_digest ended (L.log link.old) (L.log link.new)
         × IfTold (C.answers clock.new) (with_entry (C.answers clock.old) ended)
         × (at.0 ≤ ended.0) × (C.last clock.new ≡ ended.0)) }
 
     // The session was closed at the clock's next answer.
     ensures ended { IfOk result (λ e. IfTold (C.answers clock.new) (with_entry (C.answers clock.old) e.ended)) }
     ensures rises { IfOk result (λ e. (at.0 ≤ e.ended.0) × (C.last clock.new ≡ e.ended.0)) }
+
+    // The clock is bidden to wait for nothing.
+    ensures no_wait { C.waits clock.new ≡ C.waits clock.old }
 
     // A fault is counted, and nothing else is.
     ensures failed { IfOk result (λ e. IsErrOf e.answer ExchangeFault.Link → Rose (L.faults link.old) (L.faults link.new)) }

@@ -10,8 +10,8 @@ pub(crate) const HEAD_LIMIT: usize = 16_384;
 /// How many fields a head has at most, and a trailer.
 pub(crate) const FIELD_LIMIT: usize = 64;
 
-/// How many bytes a read asks for.
-const PIECE: usize = 65_536;
+/// How many bytes a read gives at most.
+pub(crate) const PIECE: usize = 65_536;
 
 /// Room for the fields of every head and trailer of 16,384 bytes, since a field has three bytes at least. So the
 /// parser never refuses one for the number of its fields.

@@ -5,6 +5,7 @@
 pub use exchanging::{Exchanged, exchange};
 pub use faults::{ExchangeFault, RequestFault, ResponseFault};
 pub use fields::{BodyLength, Framing};
+pub use laws::{one_body, passes};
 pub use messages::{Allow, HttpRequest, Status, Target};
 pub use paths::{kind_of, path_of};
 pub use printing::push_exchange_cause;
@@ -17,6 +18,7 @@ mod exchanging;
 mod faults;
 mod fields;
 mod heads;
+mod laws;
 mod messages;
 mod paths;
 mod printing;

@@ -1,5 +1,6 @@
-ghost use Rattle.std.specs.Prelude.{◌≡◌};
+ghost use Rattle.std.specs.Prelude.{◌≡◌, ◌↔◌, IsTrue};
 ghost use Rattle.http_edge.specs.Responses.{status_code};
+ghost use Rattle.http_edge.specs.Exchanges.{is_in_line, IsOneLine, IsTarget};
 
 use sb_model::{Bytes, Text};
 
@@ -11,13 +12,37 @@ pub struct HttpRequest {
     pub body: Bytes,
 }
 
-/// Whom a client asks.
+/// Whom a client asks. A CR or an LF in the host or in the key would begin a further line of the head that is sent, so
+/// `exchange` takes neither.
 #[derive(Debug, Drop)]
 pub struct Target {
     /// The value of the field `Host`, with the port where there is one.
     pub host: Text,
     /// The key that stands after the path. An empty one means that there is none.
     pub key: Text,
+}
+
+/// Whether a character is neither a CR nor an LF.
+fn is_in_line(char: char) -> bool
+    ensures { result ≡ is_in_line char }
+{
+    char != '\r' && char != '\n'
+}
+
+/// Whether a text has no CR and no LF.
+fn is_one_line(text: &Text) -> bool
+    ensures { IsTrue result ↔ IsOneLine text.now }
+{
+    text.as_str().chars().all(|char| is_in_line(char))
+}
+
+impl Target {
+    /// Whether neither the host nor the key has a CR or an LF, which `exchange` asks for.
+    pub fn is_sound(&self) -> bool
+        ensures { IsTrue result ↔ IsTarget self.now }
+    {
+        is_one_line(&self.host) && is_one_line(&self.key)
+    }
 }
 
 /// The statuses with which a server answers (RFC 9110, section 15).

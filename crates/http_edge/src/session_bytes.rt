@@ -2,10 +2,10 @@ ghost use Rattle.std.specs.Prelude.{◌≡◌, ◌≢◌, ℕ, ◌<◌, ◌≤�
 ghost use Rattle.sb_outside.specs.Outside.{Rose};
 ghost use Rattle.sb_outside.specs.Sessions.{with_end, with_failure};
 ghost use Rattle.sb_outside.specs.declared.links.Session.{Session};
-ghost use Rattle.http_edge.specs.SessionBytes.{Turns, Receives, ReceivesMore, ReceivesSome, SessionEndsShort, SessionFillsUp, FailsAfter, IsResponsePartsOf, IsFaultOfHead};
+ghost use Rattle.http_edge.specs.SessionBytes.{Turns, Receives, ReceivesMore, ReceivesPiece, ReceivesSome, ReadsWhile, ReadsOnly, IsShort, IsOpenHead, SessionEndsShort, SessionFillsUp, FailsAfter, IsResponsePartsOf, IsFaultOfHead};
 
 use crate::ExchangeFault;
-use crate::heads::{HEAD_LIMIT, room_for_fields};
+use crate::heads::{HEAD_LIMIT, PIECE, room_for_fields};
 use crate::receiving::Stop;
 use crate::response_heads::{ResponseParts, ResponseStep, look_at_response};
 use sb_model::{Bytes, OutOfMemory};
@@ -28,12 +28,12 @@ pub(crate) fn receive_piece<L: Link>(
     buffer: &mut [u8],
     text: &mut Bytes,
 ) -> Result<(), Stop>
-    requires { 0 < length buffer.old }
+    requires { length buffer.old ≡ PIECE }
     ensures more { OnOk result (ReceivesMore text.old text.new (L.log link.old) (L.log link.new)) }
     ensures text { OnErr result (text.new ≡ text.old) }
     ensures end { IsErrOf result Stop.Ended → Turns with_end (L.log link.old) (L.log link.new) }
     ensures failed_log { IsErrOf result Stop.Failed → Turns with_failure (L.log link.old) (L.log link.new) }
-    ensures refused_log { IsErrOf result Stop.OutOfMemory → ReceivesSome (L.log link.old) (L.log link.new) }
+    ensures refused_log { IsErrOf result Stop.OutOfMemory → ReceivesPiece (L.log link.old) (L.log link.new) }
     ensures failed { IsErrOf result Stop.Failed → Rose (L.faults link.old) (L.faults link.new) }
     ensures kept { result ≢ Err Stop.Failed → L.faults link.new ≡ L.faults link.old }
     ensures counted { L.faults link.old ≤ L.faults link.new }
@@ -55,11 +55,11 @@ pub(crate) fn receive_body<L: Link>(
     body: &mut Bytes,
     wanted: usize,
 ) -> Result<(), Stop>
-    requires { 0 < length buffer.old }
+    requires { length buffer.old ≡ PIECE }
     ensures whole { OnOk result (SessionFillsUp body.old body.new wanted (L.log link.old) (L.log link.new)) }
     ensures short { IsErrOf result Stop.Ended → SessionEndsShort body.old wanted (L.log link.old) (L.log link.new) }
-    ensures failed_log { IsErrOf result Stop.Failed → FailsAfter (L.log link.old) (L.log link.new) }
-    ensures refused_log { IsErrOf result Stop.OutOfMemory → ReceivesSome (L.log link.old) (L.log link.new) }
+    ensures failed_log { IsErrOf result Stop.Failed → FailsAfter (IsShort body.old wanted) (L.log link.old) (L.log link.new) }
+    ensures refused_log { IsErrOf result Stop.OutOfMemory → ReceivesSome (IsShort body.old wanted) (L.log link.old) (L.log link.new) }
     ensures failed { IsErrOf result Stop.Failed → Rose (L.faults link.old) (L.faults link.new) }
     ensures kept { result ≢ Err Stop.Failed → L.faults link.new ≡ L.faults link.old }
     ensures counted { L.faults link.old ≤ L.faults link.new }
@@ -83,12 +83,14 @@ pub(crate) fn receive_head<L: Link>(
     buffer: &mut [u8],
     text: &mut Bytes,
 ) -> Result<ResponseParts, ReceiveFault>
-    requires room { 0 < length buffer.old }
+    requires room { length buffer.old ≡ PIECE }
     requires none { text.old ≡ [] }
     ensures parts { IfOk result (λ parts. IsResponsePartsOf text.new parts) }
     ensures given { OnOk result (Receives text.new false false (L.log link.old) (L.log link.new)) }
+    ensures reads { OnOk result (ReadsWhile IsOpenHead text.new) }
     ensures fault { IfErr result (λ fault. (bytes : List ℕ) × (ended : Bool) × (failed : Bool)
-        × Receives bytes ended failed (L.log link.old) (L.log link.new) × IsFaultOfHead bytes ended failed fault) }
+        × Receives bytes ended failed (L.log link.old) (L.log link.new) × ReadsOnly IsOpenHead bytes ended failed
+        × IsFaultOfHead bytes ended failed fault) }
     ensures failed { IsErrOf result (ReceiveFault.Fault ExchangeFault.Link) → Rose (L.faults link.old) (L.faults link.new) }
     ensures kept { result ≢ Err (ReceiveFault.Fault ExchangeFault.Link) → L.faults link.new ≡ L.faults link.old }
     ensures counted { L.faults link.old ≤ L.faults link.new }

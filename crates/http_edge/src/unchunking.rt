@@ -1,12 +1,12 @@
 ghost use Rattle.std.specs.Prelude.{◌≡◌, ◌≢◌, ℕ, ◌+◌, ◌<◌, ◌≤◌, List, ◌++◌, length, take, drop, Bool, false, true, IfOk, OnOk, IfErr, IsErrOf};
 ghost use Rattle.sb_outside.specs.Outside.{Rose};
 ghost use Rattle.http_edge.specs.Chunks.{IsWholeBody};
-ghost use Rattle.http_edge.specs.ChunkSteps.{IsReadTo, IsChunkStep, IsOpenAt, IsFaultOfChunks};
-ghost use Rattle.http_edge.specs.SessionBytes.{Receives, ReceivesOn, ReceivesSome, FailsAfter};
+ghost use Rattle.http_edge.specs.ChunkSteps.{IsReadTo, IsChunkStep, IsOpenAt, IsOpenWith, IsOpenBodyWith, IsFaultOfChunks};
+ghost use Rattle.http_edge.specs.SessionBytes.{Receives, ReceivesOn, ReceivesSome, ReadsWhile, ReadsOnly, FailsAfter};
 
 use crate::ExchangeFault;
 use crate::chunks::{ChunkPlace, ChunkStep, look_at_chunk};
-use crate::heads::room_for_fields;
+use crate::heads::{PIECE, room_for_fields};
 use crate::receiving::Stop;
 use crate::session_bytes::{ReceiveFault, receive_piece};
 use httparse::spans::HeaderSpan;
@@ -86,15 +86,15 @@ fn receive_chunk<L: Link>(
     place: ChunkPlace,
     room: &mut [HeaderSpan],
 ) -> Result<ChunkStep, Stop>
-    requires buffer { 0 < length buffer.old }
+    requires buffer { length buffer.old ≡ PIECE }
     requires room { length room.old ≡ 5461 }
     requires within { place.at ≤ length text.old }
     ensures decided { IfOk result (IsChunkStep text.new place) }
-    ensures more { OnOk result (ReceivesOn text.old text.new false (L.log link.old) (L.log link.new)) }
+    ensures more { OnOk result (ReceivesOn (IsOpenWith text.old place) text.old text.new false (L.log link.old) (L.log link.new)) }
     ensures open { IsErrOf result Stop.Ended → IsOpenAt text.new place }
-    ensures end { IsErrOf result Stop.Ended → ReceivesOn text.old text.new true (L.log link.old) (L.log link.new) }
-    ensures failed_log { IsErrOf result Stop.Failed → FailsAfter (L.log link.old) (L.log link.new) }
-    ensures refused_log { IsErrOf result Stop.OutOfMemory → ReceivesSome (L.log link.old) (L.log link.new) }
+    ensures end { IsErrOf result Stop.Ended → ReceivesOn (IsOpenWith text.old place) text.old text.new true (L.log link.old) (L.log link.new) }
+    ensures failed_log { IsErrOf result Stop.Failed → FailsAfter (IsOpenWith text.old place) (L.log link.old) (L.log link.new) }
+    ensures refused_log { IsErrOf result Stop.OutOfMemory → ReceivesSome (IsOpenWith text.old place) (L.log link.old) (L.log link.new) }
     ensures failed { IsErrOf result Stop.Failed → Rose (L.faults link.old) (L.faults link.new) }
     ensures kept { result ≢ Err Stop.Failed → L.faults link.new ≡ L.faults link.old }
     ensures counted { L.faults link.old ≤ L.faults link.new }
@@ -119,11 +119,12 @@ pub(crate) fn receive_chunks<L: Link>(
     buffer: &mut [u8],
     body: Bytes,
 ) -> Result<Bytes, ReceiveFault>
-    requires { 0 < length buffer.old }
+    requires { length buffer.old ≡ PIECE }
     ensures whole { IfOk result (λ content. (given : List ℕ) × Receives given false false (L.log link.old) (L.log link.new)
-        × IsWholeBody (body ++ given) content) }
+        × ReadsWhile (IsOpenBodyWith body) given × IsWholeBody (body ++ given) content) }
     ensures fault { IfErr result (λ fault. (given : List ℕ) × (ended : Bool) × (failed : Bool)
-        × Receives given ended failed (L.log link.old) (L.log link.new) × IsFaultOfChunks (body ++ given) ended failed fault) }
+        × Receives given ended failed (L.log link.old) (L.log link.new) × ReadsOnly (IsOpenBodyWith body) given ended failed
+        × IsFaultOfChunks (body ++ given) ended failed fault) }
     ensures failed { IsErrOf result (ReceiveFault.Fault ExchangeFault.Link) → Rose (L.faults link.old) (L.faults link.new) }
     ensures kept { result ≢ Err (ReceiveFault.Fault ExchangeFault.Link) → L.faults link.new ≡ L.faults link.old }
     ensures counted { L.faults link.old ≤ L.faults link.new }

@@ -1,4 +1,7 @@
 //! How the tests make texts, and ask over a link in memory.
+ghost use Rattle.std.specs.Prelude.{◌≡◌, IfOk};
+ghost use Rattle.http_edge.specs.Exchanges.{IsTarget};
+
 use http_edge::{Exchanged, Target, exchange};
 use sb_model::{Bytes, Moment, OutOfMemory, Row, Text};
 use sb_outside::{Clock, Kind, Play, ScriptClock, ScriptLink};
@@ -17,11 +20,18 @@ pub(crate) fn clock_of(alloc: Global) -> Result<ScriptClock, OutOfMemory> {
     ScriptClock::new(alloc, readings, 2)
 }
 
-pub(crate) fn target_of(alloc: Global, key: &str) -> Result<Target, OutOfMemory> {
-    Ok(Target {
+/// A target with this key. One that is not sound counts as memory that was refused.
+pub(crate) fn target_of(alloc: Global, key: &str) -> Result<Target, OutOfMemory>
+    ensures { IfOk result IsTarget }
+{
+    let target = Target {
         host: Text::from_str(alloc, "127.0.0.1:8080")?,
         key: Text::from_str(alloc, key)?,
-    })
+    };
+    if !target.is_sound() {
+        return Err(OutOfMemory);
+    }
+    Ok(target)
 }
 
 pub(crate) fn ask(
@@ -30,7 +40,9 @@ pub(crate) fn ask(
     clock: &mut ScriptClock,
     target: &Target,
     need_digest: bool,
-) -> Result<Exchanged, OutOfMemory> {
+) -> Result<Exchanged, OutOfMemory>
+    requires { IsTarget target.now }
+{
     let at = clock.now();
     exchange(
         alloc,

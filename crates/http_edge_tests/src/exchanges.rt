@@ -1,6 +1,7 @@
 //! Exchanges of a client over a link in memory.
 use crate::asking::{ask, clock_of, link_of, target_of};
-use sb_model::{Moment, OutOfMemory, Row};
+use http_edge::Target;
+use sb_model::{Moment, OutOfMemory, Row, Text};
 use sb_outside::{Kind, Session};
 use std::alloc::Global;
 use std::process::Abort;
@@ -40,5 +41,28 @@ fn the_request_is_sent_and_the_session_closed(rt: HostRuntime) {
         let log = session_with(rt.alloc(), key).expect(&rt, "out of memory");
         assert!(rt; log.len() == 1);
         is_session(&rt, log.at(0), wanted);
+    }
+}
+
+fn is_sound(alloc: Global, host: &str, key: &str) -> Result<bool, OutOfMemory> {
+    let target = Target {
+        host: Text::from_str(alloc, host)?,
+        key: Text::from_str(alloc, key)?,
+    };
+    Ok(target.is_sound())
+}
+
+#[test]
+fn a_line_end_stands_in_no_target(rt: HostRuntime) {
+    for (host, key, wanted) in [
+        ("a.example:80", "", true),
+        ("", "a\tb \u{2028}\u{85}\u{10D}\u{10A}", true),
+        ("a\nX: 1", "", false),
+        ("a", "b\r", false),
+        ("\r\n", "", false),
+        ("a", "b HTTP/1.1\nX: 1", false),
+    ] {
+        let sound = is_sound(rt.alloc(), host, key).expect(&rt, "out of memory");
+        assert!(rt; sound == wanted, "{host} {key}");
     }
 }

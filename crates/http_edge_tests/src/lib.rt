@@ -6,6 +6,8 @@ mod asking;
 #[cfg(test)]
 mod exchanges;
 #[cfg(test)]
+mod reading;
+#[cfg(test)]
 mod requests;
 #[cfg(test)]
 mod responses;

@@ -10,7 +10,7 @@ returns-clause-session g c =
 pub returns-in_err-answer-clause-refused : goal.returns-in_err-answer-clause-refused
 returns-in_err-answer-clause-refused g c = err_says c.from_residual.result _ (
   c.now-ended.result,
-  part_closed c.args.target.now c.args.kind c.args.body.now c.args.at c.now-ended.result _ _ _ c.in_err-answer.ensures.refused c.close.ensures.closed,
+  part_closed c.args.target.now c.args.kind c.args.body.now c.args.at c.args.need_digest c.now-ended.result _ _ _ c.in_err-answer.ensures.refused c.close.ensures.closed,
   c.now-ended.ensures.told,
   search rules,
   search rules,

@@ -1,13 +1,14 @@
-use Rattle.std.proofs.Common.{◌≡◌, ◌<◌, ◌-◌, length, vec_len, false}
-use Rattle.http_edge.specs.SessionBytes.{Receives}
+use Rattle.std.proofs.Common.{◌≡◌, ◌-◌, length, vec_len, false}
+use Rattle.http_edge.specs.SessionBytes.{Receives, ReadsWhile, IsOpenHead}
 use Rattle.http_edge.proofs.session_bytes.receive_head.Given as goal
 
 abbrev pub invariant-pieces : goal.invariant-pieces
 invariant-pieces g l =
     record {
-      buffer : 0 < length l.buffer;
+      buffer : length l.buffer ≡ 65536;
       room : vec_len l.room ≡ 5461;
       so_far : Receives l.text false false (g.L.Link.log l.initial.link) (g.L.Link.log l.link);
+      reads : ReadsWhile IsOpenHead l.text;
       faults : g.L.Link.faults l.link ≡ g.L.Link.faults l.initial.link;
     }
 

@@ -14,6 +14,7 @@ returns-in-Ok-append-clause-more g c =
     record {
       given = take c.in-Ok.count c.recv.new.buffer;
       some = omega (arith, length-take c.in-Ok.count c.recv.new.buffer, c.in-Ok.ensures.within);
+      short = omega (arith, length-take c.in-Ok.count c.recv.new.buffer, c.recv.auto.buffer, c.requires);
       whole = c.in-Ok-append.ensures.ok;
       receives = turns_from (with_received (take c.in-Ok.count c.recv.new.buffer)) _ _ (c.in-Ok.ensures.bytes count);
     }
@@ -23,6 +24,7 @@ returns-in-Err-append-clause-refused_log g c = λ _.
     let count : 0 < c.in-Ok.count = omega (arith, c.in-Ok.count-test.1) in
     record {
       given = take c.in-Ok.count c.recv.new.buffer;
+      short = omega (arith, length-take c.in-Ok.count c.recv.new.buffer, c.recv.auto.buffer, c.requires);
       receives = turns_from (with_received (take c.in-Ok.count c.recv.new.buffer)) _ _ (c.in-Ok.ensures.bytes count);
     }
 

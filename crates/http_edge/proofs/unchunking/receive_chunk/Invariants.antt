@@ -1,14 +1,15 @@
-use Rattle.std.proofs.Common.{◌≡◌, ◌<◌, ◌≤◌, ◌-◌, ◌+◌, length, false}
+use Rattle.std.proofs.Common.{◌≡◌, ◌≤◌, ◌-◌, ◌+◌, length, false}
+use Rattle.http_edge.specs.ChunkSteps.{IsOpenWith}
 use Rattle.http_edge.specs.SessionBytes.{ReceivesOn}
 use Rattle.http_edge.proofs.unchunking.receive_chunk.Given as goal
 
 abbrev pub invariant-pieces : goal.invariant-pieces
 invariant-pieces g l =
     record {
-      buffer : 0 < length l.buffer;
+      buffer : length l.buffer ≡ 65536;
       room : length l.room ≡ 5461;
       within : l.place.at ≤ length l.text;
-      so_far : ReceivesOn l.initial.text l.text false (g.L.Link.log l.initial.link) (g.L.Link.log l.link);
+      so_far : ReceivesOn (IsOpenWith l.initial.text l.place) l.initial.text l.text false (g.L.Link.log l.initial.link) (g.L.Link.log l.link);
       faults : g.L.Link.faults l.link ≡ g.L.Link.faults l.initial.link;
     }
 
