@@ -1,0 +1,4 @@
+pub mod Beginnings
+pub mod Sessions
+pub mod Traces
+pub mod Waits

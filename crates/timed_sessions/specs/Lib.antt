@@ -1,0 +1,4 @@
+pub mod Told
+pub mod Timed
+pub mod Waiting
+pub mod Law
