@@ -1,6 +1,7 @@
 pub mod Fronts
 pub mod HonestUpdates
 pub mod Meanings
+pub mod OneBodies
 pub mod Replicas
 pub mod Results
 pub mod RoundFacts

@@ -1,5 +1,5 @@
 -- What the steps of a round come to together.
-use Rattle.std.proofs.Common.{◌≡◌, ℕ, ◌≤◌, ◌⊎◌, List, [], ◌∷◌, ◌++◌, Bool, true, false, Option, Some, None, refl, sym, ap, ◌∙◌, arith, inl, inr, append_assoc}
+use Rattle.std.proofs.Common.{◌≡◌, ℕ, ◌⊎◌, List, [], ◌∷◌, ◌++◌, Bool, Option, Some, None, refl, sym, ap, ◌∙◌, subst, inl, inr, append_assoc}
 use Rattle.std.proofs.lemmas.List.{append-nil}
 use Rattle.std.specs.Prelude.{Result, Ok, Err, IfOk}
 use Rattle.sb_model.specs.declared.time.Moment.{Moment}
@@ -9,133 +9,152 @@ use Rattle.sb_outside.specs.declared.links.Session.{Session}
 use Rattle.sb_outside.specs.declared.links.Kind.TheVariants.{Update}
 use Rattle.http_edge.specs.declared.faults.ExchangeFault.{ExchangeFault}
 use Rattle.http_edge.specs.declared.messages.Target.{Target}
-use Rattle.http_edge.specs.Exchanges.{HoldsSession, HoldsPart}
 use Rattle.update_client.specs.Held.{Held}
+use Rattle.update_client.specs.Step.{after_updates, results_of}
 use Rattle.update_client.specs.declared.options.FetchOptions.{FetchOptions}
 use Rattle.update_messages.specs.declared.response.FetchResponse.{FetchResponse}
-use Rattle.wait_rules.specs.Waits.{may_send_at, after_failure}
 use Rattle.wait_rules.specs.declared.waits.WaitState.{WaitState}
+use Rattle.timed_sessions.specs.Told.{Outside, Grows, outside, with_more}
+use Rattle.timed_sessions.specs.Timed.{TimedSession, HoldsTimed, HoldsTimedPart, IsTold, moments_after, trace_of}
+use Rattle.timed_sessions.specs.Waiting.{HasSettled, words_of}
+use Rattle.timed_sessions.specs.declared.timing.Talk.{Talk}
 use Rattle.sb_round.specs.declared.rounds.RoundEnd.{RoundEnd}
 use Rattle.sb_round.specs.declared.rounds.RoundFault.{RoundFault}
-use Rattle.sb_round.specs.Round.{with_more, moments_before, outside, body_asked, HoldsRoundSession, MakesRound, BreaksOff}
-use Rattle.sb_round.specs.Taking.{HasBegun, HasTalked, HasAsked, HasSettled}
+use Rattle.sb_round.specs.declared.rounds.Taken.{Taken}
+use Rattle.sb_round.specs.Round.{body_asked, named_results, HoldsRoundSession, MakesRound, BreaksOff}
+use Rattle.sb_round.specs.Taking.{HasTalked, HasAsked, HasTaken, StopsAsking, seen}
 
--- a list that is told has more, and then one entry more
-pub told_more : {A : Type 0} (a b c : Option (List A)) (more : List A) (entry : A) → IfTold b (with_more a more) → IfTold c (with_entry b entry) → IfTold c (with_more a (more ++ entry ∷ []))
-told_more a b None more entry first then = tt
-told_more a None (Some told) more entry first then = cc
-told_more None (Some known) (Some told) more entry first then = cc
-told_more (Some items) (Some known) (Some told) more entry first then =
-    let grown : items ++ more ≡ known = cc in
-    let told_is : known ++ entry ∷ [] ≡ told = cc in
-    ap (λ all. Some all) (sym (append_assoc items more (entry ∷ [])) ∙ ap (λ all. all ++ entry ∷ []) grown ∙ told_is)
+-- ---- what is told
 
-pub told_nothing : {A : Type 0} (a : Option (List A)) → IfTold a (with_more a [])
+-- an entry, and then more
+told_after : {A : Type 0} (a b c : Option (List A)) (entry : A) (more : List A) → IfTold b (with_entry a entry) → IfTold c (with_more b more) → IfTold c (with_more a (entry ∷ more))
+told_after a b None entry more first then = tt
+told_after a None (Some told) entry more first then = cc
+told_after None (Some known) (Some told) entry more first then = cc
+told_after (Some items) (Some known) (Some told) entry more first then =
+    let grown : items ++ entry ∷ [] ≡ known = cc in
+    let told_is : known ++ more ≡ told = cc in
+    ap (λ all. Some all) (sym (append_assoc items (entry ∷ []) more) ∙ ap (λ all. all ++ more) grown ∙ told_is)
+
+told_nothing : {A : Type 0} (a : Option (List A)) → IfTold a (with_more a [])
 told_nothing None = tt
 told_nothing (Some items) = ap (λ all. Some all) (append-nil items)
 
--- a session that begins at once
-pub begun_at_once : (waits : WaitState) (read : Moment) (a b : Option (List Moment)) → may_send_at waits read ≡ true → IfTold b (with_entry a read) → HasBegun waits a b read
-begun_at_once waits read a b may told = record {
-  read = read;
-  is = record { at_once = rw may refl; allowed = grind (arith, may) };
-  told = rw may told;
+-- the clock's reading, and then what is told of the session
+grows : (waits : WaitState) (session : TimedSession) (log log' : Option (List Session)) (a b c w v u : Option (List Moment))
+    → IfTold b (with_entry a session.read) → v ≡ w → IsTold waits session log log' b c v u
+    → Grows (seen log a w) (seen log' c u) (trace_of waits session [])
+grows waits session log log' a b c w v u read same told = record {
+  log = told.logged;
+  answers = told_after a b c session.read (moments_after waits session) read told.answered;
+  waits = rw (← same) told.bade;
+  words = tt;
 }
 
--- a session that begins after a wait
-pub begun_later : (waits : WaitState) (read begun : Moment) (a b c : Option (List Moment)) → may_send_at waits read ≡ false → IfTold b (with_entry a read) → IfTold c (with_entry b begun)
-    → waits.allowed_at.0 ≤ begun.0 → read.0 ≤ begun.0 → HasBegun waits a c begun
-begun_later waits read begun a b c may first then allowed rises = record {
-  read = read;
-  is = record { at_once = rw may rises; allowed = allowed };
-  told = rw may (told_more a b c (read ∷ []) begun first then);
+-- what the dice tell, too
+with_words : (waits : WaitState) (session : TimedSession) (log log' : Option (List Session)) (a b w v : Option (List Moment)) (words words' : Option (List ℕ)) (drawn : List ℕ)
+    → Grows (seen log a w) (seen log' b v) (trace_of waits session []) → IfTold words' (with_more words drawn)
+    → Grows (outside log a w words) (outside log' b v words') (trace_of waits session drawn)
+with_words waits session log log' a b w v words words' drawn told more = record {
+  log = told.log;
+  answers = told.answers;
+  waits = told.waits;
+  words = more;
 }
 
--- a session that was held to its end
-pub talked : (waits : WaitState) (target : Target) (body : List ℕ) (need : Bool) (log log' : Option (List Session)) (a b c : Option (List Moment)) (begun closed : Moment) (outcome : Result (List ℕ) ExchangeFault)
-    → HasBegun waits a b begun → IfTold c (with_entry b closed) → begun.0 ≤ closed.0 → HoldsSession target Update body begun need closed log log' outcome
-    → HasTalked waits target body need log log' a c begun closed outcome
-talked waits target body need log log' a b c begun closed outcome begins told rises holds = record {
-  session = record { read = begins.read; begun = begun; closed = closed; entry = holds.session };
-  is = record { begins = begins.is; is = holds.is; rises = rises };
-  sends = holds.sends;
-  decides = holds.outcome;
-  logged = holds.told;
-  read = told_more a b c (moments_before waits begins.read begun) closed begins.told told;
-  begins = refl;
-  closes = refl;
+-- ---- sessions
+
+-- a session that was held to its end after the clock was read
+pub talked : (waits : WaitState) (read : Moment) (target : Target) (body : List ℕ) (need : Bool) (log log' : Option (List Session)) (a b c w v u : Option (List Moment)) (begun closed : Moment) (outcome : Result (List ℕ) ExchangeFault)
+    → IfTold b (with_entry a read) → v ≡ w → HoldsTimed waits read target Update body need log log' b c v u begun closed outcome
+    → HasTalked waits target body need (seen log a w) (seen log' c u) begun closed outcome
+talked waits read target body need log log' a b c w v u begun closed outcome first same holds = record {
+  session = holds.session;
+  is = holds.is;
+  held = holds.held;
+  told = grows waits holds.session log log' a b c w v u (subst (λ moment. IfTold b (with_entry a moment)) (sym holds.reading) first) same holds.told;
+  begins = holds.begins;
+  closes = holds.closes;
 }
 
 -- a session that was broken off
-pub held_part : (waits : WaitState) (target : Target) (body : List ℕ) (log log' : Option (List Session)) (a b c : Option (List Moment)) (begun closed : Moment)
-    → HasBegun waits a b begun → IfTold c (with_entry b closed) → begun.0 ≤ closed.0 → HoldsPart target Update body begun closed log log'
-    → HoldsRoundSession waits target body log log' a c
-held_part waits target body log log' a b c begun closed begins told rises holds = record {
-  session = record { read = begins.read; begun = begun; closed = closed; entry = holds.session };
-  is = record { begins = begins.is; is = holds.is; rises = rises };
-  logged = holds.told;
-  read = told_more a b c (moments_before waits begins.read begun) closed begins.told told;
+pub held_part : (waits : WaitState) (read : Moment) (target : Target) (body : List ℕ) (log log' : Option (List Session)) (a b c w v u : Option (List Moment))
+    → IfTold b (with_entry a read) → v ≡ w → HoldsTimedPart waits read target Update body log log' b c v u
+    → HoldsRoundSession waits target body (seen log a w) (seen log' c u)
+held_part waits read target body log log' a b c w v u first same holds = record {
+  session = holds.session;
+  is = holds.is;
+  told = grows waits holds.session log log' a b c w v u (subst (λ moment. IfTold b (with_entry a moment)) (sym holds.reading) first) same holds.told;
 }
+
+pub talked_if : (waits : WaitState) (read : Moment) (target : Target) (body : List ℕ) (need : Bool) (log log' : Option (List Session)) (a b c w v u : Option (List Moment)) (result : Result Talk OutOfMemory)
+    → IfTold b (with_entry a read) → v ≡ w → IfOk result (λ talk. HoldsTimed waits read target Update body need log log' b c v u talk.begun talk.closed talk.answer)
+    → IfOk result (λ talk. HasTalked waits target body need (seen log a w) (seen log' c u) talk.begun talk.closed talk.answer)
+talked_if waits read target body need log log' a b c w v u (Ok talk) first same holds = talked waits read target body need log log' a b c w v u talk.begun talk.closed talk.answer first same holds
+talked_if waits read target body need log log' a b c w v u (Err refused) first same holds = tt
 
 -- a session that was held to its end, of which no more is said
-pub held_whole : (waits : WaitState) (target : Target) (body : List ℕ) (need : Bool) (log log' : Option (List Session)) (a b : Option (List Moment)) (begun closed : Moment) (outcome : Result (List ℕ) ExchangeFault)
-    → HasTalked waits target body need log log' a b begun closed outcome → HoldsRoundSession waits target body log log' a b
-held_whole waits target body need log log' a b begun closed outcome talked = record {
-  session = talked.session;
-  is = talked.is;
-  logged = talked.logged;
-  read = talked.read;
+pub held_whole : (waits : WaitState) (target : Target) (body : List ℕ) (need : Bool) (before after : Outside) (begun closed : Moment) (outcome : Result (List ℕ) ExchangeFault)
+    → HasTalked waits target body need before after begun closed outcome → HoldsRoundSession waits target body before after
+held_whole waits target body need before after begun closed outcome talked = record { session = talked.session; is = talked.is; told = talked.told }
+
+-- ---- rounds
+
+-- a round that brought a message
+pub message_taken : (lists lists' : List Held) (waits waits' : WaitState) (words words' : Option (List ℕ)) (begun closed : Moment) (message : FetchResponse) (taken : List Taken)
+    → HasSettled waits waits' closed (Some message.wait) words words' → lists' ≡ after_updates lists message.items
+    → taken ≡ named_results message.items (results_of lists message.items)
+    → HasTaken lists lists' waits waits' words words' begun closed (Ok message) (record { begun = begun; taken = Ok taken })
+message_taken lists lists' waits waits' words words' begun closed message taken settled lists_are taken_is = record {
+  settled = settled;
+  lists_after = lists_are;
+  begins = refl;
+  taken = ap (λ all. Ok all) taken_is;
 }
+
+-- a round that brought none
+pub failed : (lists : List Held) (waits waits' : WaitState) (words words' : Option (List ℕ)) (begun closed : Moment) (fault : RoundFault)
+    → HasSettled waits waits' closed None words words'
+    → HasTaken lists lists waits waits' words words' begun closed (Err fault) (record { begun = begun; taken = Err fault })
+failed lists waits waits' words words' begun closed fault settled = record { settled = settled; lists_after = refl; begins = refl; taken = refl }
 
 -- a round whose session was held, and which was then ended
-pub made : (lists lists' : List Held) (waits waits' : WaitState) (options : FetchOptions) (target : Target) (need : Bool) (log log' : Option (List Session)) (a b : Option (List Moment)) (words words' : Option (List ℕ)) (begun closed : Moment) (answer : Result FetchResponse RoundFault) (end : RoundEnd)
-    → HasAsked waits target (body_asked lists options) need log log' a b begun closed answer
-    → HasSettled lists lists' waits waits' words words' begun closed answer end
-    → MakesRound lists waits options target need (outside log a words) (outside log' b words') lists' waits' end
-made lists lists' waits waits' options target need log log' a b words words' begun closed answer end asked settled = record {
-  round = record { session = asked.talked.session; answer = answer; word = settled.word };
+pub made : (lists lists' : List Held) (waits waits' : WaitState) (options : FetchOptions) (target : Target) (need : Bool) (log log' : Option (List Session)) (a b w v : Option (List Moment)) (words words' : Option (List ℕ)) (begun closed : Moment) (answer : Result FetchResponse RoundFault) (end : RoundEnd)
+    → HasAsked waits target (body_asked lists options) need (seen log a w) (seen log' b v) begun closed answer
+    → HasTaken lists lists' waits waits' words words' begun closed answer end
+    → MakesRound lists waits options target need (outside log a w words) (outside log' b v words') lists' waits' end
+made lists lists' waits waits' options target need log log' a b w v words words' begun closed answer end asked taken = record {
+  round = record { session = asked.talked.session; answer = answer; word = taken.settled.word };
   is = record {
     session = asked.talked.is;
-    sends = asked.talked.sends;
     outcome = asked.outcome;
-    decides = asked.talked.decides;
+    held = asked.talked.held;
     answers = asked.answers;
-    drawn = settled.drawn;
+    drawn = taken.settled.drawn;
   };
-  logged = asked.talked.logged;
-  read = asked.talked.read;
-  drawn = settled.told;
-  lists_after = settled.lists_after;
-  waits_after = rw asked.talked.closes settled.waits_after;
-  begun = settled.begins ∙ sym asked.talked.begins;
-  taken = settled.taken;
+  told = with_words waits asked.talked.session log log' a b w v words words' (words_of taken.settled.word) asked.talked.told taken.settled.told;
+  lists_after = taken.lists_after;
+  waits_after = rw asked.talked.closes taken.settled.leaves;
+  begun = taken.begins ∙ sym asked.talked.begins;
+  taken = taken.taken;
 }
 
-pub made_if : (lists lists' : List Held) (waits waits' : WaitState) (options : FetchOptions) (target : Target) (need : Bool) (log log' : Option (List Session)) (a b : Option (List Moment)) (words words' : Option (List ℕ)) (begun closed : Moment) (answer : Result FetchResponse RoundFault) (result : Result RoundEnd OutOfMemory)
-    → HasAsked waits target (body_asked lists options) need log log' a b begun closed answer
-    → IfOk result (λ end. HasSettled lists lists' waits waits' words words' begun closed answer end)
-    → IfOk result (λ end. MakesRound lists waits options target need (outside log a words) (outside log' b words') lists' waits' end)
-made_if lists lists' waits waits' options target need log log' a b words words' begun closed answer (Ok end) asked settled =
-    made lists lists' waits waits' options target need log log' a b words words' begun closed answer end asked settled
-made_if lists lists' waits waits' options target need log log' a b words words' begun closed answer (Err refused) asked settled = tt
-
--- a round that brought no message
-pub failed : (lists : List Held) (waits waits' : WaitState) (words words' : Option (List ℕ)) (begun closed : Moment) (fault : RoundFault) (word : ℕ)
-    → waits' ≡ after_failure waits closed word → IfTold words' (with_entry words word)
-    → HasSettled lists lists waits waits' words words' begun closed (Err fault) (record { begun = begun; taken = Err fault })
-failed lists waits waits' words words' begun closed fault word waits_are told = record {
-  word = Some word;
-  drawn = refl;
-  told = told;
-  lists_after = refl;
-  waits_after = waits_are;
-  begins = refl;
-  taken = refl;
-}
+pub made_if : (lists lists' : List Held) (waits waits' : WaitState) (options : FetchOptions) (target : Target) (need : Bool) (log log' : Option (List Session)) (a b w v : Option (List Moment)) (words words' : Option (List ℕ)) (begun closed : Moment) (answer : Result FetchResponse RoundFault) (result : Result RoundEnd OutOfMemory)
+    → HasAsked waits target (body_asked lists options) need (seen log a w) (seen log' b v) begun closed answer
+    → IfOk result (λ end. HasTaken lists lists' waits waits' words words' begun closed answer end)
+    → IfOk result (λ end. MakesRound lists waits options target need (outside log a w words) (outside log' b v words') lists' waits' end)
+made_if lists lists' waits waits' options target need log log' a b w v words words' begun closed answer (Ok end) asked taken =
+    made lists lists' waits waits' options target need log log' a b w v words words' begun closed answer end asked taken
+made_if lists lists' waits waits' options target need log log' a b w v words words' begun closed answer (Err refused) asked taken = tt
 
 -- a round that was broken off before its session or after it
-pub broken_off : (lists : List Held) (waits : WaitState) (options : FetchOptions) (target : Target) (log log' : Option (List Session)) (a b : Option (List Moment)) (words words' : Option (List ℕ))
-    → (((log' ≡ log) × (b ≡ a)) ⊎ HoldsRoundSession waits target (body_asked lists options) log log' a b) → words' ≡ words
-    → BreaksOff lists waits options target (outside log a words) (outside log' b words')
-broken_off lists waits options target log log' a b words words' (inl (same_log, same_answers)) same_words = inl cc
-broken_off lists waits options target log log' a b words words' (inr held) same_words = inr (same_words, held)
+pub broken_off : (lists : List Held) (waits : WaitState) (options : FetchOptions) (target : Target) (log log' : Option (List Session)) (a b w v : Option (List Moment)) (words words' : Option (List ℕ))
+    → StopsAsking waits target (body_asked lists options) (seen log a w) (seen log' b v) → words' ≡ words
+    → BreaksOff lists waits options target (outside log a w words) (outside log' b v words')
+broken_off lists waits options target log log' a b w v words words' (inl same) same_words =
+    inl (ap (λ (told : Outside). outside told.log told.answers told.waits words') same ∙ ap (λ all. outside log a w all) same_words)
+broken_off lists waits options target log log' a b w v words words' (inr held) same_words = inr (record {
+  session = held.session;
+  is = held.is;
+  told = with_words waits held.session log log' a b w v words words' [] held.told (rw same_words (told_nothing words));
+})

@@ -1,30 +1,19 @@
--- Rounds and one more.
-use Rattle.std.proofs.Common.{◌≡◌, ℕ, List, [], ◌∷◌, ◌++◌, Bool, Option, Some, None, map, refl, sym, ap, ◌∙◌, subst, append_assoc}
+-- Rounds and one more, and what rounds come to.
+use Rattle.std.proofs.Common.{◌≡◌, ◌≤◌, ℕ, List, [], ◌∷◌, ◌++◌, Bool, map, refl, sym, ap, ◌∙◌, subst, append_assoc}
 use Rattle.std.specs.Prelude.{fold}
-use Rattle.std.specs.List.{flat_map}
 use Rattle.std.proofs.lemmas.List.{append-nil}
-use Rattle.sb_outside.specs.Outside.{IfTold, with_entry}
 use Rattle.sb_model.specs.declared.time.Moment.{Moment}
+use Rattle.sb_outside.specs.declared.links.Session.{Session}
 use Rattle.http_edge.specs.declared.messages.Target.{Target}
 use Rattle.update_client.specs.Held.{Held}
 use Rattle.update_client.specs.Step.{after_updates}
 use Rattle.update_client.specs.declared.options.FetchOptions.{FetchOptions}
 use Rattle.wait_rules.specs.declared.waits.WaitState.{WaitState}
-use Rattle.sb_round.specs.declared.rounds.RoundEnd.{RoundEnd}
+use Rattle.timed_sessions.specs.Told.{Outside, Trace, Grows, no_trace, then_trace}
+use Rattle.timed_sessions.specs.Law.{BeginsTrace, GoesOnWithTrace}
 use Rattle.sb_round.specs.Run.{lists_after}
-use Rattle.sb_round.specs.Round.{Round, IsRound, Outside, MakesRound, moments_of, lists_after_round, waits_after_round, with_more}
-use Rattle.sb_round.specs.Rounds.{body_of, entry_of, words_of_round, waits_after_rounds, moments_of_rounds, AreRounds, MakesRounds, BeginsRounds, GoesOnWithRounds}
-use Rattle.sb_round.proofs.RoundFacts.{told_nothing}
-
--- lists that are told one after the other
-told_both : {A : Type 0} (a b c : Option (List A)) (more then : List A) → IfTold b (with_more a more) → IfTold c (with_more b then) → IfTold c (with_more a (more ++ then))
-told_both a b None more then first next = tt
-told_both a None (Some told) more then first next = cc
-told_both None (Some known) (Some told) more then first next = cc
-told_both (Some items) (Some known) (Some told) more then first next =
-    let grown : items ++ more ≡ known = cc in
-    let told_is : known ++ then ≡ told = cc in
-    ap (λ all. Some all) (sym (append_assoc items more then) ∙ ap (λ all. all ++ then) grown ∙ told_is)
+use Rattle.sb_round.specs.Round.{Round, IsRound, lists_after_round, trace_of_round, waits_after_round}
+use Rattle.sb_round.specs.Rounds.{body_of, entry_of, waits_after_rounds, trace_of_rounds, AreRounds, BeginsRounds, GoesOnWithRounds, RoundsKeepToWaits, RoundsAreTheirSessions}
 
 fold_one_more : {A B : Type 0} (step : A → B → A) (start : A) (items : List B) (item : B) → fold step start (items ++ item ∷ []) ≡ step (fold step start items) item
 fold_one_more step start [] item = refl
@@ -34,17 +23,33 @@ map_one_more : {A B : Type 0} (f : A → B) (items : List A) (item : A) → map 
 map_one_more f [] item = refl
 map_one_more f (first ∷ items) item = ap (λ rest. f first ∷ rest) (map_one_more f items item)
 
-flat_map_one_more : {A B : Type 0} (f : A → List B) (items : List A) (item : A) → flat_map f (items ++ item ∷ []) ≡ flat_map f items ++ f item
-flat_map_one_more f [] item = append-nil (f item)
-flat_map_one_more f (first ∷ items) item =
-    ap (λ rest. f first ++ rest) (flat_map_one_more f items item) ∙ sym (append_assoc (f first) (flat_map f items) (f item))
+-- ---- what is told of rounds and one more
 
-moments_one_more : (waits : WaitState) (rounds : List Round) (round : Round)
-    → moments_of_rounds waits (rounds ++ round ∷ []) ≡ moments_of_rounds waits rounds ++ moments_of (waits_after_rounds waits rounds) round.session
-moments_one_more waits [] round = append-nil (moments_of waits round.session)
-moments_one_more waits (first ∷ rounds) round =
-    ap (λ rest. moments_of waits first.session ++ rest) (moments_one_more (waits_after_round waits first) rounds round)
-    ∙ sym (append_assoc (moments_of waits first.session) (moments_of_rounds (waits_after_round waits first) rounds) (moments_of (waits_after_rounds (waits_after_round waits first) rounds) round.session))
+abbrev trace : List Session → List Moment → List Moment → List ℕ → Trace
+trace sessions answers waits words = record { sessions = sessions; answers = answers; waits = waits; words = words }
+
+same_trace : (a b : Trace) → a.sessions ≡ b.sessions → a.answers ≡ b.answers → a.waits ≡ b.waits → a.words ≡ b.words → a ≡ b
+same_trace a b sessions answers waits words =
+    ap (λ all. trace all a.answers a.waits a.words) sessions
+    ∙ ap (λ all. trace b.sessions all a.waits a.words) answers
+    ∙ ap (λ all. trace b.sessions b.answers all a.words) waits
+    ∙ ap (λ all. trace b.sessions b.answers b.waits all) words
+
+then_nothing : (a : Trace) → then_trace a no_trace ≡ then_trace no_trace a
+then_nothing a = same_trace _ _ (append-nil a.sessions) (append-nil a.answers) (append-nil a.waits) (append-nil a.words)
+
+then_both : (a b c : Trace) → then_trace a (then_trace b c) ≡ then_trace (then_trace a b) c
+then_both a b c =
+    same_trace _ _
+    (sym (append_assoc a.sessions b.sessions c.sessions)) (sym (append_assoc a.answers b.answers c.answers))
+    (sym (append_assoc a.waits b.waits c.waits)) (sym (append_assoc a.words b.words c.words))
+
+trace_one_more : (waits : WaitState) (rounds : List Round) (round : Round)
+    → trace_of_rounds waits (rounds ++ round ∷ []) ≡ then_trace (trace_of_rounds waits rounds) (trace_of_round (waits_after_rounds waits rounds) round)
+trace_one_more waits [] round = then_nothing (trace_of_round waits round)
+trace_one_more waits (first ∷ rounds) round =
+    ap (λ rest. then_trace (trace_of_round waits first) rest) (trace_one_more (waits_after_round waits first) rounds round)
+    ∙ then_both (trace_of_round waits first) (trace_of_rounds (waits_after_round waits first) rounds) (trace_of_round (waits_after_rounds (waits_after_round waits first) rounds) round)
 
 rounds_one_more : (lists : List Held) (waits : WaitState) (options : FetchOptions) (target : Target) (need : Bool) (rounds : List Round) (round : Round)
     → AreRounds lists waits options target need rounds → IsRound (lists_after lists (map body_of rounds)) (waits_after_rounds waits rounds) options target need round
@@ -53,30 +58,36 @@ rounds_one_more lists waits options target need [] round are is = (is, tt)
 rounds_one_more lists waits options target need (first ∷ rounds) round (first_is, are) is =
     (first_is, rounds_one_more (lists_after_round lists first) (waits_after_round waits first) options target need rounds round are is)
 
-pub begins_rounds : BeginsRounds
-begins_rounds lists waits options target need before = record {
-  are = tt;
-  logged = told_nothing before.log;
-  read = told_nothing before.answers;
-  drawn = told_nothing before.words;
-  lists_are = refl;
-  waits_are = refl;
-}
+pub begins_rounds : BeginsTrace → BeginsRounds
+begins_rounds none lists waits options target need before = record { are = tt; told = none before; lists_are = refl; waits_are = refl }
 
-pub goes_on : GoesOnWithRounds
-goes_on lists lists' lists'' waits waits' waits'' options target need before between after rounds end so_far made = record {
+pub goes_on : GoesOnWithTrace → GoesOnWithRounds
+goes_on one_more lists lists' lists'' waits waits' waits'' options target need before between after rounds end so_far made = record {
   are = rounds_one_more lists waits options target need rounds made.round so_far.are
       (subst (λ ws. IsRound (lists_after lists (map body_of rounds)) ws options target need made.round) so_far.waits_are
       (subst (λ ls. IsRound ls waits' options target need made.round) so_far.lists_are made.is));
-  logged = subst (λ all. IfTold after.log (with_more before.log all)) (sym (map_one_more entry_of rounds made.round))
-      (told_both before.log between.log after.log (map entry_of rounds) (entry_of made.round ∷ []) so_far.logged made.logged);
-  read = subst (λ all. IfTold after.answers (with_more before.answers all)) (sym (moments_one_more waits rounds made.round))
-      (told_both before.answers between.answers after.answers (moments_of_rounds waits rounds) (moments_of (waits_after_rounds waits rounds) made.round.session) so_far.read
-      (subst (λ ws. IfTold after.answers (with_more between.answers (moments_of ws made.round.session))) so_far.waits_are made.read));
-  drawn = subst (λ all. IfTold after.words (with_more before.words all)) (sym (flat_map_one_more words_of_round rounds made.round))
-      (told_both before.words between.words after.words (flat_map words_of_round rounds) (words_of_round made.round) so_far.drawn made.drawn);
+  told = subst (λ all. Grows before after all) (sym (trace_one_more waits rounds made.round))
+      (one_more before between after (trace_of_rounds waits rounds) (trace_of_round (waits_after_rounds waits rounds) made.round) so_far.told
+      (subst (λ ws. Grows between after (trace_of_round ws made.round)) so_far.waits_are made.told));
   lists_are = made.lists_after
       ∙ ap (λ ls. lists_after_round ls made.round) so_far.lists_are
       ∙ sym (ap (λ bodies. lists_after lists bodies) (map_one_more body_of rounds made.round) ∙ fold_one_more after_updates lists (map body_of rounds) (body_of made.round));
   waits_are = made.waits_after ∙ ap (λ ws. waits_after_round ws made.round) so_far.waits_are ∙ sym (fold_one_more waits_after_round waits rounds made.round);
 }
+
+-- ---- what rounds come to
+
+pub keep_to_waits : RoundsKeepToWaits
+keep_to_waits lists waits options target need [] are = tt
+keep_to_waits lists waits options target need (round ∷ rounds) (is, are) = (
+  subst (λ (moment : Moment). waits.allowed_at.0 ≤ moment.0) (sym is.session.is.begun) is.session.begins.allowed,
+  keep_to_waits (lists_after_round lists round) (waits_after_round waits round) options target need rounds are,
+)
+
+pub are_their_sessions : RoundsAreTheirSessions
+are_their_sessions lists waits options target need [] are = (refl, tt)
+are_their_sessions lists waits options target need (round ∷ rounds) (is, are) =
+    let rest = are_their_sessions (lists_after_round lists round) (waits_after_round waits round) options target need rounds are in (
+      ap (λ sessions. entry_of round ∷ sessions) rest.0,
+      (record { outcome = is.outcome; decides = is.held.decides; answer = round.answer; answers = is.answers; is = refl }, rest.1),
+    )

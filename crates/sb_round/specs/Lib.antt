@@ -5,4 +5,5 @@ pub mod Printed
 pub mod Round
 pub mod Rounds
 pub mod Run
+pub mod Sessions
 pub mod Taking

@@ -1,25 +1,19 @@
-ghost use Rattle.std.specs.Prelude.{◌≡◌, ◌≢◌, ◌≤◌, ◌⊎◌, ◌↔◌, Ok, Err, IfOk, IfErr, OnOk, OnErr, IsErrOf};
+ghost use Rattle.std.specs.Prelude.{◌≡◌, ◌≢◌, ◌≤◌, ◌↔◌, Ok, Err, IfOk, OnErr, IsErrOf};
 ghost use Rattle.sb_outside.specs.Outside.{Rose};
-ghost use Rattle.sb_json.specs.declared.faults.MessageFault.TheVariants.{OutOfMemory as MessageMemory};
+ghost use Rattle.http_edge.specs.Exchanges.{IsTarget};
 ghost use Rattle.sb_round.specs.Round.{IsAnswerOf, HoldsRoundSession, body_asked};
-ghost use Rattle.sb_round.specs.Taking.{HasBegun, HasTalked, HasAsked};
+ghost use Rattle.sb_round.specs.Taking.{HasAsked, HasTalked, StopsAsking, seen};
 
 use crate::rounds::RoundFault;
-use http_edge::{ExchangeFault, Exchanged, Target, exchange};
+use http_edge::{ExchangeFault, Target};
 use sb_json::MessageFault;
 use sb_model::{Bytes, Moment, OutOfMemory};
 use sb_outside::{Clock, Kind, Link};
 use std::alloc::Global;
+use timed_sessions::{Talk, hold_session};
 use update_client::{ClientLists, FetchOptions};
 use update_messages::{FetchResponse, read_response, write_request};
 use wait_rules::WaitState;
-
-// A session that was held, and when it began.
-#[derive(Drop)]
-struct Talk {
-    begun: Moment,
-    exchanged: Exchanged,
-}
 
 /// What was answered in the session of a round, and when the session began and was closed.
 #[derive(Drop)]
@@ -29,20 +23,8 @@ pub(crate) struct Asked {
     pub(crate) answer: Result<FetchResponse, RoundFault>,
 }
 
-// Waits until a request may be sent.
-fn begin<C: Clock>(clock: &mut C, waits: WaitState) -> Moment
-    ensures begun { HasBegun waits (C.answers clock.old) (C.answers clock.new) result }
-    ensures last { C.last clock.new ≡ result.0 }
-{
-    let read = clock.now();
-    if waits.may_send(read) {
-        return read;
-    }
-    clock.wait_until(waits.allowed_at)
-}
-
-// Holds a session for this body at the first moment that is allowed.
-fn hold_session<L: Link, C: Clock>(
+// Reads the clock, and holds a session for this body at the first moment that is allowed.
+fn hold_now<L: Link, C: Clock>(
     alloc: Global,
     waits: WaitState,
     target: &Target,
@@ -51,32 +33,33 @@ fn hold_session<L: Link, C: Clock>(
     link: &mut L,
     clock: &mut C,
 ) -> Result<Talk, OutOfMemory>
+    requires target { IsTarget target.now }
     ensures talked { IfOk result (λ talk. HasTalked waits target.now body.now need_digest
-        (L.log link.old) (L.log link.new) (C.answers clock.old) (C.answers clock.new)
-        talk.begun talk.exchanged.ended talk.exchanged.answer) }
+        (seen (L.log link.old) (C.answers clock.old) (C.waits clock.old))
+        (seen (L.log link.new) (C.answers clock.new) (C.waits clock.new))
+        talk.begun talk.closed talk.answer) }
     ensures refused { OnErr result (HoldsRoundSession waits target.now body.now
-        (L.log link.old) (L.log link.new) (C.answers clock.old) (C.answers clock.new)) }
-    ensures failed { IfOk result (λ talk. IsErrOf talk.exchanged.answer ExchangeFault.Link
+        (seen (L.log link.old) (C.answers clock.old) (C.waits clock.old))
+        (seen (L.log link.new) (C.answers clock.new) (C.waits clock.new))) }
+    ensures failed { IfOk result (λ talk. IsErrOf talk.answer ExchangeFault.Link
         → Rose (L.faults link.old) (L.faults link.new)) }
-    ensures kept { IfOk result (λ talk. talk.exchanged.answer ≢ Err ExchangeFault.Link
+    ensures kept { IfOk result (λ talk. talk.answer ≢ Err ExchangeFault.Link
         → L.faults link.new ≡ L.faults link.old) }
     ensures unmoved { OnErr result (L.faults link.new ≡ L.faults link.old) }
     ensures counted { L.faults link.old ≤ L.faults link.new }
 {
-    let begun = begin(clock, waits);
-    match exchange(
+    let read = clock.now();
+    hold_session(
         alloc,
-        link,
-        clock,
-        begun,
+        waits,
+        read,
         target,
         Kind::Update,
         body,
         need_digest,
-    ) {
-        Ok(exchanged) => Ok(Talk { begun, exchanged }),
-        Err(OutOfMemory) => Err(OutOfMemory),
-    }
+        link,
+        clock,
+    )
 }
 
 // Reads a body that passed.
@@ -122,11 +105,14 @@ fn ask_for<L: Link, C: Clock>(
     link: &mut L,
     clock: &mut C,
 ) -> Result<Asked, OutOfMemory>
+    requires target { IsTarget target.now }
     ensures asked { IfOk result (λ asked. HasAsked waits target.now body.now need_digest
-        (L.log link.old) (L.log link.new) (C.answers clock.old) (C.answers clock.new)
+        (seen (L.log link.old) (C.answers clock.old) (C.waits clock.old))
+        (seen (L.log link.new) (C.answers clock.new) (C.waits clock.new))
         asked.begun asked.ended asked.answer) }
     ensures refused { OnErr result (HoldsRoundSession waits target.now body.now
-        (L.log link.old) (L.log link.new) (C.answers clock.old) (C.answers clock.new)) }
+        (seen (L.log link.old) (C.answers clock.old) (C.waits clock.old))
+        (seen (L.log link.new) (C.answers clock.new) (C.waits clock.new))) }
     ensures no_memory { IfOk result (λ asked.
         asked.answer ≢ Err (RoundFault.Message MessageFault.OutOfMemory)) }
     ensures failed { IfOk result (λ asked. asked.answer ≡ Err (RoundFault.Exchange ExchangeFault.Link)
@@ -136,23 +122,15 @@ fn ask_for<L: Link, C: Clock>(
     ensures unmoved { OnErr result (L.faults link.new ≡ L.faults link.old) }
     ensures counted { L.faults link.old ≤ L.faults link.new }
 {
-    let Talk { begun, exchanged } = hold_session(
-        alloc,
-        waits,
-        target,
-        body,
-        need_digest,
-        link,
-        clock,
-    )?;
-    let Exchanged {
-        ended,
+    let Talk {
+        begun,
+        closed,
         answer: outcome,
-    } = exchanged;
+    } = hold_now(alloc, waits, target, body, need_digest, link, clock)?;
     let answer = answer_of(alloc, outcome)?;
     Ok(Asked {
         begun,
-        ended,
+        ended: closed,
         answer,
     })
 }
@@ -180,14 +158,15 @@ pub(crate) fn ask<L: Link, C: Clock>(
     link: &mut L,
     clock: &mut C,
 ) -> Result<Asked, OutOfMemory>
+    requires target { IsTarget target.now }
     ensures asked { IfOk result (λ asked. HasAsked waits target.now
         (body_asked lists.now options.now) need_digest
-        (L.log link.old) (L.log link.new) (C.answers clock.old) (C.answers clock.new)
+        (seen (L.log link.old) (C.answers clock.old) (C.waits clock.old))
+        (seen (L.log link.new) (C.answers clock.new) (C.waits clock.new))
         asked.begun asked.ended asked.answer) }
-    ensures refused { OnErr result (
-        ((L.log link.new ≡ L.log link.old) × (C.answers clock.new ≡ C.answers clock.old))
-        ⊎ HoldsRoundSession waits target.now (body_asked lists.now options.now)
-        (L.log link.old) (L.log link.new) (C.answers clock.old) (C.answers clock.new)) }
+    ensures refused { OnErr result (StopsAsking waits target.now (body_asked lists.now options.now)
+        (seen (L.log link.old) (C.answers clock.old) (C.waits clock.old))
+        (seen (L.log link.new) (C.answers clock.new) (C.waits clock.new))) }
     ensures no_memory { IfOk result (λ asked.
         asked.answer ≢ Err (RoundFault.Message MessageFault.OutOfMemory)) }
     ensures failed { IfOk result (λ asked. asked.answer ≡ Err (RoundFault.Exchange ExchangeFault.Link)

@@ -1,9 +1,11 @@
-ghost use Rattle.std.specs.Prelude.{◌≡◌, ◌≢◌, ◌≤◌, Ok, Err, IfOk, OnOk, OnErr};
+ghost use Rattle.std.specs.Prelude.{◌≡◌, ◌≢◌, ◌≤◌, Some, Ok, Err, IfOk, OnOk, OnErr};
 ghost use Rattle.sb_outside.specs.Outside.{Rose};
 ghost use Rattle.update_client.specs.Step.{after_updates, results_of};
-ghost use Rattle.wait_rules.specs.Waits.{after_success};
-ghost use Rattle.sb_round.specs.Round.{named_results, taken_from, outside, MakesRound, BreaksOff};
-ghost use Rattle.sb_round.specs.Taking.{HasSettled};
+ghost use Rattle.http_edge.specs.Exchanges.{IsTarget};
+ghost use Rattle.timed_sessions.specs.Told.{outside};
+ghost use Rattle.timed_sessions.specs.Waiting.{HasSettled};
+ghost use Rattle.sb_round.specs.Round.{named_results, taken_from, MakesRound, BreaksOff};
+ghost use Rattle.sb_round.specs.Taking.{HasTaken};
 
 use crate::asking::{Asked, ask};
 use crate::rounds::{RoundEnd, RoundFault, Taken};
@@ -13,39 +15,43 @@ use sb_json::MessageFault;
 use sb_model::{Moment, OutOfMemory, Row};
 use sb_outside::{Clock, Dice, Link};
 use std::alloc::Global;
+use timed_sessions::settle;
 use update_client::{ClientLists, FetchOptions};
 use update_messages::FetchResponse;
 use wait_rules::WaitState;
 
 // Takes the message of a session that was closed at this moment.
-fn succeed(
+fn succeed<D: Dice>(
     alloc: Global,
     lists: &mut ClientLists,
     waits: &mut WaitState,
     ended: Moment,
     message: &FetchResponse,
+    dice: &mut D,
 ) -> Result<Row<Taken>, OutOfMemory>
     ensures lists { OnOk result (lists.new ≡ after_updates lists.old message.now.items) }
     ensures taken { IfOk result (λ taken.
         taken ≡ named_results message.now.items (results_of lists.old message.now.items)) }
-    ensures waits { OnOk result (waits.new ≡ after_success ended message.now.wait) }
+    ensures settled { OnOk result (HasSettled waits.old waits.new ended (Some message.now.wait)
+        (D.given dice.old) (D.given dice.new)) }
     ensures lists_kept { OnErr result (lists.new ≡ lists.old) }
     ensures waits_kept { OnErr result (waits.new ≡ waits.old) }
+    ensures undrawn { OnErr result (D.given dice.new ≡ D.given dice.old) }
 {
     let taken = take_message(alloc, lists, message)?;
-    waits.succeeded(ended, message.wait);
+    settle(waits, ended, Some(message.wait), dice);
     Ok(taken)
 }
 
 // Ends a round after its session.
-fn settle<D: Dice>(
+fn end_round<D: Dice>(
     alloc: Global,
     lists: &mut ClientLists,
     waits: &mut WaitState,
     dice: &mut D,
     asked: Asked,
 ) -> Result<RoundEnd, OutOfMemory>
-    ensures settled { IfOk result (λ end. HasSettled lists.old lists.new waits.old waits.new
+    ensures taken { IfOk result (λ end. HasTaken lists.old lists.new waits.old waits.new
         (D.given dice.old) (D.given dice.new) asked.begun asked.ended asked.answer end) }
     ensures lists_kept { OnErr result (lists.new ≡ lists.old) }
     ensures waits_kept { OnErr result (waits.new ≡ waits.old) }
@@ -59,14 +65,14 @@ fn settle<D: Dice>(
     } = asked;
     match answer {
         Ok(message) => {
-            let taken = succeed(alloc, lists, waits, ended, &message)?;
+            let taken = succeed(alloc, lists, waits, ended, &message, dice)?;
             Ok(RoundEnd {
                 begun,
                 taken: Ok(taken),
             })
         }
         Err(fault) => {
-            waits.failed(ended, dice.word());
+            settle(waits, ended, None, dice);
             Ok(RoundEnd {
                 begun,
                 taken: Err(fault),
@@ -91,18 +97,20 @@ pub fn run_round<L: Link, C: Clock, D: Dice>(
     clock: &mut C,
     dice: &mut D,
 ) -> Result<RoundEnd, OutOfMemory>
+    requires target { IsTarget target.now }
+
     // One round was made, and this is what it left.
     ensures made { IfOk result (λ end. MakesRound lists.old waits.old options.now target.now need_digest
-        (outside (L.log link.old) (C.answers clock.old) (D.given dice.old))
-        (outside (L.log link.new) (C.answers clock.new) (D.given dice.new))
+        (outside (L.log link.old) (C.answers clock.old) (C.waits clock.old) (D.given dice.old))
+        (outside (L.log link.new) (C.answers clock.new) (C.waits clock.new) (D.given dice.new))
         lists.new waits.new end) }
 
     // Want of memory is no cause of a failed round. It breaks a round off.
     ensures no_memory { IfOk result (λ end.
         end.taken ≢ Err (RoundFault.Message MessageFault.OutOfMemory)) }
     ensures broken_off { OnErr result (BreaksOff lists.old waits.old options.now target.now
-        (outside (L.log link.old) (C.answers clock.old) (D.given dice.old))
-        (outside (L.log link.new) (C.answers clock.new) (D.given dice.new))) }
+        (outside (L.log link.old) (C.answers clock.old) (C.waits clock.old) (D.given dice.old))
+        (outside (L.log link.new) (C.answers clock.new) (C.waits clock.new) (D.given dice.new))) }
     ensures lists_kept { OnErr result (lists.new ≡ lists.old) }
     ensures waits_kept { OnErr result (waits.new ≡ waits.old) }
 
@@ -124,5 +132,5 @@ pub fn run_round<L: Link, C: Clock, D: Dice>(
         link,
         clock,
     )?;
-    settle(alloc, lists, waits, dice, asked)
+    end_round(alloc, lists, waits, dice, asked)
 }
