@@ -1,6 +1,6 @@
 -- The lists at the end of the rounds, and what came before the first of them.
-use Rattle.std.proofs.Common.{◌≡◌, ◌≢◌, ◌<◌, ℕ, List, [], ◌∷◌, ◌++◌, Bool, length, map, refl, sym, ap, ◌∙◌, subst, inl, inr, append_assoc, arith}
-use Rattle.std.specs.Prelude.{if◌then◌else◌, Option, Some, None, IfOk, IfErr, IsErrOf, Result, Ok, Err}
+use Rattle.std.proofs.Common.{◌≡◌, ◌≢◌, ◌<◌, ℕ, List, [], ◌∷◌, ◌++◌, Bool, true, false, length, map, refl, ap, ◌∙◌, subst, inl, inr, arith}
+use Rattle.std.specs.Prelude.{nat_lt, if◌then◌else◌, Option, Some, None, Result, Ok, Err}
 use Rattle.std.specs.List.{flat_map}
 use Rattle.std.specs.Ordering.{match_ordering}
 use Rattle.std.specs.declared.cmp.Ordering.{Ordering}
@@ -10,6 +10,8 @@ use Rattle.sb_model.specs.declared.names.ListName.{ListName}
 use Rattle.sb_model.specs.Names.{name_cmp, same_name}
 use Rattle.sb_outside.specs.Outside.{appended}
 use Rattle.sb_outside.specs.Writing.{HasFront}
+use Rattle.sb_outside.specs.declared.links.Session.{Session}
+use Rattle.sb_model.specs.declared.time.Moment.{Moment}
 use Rattle.update_messages.specs.Messages.{UpdatedList}
 use Rattle.update_client.specs.Held.{Held, nothing_held, with_name, in_order}
 use Rattle.update_client.specs.Step.{after_update, after_updates, list_step}
@@ -17,19 +19,21 @@ use Rattle.client_store.specs.Reading.{store_reading}
 use Rattle.client_store.specs.Selected.{stored_or_nothing}
 use Rattle.client_store.specs.declared.fault.StoreFault.{StoreFault}
 use Rattle.wait_rules.specs.declared.waits.WaitState.{WaitState}
-use Rattle.sb_round.specs.Round.{Round, Outside}
+use Rattle.timed_sessions.specs.Told.{Outside, outside}
+use Rattle.sb_round.specs.Round.{Round}
 use Rattle.sb_round.specs.Rounds.{MakesRounds, body_of}
 use Rattle.sb_round.specs.Run.{lists_after}
 use Rattle.update_run.specs.Opening.{first_lists, lists_from, HasLoaded, HasOpened}
-use Rattle.update_run.specs.Printed.{ignored_text, list_line, rounds_text, run_text, has_refusals}
-use Rattle.update_run.specs.Run.{Seen, seen, HasMade, IsRun, StopsAtSave, StopsAfter, StopsForMemory, StopsAtKeeper}
-use Rattle.update_run.specs.Rounding.{TakesAllRounds, StopsAfterRounds, StopsRounds, FailsAfterRounds, RunsFrom, EndsAfterRounds, StopsFrom}
-use Rattle.update_run.specs.Saved.{Keeping, keeping, HasSaved, MayLackLast, saved_texts}
+use Rattle.update_run.specs.Printed.{ignored_text, list_line}
+use Rattle.update_run.specs.Run.{Seen, seen, HasMade, IsLoaded, IsRun, RunEnding, EndsRun, StopsAtSave, StopsAfter, BreaksOffAfter}
+use Rattle.update_run.specs.Rounding.{TakesAllRounds, StopsAfterRounds, BreaksOffAfterRounds, FailsAfterRounds, StopsRounds, EndsRounds, EndsFrom, text_so_far, whole_text}
+use Rattle.update_run.specs.Saved.{Keeping, keeping, saved_lists}
 use Rattle.update_run.specs.declared.client.Client.{Client}
 use Rattle.update_run.specs.declared.plan.Plan.{Plan}
 use Rattle.update_run.specs.declared.stop.RunStop.{RunStop}
 use Rattle.update_run.specs.declared.stop.RunStop.TheVariants as stop
-use Rattle.update_run.proofs.Ways.{way_ends, way_longer, front_of_part, front_after}
+use Rattle.update_run.proofs.Entries.{told_nothing}
+use Rattle.update_run.proofs.Ways.{way_ends, way_longer, front_after}
 
 -- ---- there is a list
 
@@ -45,9 +49,6 @@ count_after_body lists (update ∷ updates) =
 count_after : (lists : List Held) (bodies : List (List UpdatedList)) → length (lists_after lists bodies) ≡ length lists
 count_after lists [] = refl
 count_after lists (updates ∷ bodies) = count_after (after_updates lists updates) bodies ∙ count_after_body lists updates
-
-pub last_lines_some : (lists : List Held) (rounds : List Round) → 0 < length lists → flat_map list_line (lists_after lists (map body_of rounds)) ≢ []
-last_lines_some lists rounds some = lines_some (lists_after lists (map body_of rounds)) (omega (arith, some, count_after lists (map body_of rounds)))
 
 pub still_some : (plan : Plan) (client client' : Client) (before after : Seen) (refused : Bool) → TakesAllRounds plan client client' before after refused → 0 < length client.lists → 0 < length client'.lists
 still_some plan client client' before after refused all some =
@@ -66,7 +67,7 @@ in_order_some : (names : List ListName) → 0 < length names → 0 < length (in_
 in_order_some [] h = h
 in_order_some (name ∷ names) h = with_name_some name (in_order names)
 
-pub first_some : (names : List ListName) (kept : Option (List ℕ)) → 0 < length names → 0 < length (first_lists names kept)
+first_some : (names : List ListName) (kept : Option (List ℕ)) → 0 < length names → 0 < length (first_lists names kept)
 first_some names None h = omega (arith, in_order_some names h, length-map (in_order names) nothing_held)
 first_some names (Some text) h = go (store_reading text)
   where
@@ -74,212 +75,170 @@ first_some names (Some text) h = go (store_reading text)
     go (Ok stored) = omega (arith, in_order_some names h, length-map (in_order names) (stored_or_nothing stored))
     go (Err fault) = omega (arith, in_order_some names h, length-map (in_order names) nothing_held)
 
+pub lists_to_run : (names names' : List ListName) (known : Option (Option (List ℕ))) (lists : List Held) (page : List ℕ) → names' ≡ names → HasLoaded names' known lists [] page → 0 < length names → 0 < length lists
+lists_to_run names names' known lists page same loaded some = omega (arith, ap length loaded.are, first_some names' loaded.kept (omega (arith, some, ap length same)))
+
 -- ---- rounds, and the lists at the end
 
-whole_text : (client : Client) (rounds : List Round) → List ℕ
-whole_text client rounds = client.page ++ (rounds_text 1 client.lists rounds ++ flat_map list_line (lists_after client.lists (map body_of rounds)))
+lines_at_end : (client : Client) (rounds : List Round) (lists : List Held) → lists ≡ lists_after client.lists (map body_of rounds) → text_so_far client rounds ++ flat_map list_line lists ≡ whole_text client rounds
+lines_at_end client rounds lists are = ap (λ (ls : List Held). text_so_far client rounds ++ flat_map list_line ls) are
 
 pub ends : (plan : Plan) (client client' : Client) (o o' : Outside) (k k' : Keeping) (h h' h'' : Option (List ℕ)) (refused : Bool)
     → TakesAllRounds plan client client' (seen o k h) (seen o' k' h') refused → h'' ≡ appended h' (client'.page ++ flat_map list_line client'.lists)
-    → RunsFrom plan client refused (seen o k h) (seen o' k' h'')
+    → EndsRounds plan client refused (seen o k h) (seen o' k' h'')
 ends plan client client' o o' k k' h h' h'' refused all held =
     let takes = all.takes in
-    let before = client.page ++ rounds_text 1 client.lists all.rounds in
-    let lines = flat_map list_line client'.lists in
-    let text = append_assoc client.page (rounds_text 1 client.lists all.rounds) lines
-    ∙ ap (λ (ls : List Held). client.page ++ (rounds_text 1 client.lists all.rounds ++ flat_map list_line ls)) takes.made.lists_are in record {
+    let before = text_so_far client all.rounds in
+    let lines = flat_map list_line client'.lists in record {
       rounds = all.rounds;
       all = all.all;
       lists = client'.lists;
       waits = client'.waits;
       made = takes.made;
       saved = takes.saved;
-      text = way_ends (client'.page ++ lines) (before ++ lines) (way_longer client'.page before lines takes.text) held ∙ ap (appended h) text;
+      text = way_ends (client'.page ++ lines) (before ++ lines) (way_longer client'.page before lines takes.text) held
+          ∙ ap (appended h) (lines_at_end client all.rounds client'.lists takes.made.lists_are);
       refusal = takes.refusal;
     }
 
-pub ends_short : (plan : Plan) (client client' : Client) (o o' : Outside) (k k' : Keeping) (h h' h'' : Option (List ℕ)) (refused : Bool)
+until_all : (count all : ℕ) (text whole : List ℕ) → count ≡ all → whole ≡ (if nat_lt count all then text else whole)
+until_all count all text whole same = go (nat_lt count all) (none count all same)
+  where
+    none : (a b : ℕ) → a ≡ b → nat_lt a b ≡ false
+    none a b e = grind (arith, e)
+
+    go : (less : Bool) → less ≡ false → whole ≡ (if less then text else whole)
+    go true e = absurd (cc)
+    go false e = refl
+
+ends_short : (plan : Plan) (client client' : Client) (o o' : Outside) (k k' : Keeping) (h h' h'' : Option (List ℕ)) (refused : Bool)
     → TakesAllRounds plan client client' (seen o k h) (seen o' k' h') refused → HasFront h' h'' (client'.page ++ flat_map list_line client'.lists)
-    → EndsAfterRounds plan client (seen o k h) (seen o' k' h'')
+    → StopsAfterRounds plan client (seen o k h) (seen o' k' h'')
 ends_short plan client client' o o' k k' h h' h'' refused all front =
     let takes = all.takes in
-    let before = client.page ++ rounds_text 1 client.lists all.rounds in
+    let before = text_so_far client all.rounds in
     let lines = flat_map list_line client'.lists in
-    let text = append_assoc client.page (rounds_text 1 client.lists all.rounds) lines
-    ∙ ap (λ (ls : List Held). client.page ++ (rounds_text 1 client.lists all.rounds ++ flat_map list_line ls)) takes.made.lists_are in record {
+    let text = lines_at_end client all.rounds client'.lists takes.made.lists_are ∙ until_all (length all.rounds) plan.rounds (text_so_far client all.rounds) (whole_text client all.rounds) all.all in record {
       rounds = all.rounds;
       few = omega (arith, all.all);
       lists = client'.lists;
       waits = client'.waits;
       made = takes.made;
-      texts = saved_texts client.lists all.rounds;
+      stores = saved_lists client.lists all.rounds;
       most = inl refl;
       saved = takes.saved;
       front = subst (λ (t : List ℕ). HasFront h h'' t) text (front_after client'.page before lines takes.text front);
     }
 
-pub ends_if : (why : RunStop) (plan : Plan) (client : Client) (before after : Seen) → why ≢ stop.KeepFault → EndsAfterRounds plan client before after → StopsFrom why plan client before after
-ends_if stop.WriteFault plan client before after other short = short
-ends_if stop.KeepFault plan client before after other short = absurd (other refl)
-ends_if stop.OutOfMemory plan client before after other short = inl short
-
-stopped_after : (plan : Plan) (client : Client) (before after : Seen) → 0 < length client.lists → StopsAfterRounds plan client before after → EndsAfterRounds plan client before after
-stopped_after plan client before after some stops =
-    let lines = flat_map list_line (lists_after client.lists (map body_of stops.rounds)) in record {
-      rounds = stops.rounds;
-      few = stops.few;
-      lists = stops.lists;
-      waits = stops.waits;
-      made = stops.made;
-      texts = stops.texts;
-      most = stops.most;
-      saved = stops.saved;
-      front = subst (λ (t : List ℕ). HasFront before.held after.held t) (append_assoc client.page (rounds_text 1 client.lists stops.rounds) lines)
-          (front_of_part (client.page ++ rounds_text 1 client.lists stops.rounds) lines (last_lines_some client.lists stops.rounds some) stops.part);
-    }
-
-pub ends_early : (why : RunStop) (plan : Plan) (client : Client) (before after : Seen) → 0 < length client.lists → StopsRounds why plan client before after → StopsFrom why plan client before after
-unfolding stopped_after
-ends_early stop.WriteFault plan client before after some stops = stopped_after plan client before after some stops
-ends_early stop.KeepFault plan client before after some fails = fails
-ends_early stop.OutOfMemory plan client before after some (inl stops) = inl (stopped_after plan client before after some stops)
-ends_early stop.OutOfMemory plan client before after some (inr breaks) = inr (record {
-  between = breaks.between;
-  ends = stopped_after plan client before (seen breaks.between after.keeper after.held) some breaks.stops;
-  further = breaks.further;
-  breaks = breaks.breaks;
-})
+pub ends_if : (why : RunStop) (plan : Plan) (client client' : Client) (o o' : Outside) (k k' : Keeping) (h h' h'' : Option (List ℕ)) (refused : Bool)
+    → why ≢ stop.KeepFault → TakesAllRounds plan client client' (seen o k h) (seen o' k' h') refused → HasFront h' h'' (client'.page ++ flat_map list_line client'.lists)
+    → StopsRounds why plan client (seen o k h) (seen o' k' h'')
+ends_if stop.WriteFault plan client client' o o' k k' h h' h'' refused other all front = ends_short plan client client' o o' k k' h h' h'' refused all front
+ends_if stop.KeepFault plan client client' o o' k k' h h' h'' refused other all front = absurd (other refl)
+ends_if stop.OutOfMemory plan client client' o o' k k' h h' h'' refused other all front = inl (ends_short plan client client' o o' k k' h h' h'' refused all front)
 
 -- ---- from what was kept on
 
-module _ (plan : Plan) (client : Client) (before : Seen) (opened : Outside)
-    (loaded : HasLoaded plan.names before.keeper.kept client.lists [] client.page) (opens : HasOpened client.waits before.outside opened)
+-- the client with which a run begins, where this was kept
+abbrev pub first_client : Plan → Option (List ℕ) → WaitState → Client
+first_client plan kept waits = record { lists = first_lists plan.names kept; waits = waits; page = ignored_text kept }
+
+module _ (plan : Plan) (kept : Option (List ℕ)) (waits : WaitState) (before : Seen) (opened : Outside) (after : Seen)
+    (loaded : IsLoaded kept before.keeper.kept) (opens : HasOpened waits before.outside opened)
   where
-    made_from : (rounds : List Round) (after : Outside) (lists : List Held) (waits : WaitState)
-        → MakesRounds client.lists client.waits plan.options plan.target plan.need_digest opened after lists waits rounds → HasMade plan loaded.kept rounds before.outside after
-    made_from rounds after lists waits made = record {
-      waits = client.waits;
-      opened = opened;
-      opens = opens;
-      lists = lists;
-      waits_now = waits;
-      made = subst (λ (ls : List Held). MakesRounds ls client.waits plan.options plan.target plan.need_digest opened after lists waits rounds) loaded.are made;
-    }
+    made_from : (rounds : List Round) (between : Outside) (lists : List Held) (waits_now : WaitState)
+        → MakesRounds (first_lists plan.names kept) waits plan.options plan.target plan.need_digest opened between lists waits_now rounds → HasMade plan kept rounds before.outside between
+    made_from rounds between lists waits_now made = record { waits = waits; opened = opened; opens = opens; lists = lists; waits_now = waits_now; made = made }
 
-    text_from : (rounds : List Round) → client.page ++ (rounds_text 1 client.lists rounds ++ flat_map list_line (lists_after client.lists (map body_of rounds))) ≡ run_text loaded.kept (first_lists plan.names loaded.kept) rounds
-    text_from rounds =
-        ap (λ (page : List ℕ). page ++ (rounds_text 1 client.lists rounds ++ flat_map list_line (lists_after client.lists (map body_of rounds)))) loaded.told
-        ∙ ap (λ (ls : List Held). ignored_text loaded.kept ++ (rounds_text 1 ls rounds ++ flat_map list_line (lists_after ls (map body_of rounds)))) loaded.are
-        ∙ sym (append_assoc (ignored_text loaded.kept) (rounds_text 1 (first_lists plan.names loaded.kept) rounds) (flat_map list_line (lists_after (first_lists plan.names loaded.kept) (map body_of rounds))))
-
-    pub ran : (after : Seen) (refused : Bool) → RunsFrom plan client refused (seen opened before.keeper before.held) after → IsRun plan refused before after
-    ran after refused runs = record {
-      kept = loaded.kept;
-      loaded = loaded.loaded;
-      rounds = runs.rounds;
-      all = runs.all;
-      made = made_from runs.rounds after.outside runs.lists runs.waits runs.made;
-      saved = subst (λ (ls : List Held). HasSaved (saved_texts ls runs.rounds) before.keeper after.keeper) loaded.are runs.saved;
-      text = runs.text ∙ ap (appended before.held) (text_from runs.rounds);
-      refusal = runs.refusal ∙ ap (λ (ls : List Held). has_refusals ls runs.rounds) loaded.are;
-    }
-
-    pub ran_short : (after : Seen) → EndsAfterRounds plan client (seen opened before.keeper before.held) after → StopsAfter plan before after
-    ran_short after ends = record {
-      kept = loaded.kept;
-      loaded = loaded.loaded;
+    ran : (refused : Bool) → EndsRounds plan (first_client plan kept waits) refused (seen opened before.keeper before.held) after → IsRun plan refused before after
+    ran refused ends = record {
+      kept = kept;
+      loaded = loaded;
       rounds = ends.rounds;
-      few = ends.few;
+      all = ends.all;
       made = made_from ends.rounds after.outside ends.lists ends.waits ends.made;
-      texts = ends.texts;
-      most = subst (λ (ls : List Held). MayLackLast (saved_texts ls ends.rounds) ends.texts) loaded.are ends.most;
       saved = ends.saved;
-      front = subst (λ (t : List ℕ). HasFront before.held after.held t) (text_from ends.rounds) ends.front;
+      text = ends.text;
+      refusal = ends.refusal;
     }
 
-    pub ran_into_keeper : (after : Seen) → FailsAfterRounds plan client (seen opened before.keeper before.held) after → StopsAtSave plan before after
-    ran_into_keeper after fails = record {
-      kept = loaded.kept;
-      loaded = loaded.loaded;
+    ran_short : StopsAfterRounds plan (first_client plan kept waits) (seen opened before.keeper before.held) after → StopsAfter plan before after
+    ran_short stops = record {
+      kept = kept;
+      loaded = loaded;
+      rounds = stops.rounds;
+      few = stops.few;
+      made = made_from stops.rounds after.outside stops.lists stops.waits stops.made;
+      stores = stops.stores;
+      most = stops.most;
+      saved = stops.saved;
+      front = stops.front;
+    }
+
+    ran_into_keeper : FailsAfterRounds plan (first_client plan kept waits) (seen opened before.keeper before.held) after → StopsAtSave plan before after
+    ran_into_keeper fails = record {
+      kept = kept;
+      loaded = loaded;
       rounds = fails.rounds;
       few = fails.few;
       made = made_from fails.rounds after.outside fails.lists fails.waits fails.made;
-      texts = fails.texts;
+      earlier = fails.earlier;
       last = fails.last;
-      saves = ap (λ (ls : List Held). saved_texts ls fails.rounds) (sym loaded.are) ∙ fails.saves;
+      saves = fails.saves;
       between = fails.between;
       saved = fails.saved;
       fails = fails.fails;
       written = fails.written;
       text = fails.text;
-      lacks = fails.lacks
-          ∙ ap (λ (page : List ℕ). page ++ rounds_text 1 client.lists fails.rounds) loaded.told
-          ∙ ap (λ (ls : List Held). ignored_text loaded.kept ++ rounds_text 1 ls fails.rounds) loaded.are;
+      lacks = fails.lacks;
     }
 
-    pub ran_out : (after : Seen) → StopsFrom stop.OutOfMemory plan client (seen opened before.keeper before.held) after → StopsForMemory plan before after
-    unfolding ran_short made_from
-    ran_out after (inl short) = inr (inl (ran_short after short))
-    ran_out after (inr breaks) = inr (inr (record {
-      between = breaks.between;
-      stops = ran_short (seen breaks.between after.keeper after.held) breaks.ends;
+    ran_out : BreaksOffAfterRounds plan (first_client plan kept waits) (seen opened before.keeper before.held) after → BreaksOffAfter plan before after
+    unfolding made_from
+    ran_out breaks = record {
+      kept = kept;
+      loaded = loaded;
+      rounds = breaks.rounds;
       further = breaks.further;
+      between = breaks.between;
+      made = made_from breaks.rounds breaks.between breaks.lists breaks.waits breaks.made;
       breaks = breaks.breaks;
-    }))
+      saved = breaks.saved;
+      text = breaks.text;
+    }
+
+    pub ran_any : (ending : RunEnding) → EndsFrom plan ending (first_client plan kept waits) (seen opened before.keeper before.held) after → EndsRun plan ending before after
+    ran_any (Ok refused) ends = ran refused ends
+    ran_any (Err stop.WriteFault) stops = ran_short stops
+    ran_any (Err stop.KeepFault) fails = inr (ran_into_keeper fails)
+    ran_any (Err stop.OutOfMemory) (inl stops) = inr (inl (ran_short stops))
+    ran_any (Err stop.OutOfMemory) (inr breaks) = inr (inr (ran_out breaks))
 
 -- ---- the whole call
-
-pub loaded_of : (names names' : List ListName) (known : Option (Option (List ℕ))) (lists : List Held) (waiting page : List ℕ) → names ≡ names' → waiting ≡ [] → HasLoaded names known lists waiting page → HasLoaded names' known lists [] page
-loaded_of names names' known lists waiting page same none loaded = record {
-  kept = loaded.kept;
-  loaded = loaded.loaded;
-  are = loaded.are ∙ ap (λ (ns : List ListName). first_lists ns loaded.kept) same;
-  told = loaded.told ∙ ap (λ (w : List ℕ). w ++ ignored_text loaded.kept) none;
-}
 
 pub same_keeping : (handed handed' : Option (List (List ℕ))) (kept kept' : Option (Option (List ℕ))) → handed ≡ handed' → kept ≡ kept' → keeping handed kept ≡ keeping handed' kept'
 same_keeping handed handed' kept kept' h k = ap (λ x. keeping x kept) h ∙ ap (λ x. keeping handed' x) k
 
-pub lists_to_run : (names : List ListName) (known : Option (Option (List ℕ))) (lists : List Held) (page : List ℕ) → HasLoaded names known lists [] page → 0 < length names → 0 < length lists
-lists_to_run names known lists page loaded some = omega (arith, ap length loaded.are, first_some names loaded.kept some)
+-- what a link tells that was not asked
+pub opened_with : (waits : WaitState) (log : Option (List Session)) (answers answers' bidden bidden' : Option (List Moment)) (words words' : Option (List ℕ))
+    → HasOpened waits (outside None answers bidden words) (outside None answers' bidden' words') → HasOpened waits (outside log answers bidden words) (outside log answers' bidden' words')
+opened_with waits log answers answers' bidden bidden' words words' opens = record {
+  start = opens.start;
+  word = opens.word;
+  first = opens.first;
+  told = record { log = told_nothing log; answers = opens.told.answers; waits = opens.told.waits; words = opens.told.words };
+}
 
--- what a run that was loaded comes to, where the keeper is as before
-pub run_if : (r : Result Bool RunStop) (plan : Plan) (client : Client) (before opened after : Seen)
-    → HasLoaded plan.names before.keeper.kept client.lists [] client.page → HasOpened client.waits before.outside opened.outside → opened.keeper ≡ before.keeper → opened.held ≡ before.held
-    → IfOk r (λ refused. RunsFrom plan client refused opened after) → IfOk r (λ refused. IsRun plan refused before after)
-run_if (Ok refused) plan client before opened after loaded opens keeper held runs =
-    ran plan client before opened.outside loaded opens after refused
-    (subst (λ k. RunsFrom plan client refused (seen opened.outside k before.held) after) keeper (subst (λ h. RunsFrom plan client refused (seen opened.outside opened.keeper h) after) held runs))
-run_if (Err why) plan client before opened after loaded opens keeper held runs = tt
+client_with : WaitState → List Held → List ℕ → Client
+client_with waits lists page = record { lists = lists; waits = waits; page = page }
 
-from_before : (why : RunStop) (plan : Plan) (client : Client) (before opened after : Seen) → opened.keeper ≡ before.keeper → opened.held ≡ before.held
-    → StopsFrom why plan client opened after → StopsFrom why plan client (seen opened.outside before.keeper before.held) after
-from_before why plan client before opened after keeper held stops =
-    subst (λ k. StopsFrom why plan client (seen opened.outside k before.held) after) keeper (subst (λ h. StopsFrom why plan client (seen opened.outside opened.keeper h) after) held stops)
-
-pub short_if : (r : Result Bool RunStop) (plan : Plan) (client : Client) (before opened after : Seen)
-    → HasLoaded plan.names before.keeper.kept client.lists [] client.page → HasOpened client.waits before.outside opened.outside → opened.keeper ≡ before.keeper → opened.held ≡ before.held
-    → IfErr r (λ why. StopsFrom why plan client opened after) → IsErrOf r stop.WriteFault → StopsAfter plan before after
-short_if (Ok refused) plan client before opened after loaded opens keeper held stops is = absurd (cc)
-short_if (Err stop.KeepFault) plan client before opened after loaded opens keeper held stops is = absurd (cc)
-short_if (Err stop.OutOfMemory) plan client before opened after loaded opens keeper held stops is = absurd (cc)
-short_if (Err stop.WriteFault) plan client before opened after loaded opens keeper held stops is =
-    ran_short plan client before opened.outside loaded opens after (from_before stop.WriteFault plan client before opened after keeper held stops)
-
-pub keeper_if : (r : Result Bool RunStop) (plan : Plan) (client : Client) (before opened after : Seen)
-    → HasLoaded plan.names before.keeper.kept client.lists [] client.page → HasOpened client.waits before.outside opened.outside → opened.keeper ≡ before.keeper → opened.held ≡ before.held
-    → IfErr r (λ why. StopsFrom why plan client opened after) → IsErrOf r stop.KeepFault → StopsAtKeeper plan before after
-keeper_if (Ok refused) plan client before opened after loaded opens keeper held stops is = absurd (cc)
-keeper_if (Err stop.WriteFault) plan client before opened after loaded opens keeper held stops is = absurd (cc)
-keeper_if (Err stop.OutOfMemory) plan client before opened after loaded opens keeper held stops is = absurd (cc)
-keeper_if (Err stop.KeepFault) plan client before opened after loaded opens keeper held stops is =
-    inr (ran_into_keeper plan client before opened.outside loaded opens after (from_before stop.KeepFault plan client before opened after keeper held stops))
-
-pub memory_if : (r : Result Bool RunStop) (plan : Plan) (client : Client) (before opened after : Seen)
-    → HasLoaded plan.names before.keeper.kept client.lists [] client.page → HasOpened client.waits before.outside opened.outside → opened.keeper ≡ before.keeper → opened.held ≡ before.held
-    → IfErr r (λ why. StopsFrom why plan client opened after) → IsErrOf r stop.OutOfMemory → StopsForMemory plan before after
-memory_if (Ok refused) plan client before opened after loaded opens keeper held stops is = absurd (cc)
-memory_if (Err stop.WriteFault) plan client before opened after loaded opens keeper held stops is = absurd (cc)
-memory_if (Err stop.KeepFault) plan client before opened after loaded opens keeper held stops is = absurd (cc)
-memory_if (Err stop.OutOfMemory) plan client before opened after loaded opens keeper held stops is =
-    ran_out plan client before opened.outside loaded opens after (from_before stop.OutOfMemory plan client before opened after keeper held stops)
+pub run_any : (ending : RunEnding) (plan : Plan) (names : List ListName) (client : Client) (before : Seen) (opened : Outside) (keeper : Keeping) (after : Seen)
+    → names ≡ plan.names → HasLoaded names before.keeper.kept client.lists [] client.page → HasOpened client.waits before.outside opened → keeper ≡ before.keeper
+    → EndsFrom plan ending client (seen opened keeper before.held) after → EndsRun plan ending before after
+unfolding client_with
+run_any ending plan names client before opened keeper after same loaded opens kept ends =
+    let lists = loaded.are ∙ ap (λ (ns : List ListName). first_lists ns loaded.kept) same in
+    let here = subst (λ k. EndsFrom plan ending client (seen opened k before.held) after) kept ends in
+    let listed = subst (λ (ls : List Held). EndsFrom plan ending (client_with client.waits ls client.page) (seen opened before.keeper before.held) after) lists here in
+    ran_any plan loaded.kept client.waits before opened after loaded.loaded opens ending
+    (subst (λ page. EndsFrom plan ending (client_with client.waits (first_lists plan.names loaded.kept) page) (seen opened before.keeper before.held) after) loaded.told listed)

@@ -1,7 +1,7 @@
 -- What is told, one thing after the other.
 use Rattle.std.proofs.Common.{◌≡◌, List, [], ◌++◌, refl, sym, ap, ◌∙◌, Option, Some, None, append_assoc, append-nil}
 use Rattle.sb_outside.specs.Outside.{IfTold}
-use Rattle.sb_round.specs.Round.{with_more}
+use Rattle.timed_sessions.specs.Told.{with_more}
 
 pub told_itself : {A : Type 0} (known : Option A) → IfTold known known
 told_itself None = tt

@@ -1,7 +1,7 @@
 pub mod Endings
 pub mod Entries
 pub mod Fronts
-pub mod Replicas
-pub mod RoundByRound
+pub mod OneByOne
 pub mod Saves
+pub mod Stopping
 pub mod Ways

@@ -2,7 +2,6 @@
 use Rattle.std.proofs.Common.{◌≡◌, ◌≢◌, ℕ, List, [], ◌∷◌, ◌++◌, refl, sym, ap, ◌∙◌, Option, Some, None, append_assoc, append-nil}
 use Rattle.sb_outside.specs.Outside.{appended}
 use Rattle.sb_outside.specs.Writing.{IsOnItsWay, HasFront}
-use Rattle.update_run.specs.Rounding.{HasPart}
 
 pub appended_twice : (known : Option (List ℕ)) (a b : List ℕ) → appended (appended known a) b ≡ appended known (a ++ b)
 appended_twice None a b = refl
@@ -24,10 +23,6 @@ some_front (x ∷ xs) ys h = λ e. cc
 -- nothing was taken yet
 pub starts : (known : Option (List ℕ)) (page : List ℕ) → IsOnItsWay known known page page
 starts known page = record { taken = []; has = appended_nothing known; rest = refl }
-
--- what waited was taken, and this waits then
-pub taken_whole : {a b : Option (List ℕ)} (page more : List ℕ) → b ≡ appended a page → IsOnItsWay a b more (page ++ more)
-taken_whole page more h = record { taken = page; has = h; rest = refl }
 
 taken_twice : (a b c : Option (List ℕ)) (first next : List ℕ) → b ≡ appended a first → c ≡ appended b next → c ≡ appended a (first ++ next)
 taken_twice a b c first next h k = k ∙ ap (λ known. appended known next) h ∙ appended_twice a first next
@@ -58,23 +53,6 @@ front_after waiting done text w v = record {
   missing = v.missing;
 }
 
--- the same after what was taken whole
-pub front_then : {a b c : Option (List ℕ)} (page text : List ℕ) → b ≡ appended a page → HasFront b c text → HasFront a c (page ++ text)
-front_then page text h v = record {
-  taken = page ++ v.taken;
-  lost = v.lost;
-  has = taken_twice _ _ _ page v.taken h v.has;
-  rest = append_assoc page v.taken v.lost ∙ ap (λ bytes. page ++ bytes) v.rest;
-  missing = v.missing;
-}
-
-pub way_then : {a b c : Option (List ℕ)} (page waiting text : List ℕ) → b ≡ appended a page → IsOnItsWay b c waiting text → IsOnItsWay a c waiting (page ++ text)
-way_then page waiting text h v = record {
-  taken = page ++ v.taken;
-  has = taken_twice _ _ _ page v.taken h v.has;
-  rest = append_assoc page v.taken waiting ∙ ap (λ bytes. page ++ bytes) v.rest;
-}
-
 -- a front of what waits
 pub front_of_way : {a b c : Option (List ℕ)} (waiting done : List ℕ) → IsOnItsWay a b waiting done → HasFront b c waiting → HasFront a c done
 front_of_way waiting done w v = record {
@@ -99,26 +77,16 @@ front_of_more text later v = record {
   missing = some_front v.lost later v.missing;
 }
 
--- what was taken whole is a front where something is to come
-pub front_of_whole : {a b : Option (List ℕ)} (text later : List ℕ) → later ≢ [] → b ≡ appended a text → HasFront a b (text ++ later)
-front_of_whole text later some h = record { taken = text; lost = later; has = h; rest = refl; missing = some }
-
 pub nothing_taken : (known : Option (List ℕ)) (text : List ℕ) → text ≢ [] → HasFront known known text
 nothing_taken known text some = record { taken = []; lost = text; has = appended_nothing known; rest = refl; missing = some }
 
--- ---- fronts that may be the whole
+-- ---- what waits is written
 
-pub part_of_front : {a b : Option (List ℕ)} (text : List ℕ) → HasFront a b text → HasPart a b text
-part_of_front text v = record { taken = v.taken; lost = v.lost; has = v.has; rest = v.rest }
+-- what waited was taken whole, and nothing waits
+pub way_whole : {a b c : Option (List ℕ)} (waiting done : List ℕ) → IsOnItsWay a b waiting done → c ≡ appended b waiting → IsOnItsWay a c [] done
+way_whole waiting done w h = record { taken = w.taken ++ waiting; has = taken_twice _ _ _ w.taken waiting w.has h; rest = append-nil (w.taken ++ waiting) ∙ w.rest }
 
-pub part_of_whole : {a b : Option (List ℕ)} (text : List ℕ) → b ≡ appended a text → HasPart a b text
-part_of_whole text h = record { taken = text; lost = []; has = h; rest = append-nil text }
-
-pub front_of_part : {a b : Option (List ℕ)} (text later : List ℕ) → later ≢ [] → HasPart a b text → HasFront a b (text ++ later)
-front_of_part text later some v = record {
-  taken = v.taken;
-  lost = v.lost ++ later;
-  has = v.has;
-  rest = sym (append_assoc v.taken v.lost later) ∙ ap (λ bytes. bytes ++ later) v.rest;
-  missing = some_back v.lost later some;
-}
+-- where nothing waits, all is taken
+pub taken_whole : {a b : Option (List ℕ)} (waiting done : List ℕ) → waiting ≡ [] → IsOnItsWay a b waiting done → b ≡ appended a done
+taken_whole {a} waiting done none w =
+    w.has ∙ ap (appended a) (sym (append-nil w.taken) ∙ ap (λ rest. w.taken ++ rest) (sym none) ∙ w.rest)

@@ -1,7 +1,7 @@
-pub mod Law
 pub mod Opening
 pub mod Printed
 pub mod Rounding
 pub mod Run
 pub mod Saved
+pub mod Steps
 pub mod Stops

@@ -1,15 +1,14 @@
 -- What a run begins with: the lists that were kept, and the first moment and the first word.
-use Rattle.std.specs.Prelude.{◌≡◌, ℕ, List, ◌++◌, Option, Some, None, IfSome, Result, Ok, Err}
+use Rattle.std.specs.Prelude.{◌≡◌, ℕ, List, [], ◌∷◌, ◌++◌, Option, Some, None, IfSome, Result, Ok, Err}
 use Rattle.sb_model.specs.declared.names.ListName.{ListName}
 use Rattle.sb_model.specs.declared.time.Moment.{Moment}
-use Rattle.sb_outside.specs.Outside.{IfTold, with_entry}
 use Rattle.wait_rules.specs.Waits.{first_state}
 use Rattle.wait_rules.specs.declared.waits.WaitState.{WaitState}
 use Rattle.update_client.specs.Held.{Held, nothing_held_of}
 use Rattle.client_store.specs.Reading.{store_reading}
 use Rattle.client_store.specs.Selected.{selected}
 use Rattle.client_store.specs.declared.fault.StoreFault.{StoreFault}
-use Rattle.sb_round.specs.Round.{Outside}
+use Rattle.timed_sessions.specs.Told.{Outside, Trace, Grows}
 use Rattle.update_run.specs.Printed.{ignored_text}
 
 -- the named lists of a store, and of a text that is none of them nothing
@@ -22,14 +21,16 @@ abbrev pub first_lists : List ListName → Option (List ℕ) → List Held
 first_lists names None = nothing_held_of names
 first_lists names (Some text) = lists_from names (store_reading text)
 
+-- what is told more of a beginning: one reading of the clock and one word
+abbrev pub trace_of_start : Moment → ℕ → Trace
+trace_of_start start word = record { sessions = []; answers = start ∷ []; waits = []; words = word ∷ [] }
+
 -- The clock was read and a word was drawn, and the first request has to wait for so long.
 pub record HasOpened (waits : WaitState) (before after : Outside) : Type 0 where
   pub start : Moment
   pub word : ℕ
   pub first : waits ≡ first_state start word
-  pub log : after.log ≡ before.log
-  pub read : IfTold after.answers (with_entry before.answers start)
-  pub drawn : IfTold after.words (with_entry before.words word)
+  pub told : Grows before after (trace_of_start start word)
 
 -- A keeper gave some text or none, a client has the lists that it begins with then, and the line of a text that is no
 -- store waits after what waited before.

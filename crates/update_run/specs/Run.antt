@@ -1,16 +1,19 @@
 -- A run of a client: it begins with what its keeper kept, makes rounds of updates, saves its lists after each round that
 -- installed one, and prints what became of all.
-use Rattle.std.specs.Prelude.{◌≡◌, ◌⊎◌, ℕ, ◌≤◌, ◌<◌, Bool, List, [], ◌∷◌, ◌++◌, length, Option, IfSome}
+use Rattle.std.specs.Prelude.{◌≡◌, ◌⊎◌, ℕ, ◌≤◌, ◌<◌, nat_lt, if◌then◌else◌, Bool, List, [], ◌∷◌, ◌++◌, length, Option, IfSome, Result, Ok, Err}
 use Rattle.sb_outside.specs.Outside.{appended}
 use Rattle.sb_outside.specs.Writing.{HasFront}
 use Rattle.update_client.specs.Held.{Held}
 use Rattle.wait_rules.specs.declared.waits.WaitState.{WaitState}
-use Rattle.sb_round.specs.Round.{Round, Outside, BreaksOff}
+use Rattle.timed_sessions.specs.Told.{Outside}
+use Rattle.sb_round.specs.Round.{Round, BreaksOff}
 use Rattle.sb_round.specs.Rounds.{MakesRounds}
 use Rattle.update_run.specs.Opening.{first_lists, HasOpened}
-use Rattle.update_run.specs.Saved.{Keeping, HasSaved, FailsToSave, saved_texts, MayLackLast}
+use Rattle.update_run.specs.Saved.{Keeping, HasSaved, FailsToSave, saved_lists, MayLackLast}
 use Rattle.update_run.specs.Printed.{told_rounds, run_text, saved_line, has_refusals}
 use Rattle.update_run.specs.declared.plan.Plan.{Plan}
+use Rattle.update_run.specs.declared.stop.RunStop.{RunStop}
+use Rattle.update_run.specs.declared.stop.RunStop.TheVariants as stop
 
 -- What is seen of a run at one moment: what the link, the clock and the dice tell, what the keeper tells, and what the
 -- output holds.
@@ -44,7 +47,7 @@ pub record IsRun (plan : Plan) (refused : Bool) (before after : Seen) : Type 0 w
   pub rounds : List Round
   pub all : length rounds ≡ plan.rounds
   pub made : HasMade plan kept rounds before.outside after.outside
-  pub saved : HasSaved (saved_texts (first_lists plan.names kept) rounds) before.keeper after.keeper
+  pub saved : HasSaved (saved_lists (first_lists plan.names kept) rounds) before.keeper after.keeper
   pub text : after.held ≡ appended before.held (run_text kept (first_lists plan.names kept) rounds)
   pub refusal : refused ≡ has_refusals (first_lists plan.names kept) rounds
 
@@ -62,15 +65,20 @@ pub record StopsAtSave (plan : Plan) (before after : Seen) : Type 0 where
   pub rounds : List Round
   pub few : length rounds ≤ plan.rounds
   pub made : HasMade plan kept rounds before.outside after.outside
-  pub texts : List (List ℕ)
-  pub last : List ℕ
-  pub saves : saved_texts (first_lists plan.names kept) rounds ≡ texts ++ last ∷ []
+  pub earlier : List (List Held)
+  pub last : List Held
+  pub saves : saved_lists (first_lists plan.names kept) rounds ≡ earlier ++ last ∷ []
   pub between : Keeping
-  pub saved : HasSaved texts before.keeper between
+  pub saved : HasSaved earlier before.keeper between
   pub fails : FailsToSave last between after.keeper
   pub written : List ℕ
   pub text : after.held ≡ appended before.held written
   pub lacks : written ++ saved_line (length rounds) ≡ told_rounds kept (first_lists plan.names kept) rounds
+
+-- the text up to where a run stopped after these rounds: the lines of the rounds, and only after the last round those of the lists
+abbrev pub text_to_stop : ℕ → Option (List ℕ) → List Held → List Round → List ℕ
+text_to_stop all kept lists rounds =
+    if nat_lt (length rounds) all then told_rounds kept lists rounds else run_text kept lists rounds
 
 -- After some rounds the run stopped. What the last of them installed may not be saved, and what is written is a front of
 -- the text up to there, of which something is missing.
@@ -80,17 +88,22 @@ pub record StopsAfter (plan : Plan) (before after : Seen) : Type 0 where
   pub rounds : List Round
   pub few : length rounds ≤ plan.rounds
   pub made : HasMade plan kept rounds before.outside after.outside
-  pub texts : List (List ℕ)
-  pub most : MayLackLast (saved_texts (first_lists plan.names kept) rounds) texts
-  pub saved : HasSaved texts before.keeper after.keeper
-  pub front : HasFront before.held after.held (run_text kept (first_lists plan.names kept) rounds)
+  pub stores : List (List Held)
+  pub most : MayLackLast (saved_lists (first_lists plan.names kept) rounds) stores
+  pub saved : HasSaved stores before.keeper after.keeper
+  pub front : HasFront before.held after.held (text_to_stop plan.rounds kept (first_lists plan.names kept) rounds)
 
--- The same, and a further round was broken off.
+-- After some rounds a further one was broken off. All before it is saved and written.
 pub record BreaksOffAfter (plan : Plan) (before after : Seen) : Type 0 where
+  pub kept : Option (List ℕ)
+  pub loaded : IsLoaded kept before.keeper.kept
+  pub rounds : List Round
+  pub further : length rounds < plan.rounds
   pub between : Outside
-  pub stops : StopsAfter plan before (seen between after.keeper after.held)
-  pub further : length stops.rounds < plan.rounds
-  pub breaks : BreaksOff stops.made.lists stops.made.waits_now plan.options plan.target between after.outside
+  pub made : HasMade plan kept rounds before.outside between
+  pub breaks : BreaksOff made.lists made.waits_now plan.options plan.target between after.outside
+  pub saved : HasSaved (saved_lists (first_lists plan.names kept) rounds) before.keeper after.keeper
+  pub text : after.held ≡ appended before.held (told_rounds kept (first_lists plan.names kept) rounds)
 
 -- Memory was refused: before the clock was read, after some rounds, or within one.
 abbrev pub StopsForMemory : Plan → Seen → Seen → Type 0
@@ -99,3 +112,15 @@ StopsForMemory plan before after = HasNotBegun before after ⊎ StopsAfter plan 
 -- The keeper failed: when it was to give what it keeps, or when it was to keep something.
 abbrev pub StopsAtKeeper : Plan → Seen → Seen → Type 0
 StopsAtKeeper plan before after = HasNotBegun before after ⊎ StopsAtSave plan before after
+
+-- ---- how a run ends
+
+-- It came to its end, and told of a refusal or of none, or it stopped before.
+abbrev pub RunEnding : Type 0
+RunEnding = Result Bool RunStop
+
+abbrev pub EndsRun : Plan → RunEnding → (before after : Seen) → Type 0
+EndsRun plan (Ok refused) before after = IsRun plan refused before after
+EndsRun plan (Err stop.WriteFault) before after = StopsAfter plan before after
+EndsRun plan (Err stop.KeepFault) before after = StopsAtKeeper plan before after
+EndsRun plan (Err stop.OutOfMemory) before after = StopsForMemory plan before after

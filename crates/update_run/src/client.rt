@@ -4,10 +4,10 @@ use wait_rules::WaitState;
 
 /// A client between two rounds.
 #[derive(Drop)]
-pub(crate) struct Client {
-    pub(crate) lists: ClientLists,
+pub struct Client {
+    pub lists: ClientLists,
     /// When the next request may be sent.
-    pub(crate) waits: WaitState,
+    pub waits: WaitState,
     /// The text that waits to be written.
-    pub(crate) page: Bytes,
+    pub page: Bytes,
 }

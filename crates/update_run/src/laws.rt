@@ -1,24 +1,14 @@
-ghost use Rattle.std.specs.Prelude.{List};
-ghost use Rattle.update_client.specs.Held.{Held};
-ghost use Rattle.sb_round.specs.Round.{Round};
-ghost use Rattle.update_run.specs.Run.{Seen};
-ghost use Rattle.update_run.specs.Law.{SavesReplicas, SavesReplicasAlone, PrintsReplicasAlone};
-ghost use Rattle.update_run.specs.declared.plan.Plan.{Plan as PlanOf};
+ghost use Rattle.update_run.specs.Steps.{BeginsSteps, GoesOnWriting, GoesOnTaking};
 
-use sb_round::replicas_stay;
+use sb_round::rounds_go_on;
 
-/// The law of rounds that are saved: those that begin with replicas of a server's lists, and whose bodies are honest, save
-/// replicas alone, and come to replicas.
-pub fn rounds_save_replicas()
-    ensures { (lists : List Held) (rounds : List Round) → SavesReplicas lists rounds }
+/// The law of rounds that a client takes one by one, from any lists and any state of waiting: none is taken at first, what waits
+/// may be written after them, and with one round more they are rounds. So what they save, print and answer is what the whole of
+/// them does.
+pub fn steps_go_on()
+    ensures none { BeginsSteps }
+    ensures written { GoesOnWriting }
+    ensures one_more { GoesOnTaking }
 {
-    replicas_stay();
-}
-
-/// The law of runs: one that met an honest server saved and printed replicas alone.
-pub fn runs_save_replicas()
-    ensures saved { (plan : PlanOf) (before after : Seen) → SavesReplicasAlone plan before after }
-    ensures printed { (plan : PlanOf) (before after : Seen) → PrintsReplicasAlone plan before after }
-{
-    rounds_save_replicas();
+    rounds_go_on();
 }

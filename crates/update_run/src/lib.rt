@@ -2,12 +2,15 @@
 //! after each round that installed one, and prints what became of all.
 //!
 //! `specs/Opening.antt` has what a run begins with, `Saved` what the keeper is handed, `Printed` the text, `Run` a whole run
-//! and one that stopped, and `Law` what follows: each store that is saved is the server's at the version that its tokens name.
+//! and one that stopped, and `Steps` the steps that a run is made of, which can be taken one by one, with the law that they go on.
 #![tactic(auto)]
 
-pub use laws::{rounds_save_replicas, runs_save_replicas};
+pub use client::Client;
+pub use laws::steps_go_on;
+pub use opening::open_store;
 pub use plan::Plan;
 pub use printing::push_list_line;
+pub use rounding::{take_round, write_page};
 pub use running::run;
 pub use stop::RunStop;
 

@@ -1,17 +1,19 @@
-ghost use Rattle.std.specs.Prelude.{◌≡◌, ◌≢◌, ◌≤◌, ◌++◌, ℕ, List, Some, IfOk, OnOk, IsErrOf, Err, length};
+ghost use Rattle.std.specs.Prelude.{◌≡◌, ◌≢◌, ◌≤◌, ◌++◌, ℕ, List, [], None, Some, IfOk, OnOk, OnErr, IsErrOf, Err, length};
 ghost use Rattle.client_store.specs.Reading.{store_reading};
 ghost use Rattle.sb_outside.specs.Outside.{Rose};
 ghost use Rattle.update_client.specs.Held.{most_lists};
-ghost use Rattle.update_run.specs.Opening.{first_lists, HasLoaded};
+ghost use Rattle.timed_sessions.specs.Told.{outside};
+ghost use Rattle.update_run.specs.Opening.{first_lists, HasLoaded, HasOpened};
 ghost use Rattle.update_run.specs.Printed.{ignored_text};
 
-use crate::RunStop;
 use crate::printing::push_ignored_line;
+use crate::{Client, RunStop};
 use client_store::{StoreFault, read_store, select};
 use sb_model::{Bytes, ListName, OutOfMemory};
-use sb_outside::Keeper;
+use sb_outside::{Clock, Dice, Keeper};
 use std::alloc::Global;
 use update_client::ClientLists;
+use wait_rules::WaitState;
 
 /// Tells why a text that was kept is no store, and gives lists of which nothing was installed.
 fn ignore_store(
@@ -66,7 +68,7 @@ fn lists_of(
 }
 
 /// Loads the lists that a run begins with. The line of a store that is ignored waits in the page.
-pub(crate) fn load_lists<K: Keeper>(
+fn load_lists<K: Keeper>(
     alloc: Global,
     names: &[ListName],
     keep: &mut K,
@@ -82,4 +84,43 @@ pub(crate) fn load_lists<K: Keeper>(
 {
     let kept = keep.load(alloc)?;
     Ok(lists_of(alloc, names, kept, page)?)
+}
+
+/// Begins a client of these lists: loads what the keeper keeps, and then reads the clock and draws a word, which say when the
+/// first request may be sent ("Request Frequency" of the Safe Browsing Update API, version 4).
+///
+/// Where the text that is kept is no store, the client begins with empty lists, and the line that tells so waits in its page.
+/// After an `Err` the clock was not read and no word was drawn. The output is no cause of one.
+pub fn open_store<K: Keeper, C: Clock, D: Dice>(
+    alloc: Global,
+    names: &[ListName],
+    keep: &mut K,
+    clock: &mut C,
+    dice: &mut D,
+) -> Result<Client, RunStop>
+    requires { length names.now ≤ most_lists }
+    ensures loaded { IfOk result (λ client. HasLoaded names.now (K.kept keep.old) client.lists [] client.page) }
+
+    // No link is asked, so that none tells of it.
+    ensures opened { IfOk result (λ client. HasOpened client.waits
+        (outside None (C.answers clock.old) (C.waits clock.old) (D.given dice.old))
+        (outside None (C.answers clock.new) (C.waits clock.new) (D.given dice.new))) }
+    ensures unread { OnErr result (C.answers clock.new ≡ C.answers clock.old) }
+    ensures no_wait { C.waits clock.new ≡ C.waits clock.old }
+    ensures undrawn { OnErr result (D.given dice.new ≡ D.given dice.old) }
+    ensures kept { K.kept keep.new ≡ K.kept keep.old }
+    ensures handed { K.handed keep.new ≡ K.handed keep.old }
+    ensures no_output { result ≢ Err RunStop.WriteFault }
+
+    // A fault of the keeper is counted, and nothing else is.
+    ensures failed { IsErrOf result RunStop.KeepFault → Rose (K.faults keep.old) (K.faults keep.new) }
+    ensures counted { result ≢ Err RunStop.KeepFault → K.faults keep.new ≡ K.faults keep.old }
+{
+    let mut page = Bytes::new(alloc);
+    let lists = match load_lists(alloc, names, keep, &mut page) {
+        Ok(lists) => lists,
+        Err(stop) => return Err(stop),
+    };
+    let waits = WaitState::first(clock.now(), dice.word());
+    Ok(Client { lists, waits, page })
 }

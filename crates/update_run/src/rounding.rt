@@ -1,19 +1,21 @@
-ghost use Rattle.std.specs.Prelude.{◌≡◌, ◌≢◌, [], IfOk, IfErr, IsErrOf, Err};
+ghost use Rattle.std.specs.Prelude.{◌≡◌, ◌≢◌, [], IfOk, OnOk, OnErr, IfErr, IsErrOf, Err};
 ghost use Rattle.std.specs.List.{list_any};
+ghost use Rattle.http_edge.specs.Exchanges.{IsTarget};
 ghost use Rattle.sb_outside.specs.Outside.{Rose};
-ghost use Rattle.sb_round.specs.Round.{outside};
+ghost use Rattle.sb_outside.specs.Writing.{HasFront};
 ghost use Rattle.sb_round.specs.declared.rounds.Taken.{Taken as TakenUpdate};
-ghost use Rattle.update_run.specs.Saved.{keeping};
+ghost use Rattle.timed_sessions.specs.Told.{outside};
 ghost use Rattle.update_client.specs.Step.{is_refused};
 ghost use Rattle.update_run.specs.Printed.{has_refusal as has_refusal_one};
+ghost use Rattle.update_run.specs.Rounding.{WritesAndTakes, StopsOneRound, TakesAllRounds, StopsRounds};
 ghost use Rattle.update_run.specs.Run.{seen};
-ghost use Rattle.update_run.specs.Rounding.{TakesRound, StopsRound, TakesAllRounds, StopsRounds};
+ghost use Rattle.update_run.specs.Saved.{keeping};
+ghost use Rattle.update_run.specs.Steps.{WritesPage, TakesRound, StopsRound};
 
-use crate::client::Client;
 use crate::saving::tell_round;
-use crate::{Plan, RunStop};
+use crate::{Client, Plan, RunStop};
 use sb_model::{OutOfMemory, Row};
-use sb_outside::{Clock, Dice, Gate, Keeper, Link, Point, Sink, flush};
+use sb_outside::{Clock, Dice, Failed, Gate, Keeper, Link, Point, Sink, flush};
 use sb_round::{RoundFault, Taken, rounds_go_on, run_round};
 use std::alloc::Global;
 
@@ -33,8 +35,25 @@ fn has_refusal(taken: &Result<Row<Taken>, RoundFault>) -> bool
     }
 }
 
-/// Makes the round of this number, tells of it, and saves what it installed. Answers whether it is told with a refusal.
-fn told_round<O: Sink, K: Keeper, L: Link, C: Clock, D: Dice>(
+/// Writes the text of a client that waits. After an `Err` a front of it is written that is not the whole, and the client is as
+/// before.
+pub fn write_page<O: Sink>(client: &mut Client, out: &mut O) -> Result<(), Failed>
+    ensures writes { OnOk result (WritesPage client.old client.new (O.contents out.old) (O.contents out.new)) }
+    ensures front { OnErr result (HasFront (O.contents out.old) (O.contents out.new) client.old.page) }
+    ensures client { OnErr result (client.new ≡ client.old) }
+
+    // A fault is counted, and nothing else is.
+    ensures kept { OnOk result (O.faults out.new ≡ O.faults out.old) }
+    ensures failed { OnErr result (Rose (O.faults out.old) (O.faults out.new)) }
+{
+    flush(out, &mut client.page)
+}
+
+/// Makes the round of this number for a client of which no text waits: it waits until the round is allowed, holds its session,
+/// tells what came of it, and saves the lists where one was installed. Answers whether the round is told with a refusal.
+///
+/// What it tells is written before the lists are saved, and else waits. The lists are saved before a line says so.
+pub fn take_round<O: Sink, K: Keeper, L: Link, C: Clock, D: Dice>(
     alloc: Global,
     plan: &Plan,
     number: u32,
@@ -45,17 +64,20 @@ fn told_round<O: Sink, K: Keeper, L: Link, C: Clock, D: Dice>(
     clock: &mut C,
     dice: &mut D,
 ) -> Result<bool, RunStop>
-    requires { client.old.page ≡ [] }
+    requires written { client.old.page ≡ [] }
+    requires target { IsTarget plan.now.target }
     ensures took { IfOk result (λ refused. TakesRound plan.now number client.old client.new
-        (seen (outside (L.log link.old) (C.answers clock.old) (D.given dice.old))
+        (seen (outside (L.log link.old) (C.answers clock.old) (C.waits clock.old) (D.given dice.old))
         (keeping (K.handed keep.old) (K.kept keep.old)) (O.contents out.old))
-        (seen (outside (L.log link.new) (C.answers clock.new) (D.given dice.new))
+        (seen (outside (L.log link.new) (C.answers clock.new) (C.waits clock.new) (D.given dice.new))
         (keeping (K.handed keep.new) (K.kept keep.new)) (O.contents out.new)) refused) }
     ensures stopped { IfErr result (λ stop. StopsRound stop plan.now number client.old
-        (seen (outside (L.log link.old) (C.answers clock.old) (D.given dice.old))
+        (seen (outside (L.log link.old) (C.answers clock.old) (C.waits clock.old) (D.given dice.old))
         (keeping (K.handed keep.old) (K.kept keep.old)) (O.contents out.old))
-        (seen (outside (L.log link.new) (C.answers clock.new) (D.given dice.new))
+        (seen (outside (L.log link.new) (C.answers clock.new) (C.waits clock.new) (D.given dice.new))
         (keeping (K.handed keep.new) (K.kept keep.new)) (O.contents out.new))) }
+
+    // A fault is counted, and nothing else is.
     ensures output_failed { IsErrOf result RunStop.WriteFault → Rose (O.faults out.old) (O.faults out.new) }
     ensures output_kept { result ≢ Err RunStop.WriteFault → O.faults out.new ≡ O.faults out.old }
     ensures keeper_failed { IsErrOf result RunStop.KeepFault → Rose (K.faults keep.old) (K.faults keep.new) }
@@ -103,24 +125,25 @@ fn one_round<O: Sink, K: Keeper, L: Link, C: Clock, D: Dice, G: Gate>(
     dice: &mut D,
     gate: &G,
 ) -> Result<bool, RunStop>
-    ensures took { IfOk result (λ refused. TakesRound plan.now number client.old client.new
-        (seen (outside (L.log link.old) (C.answers clock.old) (D.given dice.old))
+    requires { IsTarget plan.now.target }
+    ensures took { IfOk result (λ refused. WritesAndTakes plan.now number client.old client.new
+        (seen (outside (L.log link.old) (C.answers clock.old) (C.waits clock.old) (D.given dice.old))
         (keeping (K.handed keep.old) (K.kept keep.old)) (O.contents out.old))
-        (seen (outside (L.log link.new) (C.answers clock.new) (D.given dice.new))
+        (seen (outside (L.log link.new) (C.answers clock.new) (C.waits clock.new) (D.given dice.new))
         (keeping (K.handed keep.new) (K.kept keep.new)) (O.contents out.new)) refused) }
-    ensures stopped { IfErr result (λ stop. StopsRound stop plan.now number client.old
-        (seen (outside (L.log link.old) (C.answers clock.old) (D.given dice.old))
+    ensures stopped { IfErr result (λ stop. StopsOneRound stop plan.now number client.old
+        (seen (outside (L.log link.old) (C.answers clock.old) (C.waits clock.old) (D.given dice.old))
         (keeping (K.handed keep.old) (K.kept keep.old)) (O.contents out.old))
-        (seen (outside (L.log link.new) (C.answers clock.new) (D.given dice.new))
+        (seen (outside (L.log link.new) (C.answers clock.new) (C.waits clock.new) (D.given dice.new))
         (keeping (K.handed keep.new) (K.kept keep.new)) (O.contents out.new))) }
     ensures output_failed { IsErrOf result RunStop.WriteFault → Rose (O.faults out.old) (O.faults out.new) }
     ensures output_kept { result ≢ Err RunStop.WriteFault → O.faults out.new ≡ O.faults out.old }
     ensures keeper_failed { IsErrOf result RunStop.KeepFault → Rose (K.faults keep.old) (K.faults keep.new) }
     ensures keeper_kept { result ≢ Err RunStop.KeepFault → K.faults keep.new ≡ K.faults keep.old }
 {
-    flush(out, &mut client.page)?;
+    write_page(client, out)?;
     gate.pass(Point::Round(number));
-    told_round(alloc, plan, number, client, out, keep, link, clock, dice)
+    take_round(alloc, plan, number, client, out, keep, link, clock, dice)
 }
 
 /// Makes the rounds of a run. Answers whether one of them is told with a refusal.
@@ -135,15 +158,16 @@ pub(crate) fn all_rounds<O: Sink, K: Keeper, L: Link, C: Clock, D: Dice, G: Gate
     dice: &mut D,
     gate: &G,
 ) -> Result<bool, RunStop>
+    requires { IsTarget plan.now.target }
     ensures took { IfOk result (λ refused. TakesAllRounds plan.now client.old client.new
-        (seen (outside (L.log link.old) (C.answers clock.old) (D.given dice.old))
+        (seen (outside (L.log link.old) (C.answers clock.old) (C.waits clock.old) (D.given dice.old))
         (keeping (K.handed keep.old) (K.kept keep.old)) (O.contents out.old))
-        (seen (outside (L.log link.new) (C.answers clock.new) (D.given dice.new))
+        (seen (outside (L.log link.new) (C.answers clock.new) (C.waits clock.new) (D.given dice.new))
         (keeping (K.handed keep.new) (K.kept keep.new)) (O.contents out.new)) refused) }
     ensures stopped { IfErr result (λ stop. StopsRounds stop plan.now client.old
-        (seen (outside (L.log link.old) (C.answers clock.old) (D.given dice.old))
+        (seen (outside (L.log link.old) (C.answers clock.old) (C.waits clock.old) (D.given dice.old))
         (keeping (K.handed keep.old) (K.kept keep.old)) (O.contents out.old))
-        (seen (outside (L.log link.new) (C.answers clock.new) (D.given dice.new))
+        (seen (outside (L.log link.new) (C.answers clock.new) (C.waits clock.new) (D.given dice.new))
         (keeping (K.handed keep.new) (K.kept keep.new)) (O.contents out.new))) }
     ensures output_failed { IsErrOf result RunStop.WriteFault → Rose (O.faults out.old) (O.faults out.new) }
     ensures output_kept { result ≢ Err RunStop.WriteFault → O.faults out.new ≡ O.faults out.old }

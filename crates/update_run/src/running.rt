@@ -1,24 +1,23 @@
-ghost use Rattle.std.specs.Prelude.{◌≡◌, ◌≢◌, ◌≤◌, ◌<◌, ◌++◌, [], length, IfOk, OnOk, OnErr, IfErr, IsErrOf, Err};
+ghost use Rattle.std.specs.Prelude.{◌≡◌, ◌≢◌, ◌≤◌, ◌<◌, ◌++◌, length, OnOk, OnErr, IsErrOf, Err};
 ghost use Rattle.std.specs.List.{flat_map};
+ghost use Rattle.http_edge.specs.Exchanges.{IsTarget};
 ghost use Rattle.sb_outside.specs.Outside.{Rose, appended};
 ghost use Rattle.sb_outside.specs.Writing.{HasFront};
-ghost use Rattle.sb_round.specs.Round.{outside};
+ghost use Rattle.timed_sessions.specs.Told.{outside};
 ghost use Rattle.update_client.specs.Held.{most_lists};
-ghost use Rattle.update_run.specs.Saved.{keeping};
 ghost use Rattle.update_run.specs.Printed.{list_line};
-ghost use Rattle.update_run.specs.Rounding.{RunsFrom, StopsFrom};
-ghost use Rattle.update_run.specs.Run.{seen, IsRun, StopsAfter, StopsAtKeeper, StopsForMemory};
+ghost use Rattle.update_run.specs.Rounding.{EndsFrom};
+ghost use Rattle.update_run.specs.Run.{seen, EndsRun};
+ghost use Rattle.update_run.specs.Saved.{keeping};
 
-use crate::client::Client;
-use crate::opening::load_lists;
+use crate::opening::open_store;
 use crate::printing::push_list_line;
 use crate::rounding::all_rounds;
-use crate::{Plan, RunStop};
+use crate::{Client, Plan, RunStop};
 use sb_model::{Bytes, OutOfMemory};
 use sb_outside::{Clock, Dice, Gate, Keeper, Link, Sink, flush};
 use std::alloc::Global;
 use update_client::HeldList;
-use wait_rules::WaitState;
 
 /// Appends the lines of lists.
 fn push_lists(page: &mut Bytes, lists: &[HeldList]) -> Result<(), OutOfMemory>
@@ -48,7 +47,7 @@ fn finish<O: Sink>(lists: &[HeldList], out: &mut O, page: &mut Bytes) -> Result<
 }
 
 /// Makes the rounds of a client, and tells of its lists.
-fn run_loaded<O: Sink, K: Keeper, L: Link, C: Clock, D: Dice, G: Gate>(
+fn run_opened<O: Sink, K: Keeper, L: Link, C: Clock, D: Dice, G: Gate>(
     alloc: Global,
     plan: &Plan,
     client: &mut Client,
@@ -59,17 +58,13 @@ fn run_loaded<O: Sink, K: Keeper, L: Link, C: Clock, D: Dice, G: Gate>(
     dice: &mut D,
     gate: &G,
 ) -> Result<bool, RunStop>
-    requires { 0 < length client.old.lists }
-    ensures run { IfOk result (λ refused. RunsFrom plan.now client.old refused
-        (seen (outside (L.log link.old) (C.answers clock.old) (D.given dice.old))
+    requires some { 0 < length client.old.lists }
+    requires target { IsTarget plan.now.target }
+    ensures ends { EndsFrom plan.now result client.old
+        (seen (outside (L.log link.old) (C.answers clock.old) (C.waits clock.old) (D.given dice.old))
         (keeping (K.handed keep.old) (K.kept keep.old)) (O.contents out.old))
-        (seen (outside (L.log link.new) (C.answers clock.new) (D.given dice.new))
-        (keeping (K.handed keep.new) (K.kept keep.new)) (O.contents out.new))) }
-    ensures stopped { IfErr result (λ stop. StopsFrom stop plan.now client.old
-        (seen (outside (L.log link.old) (C.answers clock.old) (D.given dice.old))
-        (keeping (K.handed keep.old) (K.kept keep.old)) (O.contents out.old))
-        (seen (outside (L.log link.new) (C.answers clock.new) (D.given dice.new))
-        (keeping (K.handed keep.new) (K.kept keep.new)) (O.contents out.new))) }
+        (seen (outside (L.log link.new) (C.answers clock.new) (C.waits clock.new) (D.given dice.new))
+        (keeping (K.handed keep.new) (K.kept keep.new)) (O.contents out.new)) }
     ensures output_failed { IsErrOf result RunStop.WriteFault → Rose (O.faults out.old) (O.faults out.new) }
     ensures output_kept { result ≢ Err RunStop.WriteFault → O.faults out.new ≡ O.faults out.old }
     ensures keeper_failed { IsErrOf result RunStop.KeepFault → Rose (K.faults keep.old) (K.faults keep.new) }
@@ -89,7 +84,10 @@ fn run_loaded<O: Sink, K: Keeper, L: Link, C: Clock, D: Dice, G: Gate>(
 /// that was refused.
 ///
 /// A text that is kept and is no store is told, and the run begins with empty lists. What was printed goes to the output
-/// before each round and before each time that the lists are saved.
+/// before each round, so before the clock is waited for, and before each time that the lists are saved. A run that stops while
+/// rounds are left writes no line of a list.
+///
+/// The steps are public too: `open_store`, and for each round `write_page` and `take_round`.
 pub fn run<O: Sink, K: Keeper, L: Link, C: Clock, D: Dice, G: Gate>(
     alloc: Global,
     plan: &Plan,
@@ -102,27 +100,13 @@ pub fn run<O: Sink, K: Keeper, L: Link, C: Clock, D: Dice, G: Gate>(
 ) -> Result<bool, RunStop>
     requires some { 0 < length plan.now.names }
     requires few { length plan.now.names ≤ most_lists }
-    ensures run { IfOk result (λ refused. IsRun plan.now refused
-        (seen (outside (L.log link.old) (C.answers clock.old) (D.given dice.old))
-        (keeping (K.handed keep.old) (K.kept keep.old)) (O.contents out.old))
-        (seen (outside (L.log link.new) (C.answers clock.new) (D.given dice.new))
-        (keeping (K.handed keep.new) (K.kept keep.new)) (O.contents out.new))) }
+    requires target { IsTarget plan.now.target }
 
-    // One that did not come to its end.
-    ensures write_fault { IsErrOf result RunStop.WriteFault → StopsAfter plan.now
-        (seen (outside (L.log link.old) (C.answers clock.old) (D.given dice.old))
+    // It came to its end, or stopped for its reason.
+    ensures ends { EndsRun plan.now result
+        (seen (outside (L.log link.old) (C.answers clock.old) (C.waits clock.old) (D.given dice.old))
         (keeping (K.handed keep.old) (K.kept keep.old)) (O.contents out.old))
-        (seen (outside (L.log link.new) (C.answers clock.new) (D.given dice.new))
-        (keeping (K.handed keep.new) (K.kept keep.new)) (O.contents out.new)) }
-    ensures keep_fault { IsErrOf result RunStop.KeepFault → StopsAtKeeper plan.now
-        (seen (outside (L.log link.old) (C.answers clock.old) (D.given dice.old))
-        (keeping (K.handed keep.old) (K.kept keep.old)) (O.contents out.old))
-        (seen (outside (L.log link.new) (C.answers clock.new) (D.given dice.new))
-        (keeping (K.handed keep.new) (K.kept keep.new)) (O.contents out.new)) }
-    ensures memory { IsErrOf result RunStop.OutOfMemory → StopsForMemory plan.now
-        (seen (outside (L.log link.old) (C.answers clock.old) (D.given dice.old))
-        (keeping (K.handed keep.old) (K.kept keep.old)) (O.contents out.old))
-        (seen (outside (L.log link.new) (C.answers clock.new) (D.given dice.new))
+        (seen (outside (L.log link.new) (C.answers clock.new) (C.waits clock.new) (D.given dice.new))
         (keeping (K.handed keep.new) (K.kept keep.new)) (O.contents out.new)) }
 
     // A fault is counted, and nothing else is.
@@ -131,12 +115,9 @@ pub fn run<O: Sink, K: Keeper, L: Link, C: Clock, D: Dice, G: Gate>(
     ensures keeper_failed { IsErrOf result RunStop.KeepFault → Rose (K.faults keep.old) (K.faults keep.new) }
     ensures keeper_kept { result ≢ Err RunStop.KeepFault → K.faults keep.new ≡ K.faults keep.old }
 {
-    let mut page = Bytes::new(alloc);
-    let lists = match load_lists(alloc, plan.names.as_slice(), keep, &mut page) {
-        Ok(lists) => lists,
+    let mut client = match open_store(alloc, plan.names.as_slice(), keep, clock, dice) {
+        Ok(client) => client,
         Err(stop) => return Err(stop),
     };
-    let waits = WaitState::first(clock.now(), dice.word());
-    let mut client = Client { lists, waits, page };
-    run_loaded(alloc, plan, &mut client, out, keep, link, clock, dice, gate)
+    run_opened(alloc, plan, &mut client, out, keep, link, clock, dice, gate)
 }

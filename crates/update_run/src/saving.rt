@@ -3,17 +3,17 @@ ghost use Rattle.std.specs.List.{list_any};
 ghost use Rattle.sb_outside.specs.Outside.{Rose};
 ghost use Rattle.sb_outside.specs.Writing.{IsOnItsWay};
 ghost use Rattle.update_client.specs.Step.{is_installed};
-ghost use Rattle.client_store.specs.Store.{store_text};
 ghost use Rattle.sb_round.specs.declared.rounds.Taken.{Taken as TakenUpdate};
-ghost use Rattle.update_run.specs.Saved.{keeping, HasSaved, has_installed as has_installed_one, saved_after};
+ghost use Rattle.update_run.specs.Saved.{keeping, HasSaved, FailsToSave, has_installed as has_installed_one, saved_after};
 ghost use Rattle.update_run.specs.Printed.{saved_line, saved_part, told_end};
-ghost use Rattle.update_run.specs.Rounding.{StopsReplacing, StopsTelling};
+ghost use Rattle.update_run.specs.Rounding.{StopsSaving};
+ghost use Rattle.update_run.specs.Steps.{StopsTelling};
 
 use crate::RunStop;
 use crate::printing::push_saved_line;
 use client_store::write_store;
 use sb_model::{Bytes, OutOfMemory, Row};
-use sb_outside::{Keeper, Sink, flush};
+use sb_outside::{KeepFault, Keeper, Sink, flush};
 use sb_round::{RoundEnd, RoundFault, Taken, push_round};
 use std::alloc::Global;
 use update_client::ClientLists;
@@ -34,32 +34,27 @@ fn has_installed(taken: &Result<Row<Taken>, RoundFault>) -> bool
     }
 }
 
-/// Hands a text to the keeper, after what was printed went to the output. The line that tells so waits then.
-fn replace<O: Sink, K: Keeper>(
-    number: u64,
-    text: &[u8],
-    out: &mut O,
-    keep: &mut K,
-    page: &mut Bytes,
-) -> Result<(), RunStop>
-    ensures saved { OnOk result (HasSaved (text.now ∷ []) (keeping (K.handed keep.old) (K.kept keep.old))
+/// Hands the store of the lists to the keeper.
+fn hand_in<K: Keeper>(alloc: Global, lists: &ClientLists, keep: &mut K) -> Result<(), RunStop>
+    ensures saved { OnOk result (HasSaved (lists.now ∷ []) (keeping (K.handed keep.old) (K.kept keep.old))
         (keeping (K.handed keep.new) (K.kept keep.new))) }
-    ensures text { OnOk result (IsOnItsWay (O.contents out.old) (O.contents out.new) page.new
-        (page.old ++ saved_line number)) }
-    ensures stopped { IfErr result (λ stop. StopsReplacing stop number text.now (keeping (K.handed keep.old) (K.kept keep.old))
-        (keeping (K.handed keep.new) (K.kept keep.new)) (O.contents out.old) (O.contents out.new) page.old) }
-    ensures output_failed { IsErrOf result RunStop.WriteFault → Rose (O.faults out.old) (O.faults out.new) }
-    ensures output_kept { result ≢ Err RunStop.WriteFault → O.faults out.new ≡ O.faults out.old }
+    ensures fails { IsErrOf result RunStop.KeepFault → FailsToSave lists.now (keeping (K.handed keep.old) (K.kept keep.old))
+        (keeping (K.handed keep.new) (K.kept keep.new)) }
+    ensures refused { IsErrOf result RunStop.OutOfMemory →
+        keeping (K.handed keep.new) (K.kept keep.new) ≡ keeping (K.handed keep.old) (K.kept keep.old) }
+    ensures no_output { result ≢ Err RunStop.WriteFault }
     ensures keeper_failed { IsErrOf result RunStop.KeepFault → Rose (K.faults keep.old) (K.faults keep.new) }
     ensures keeper_kept { result ≢ Err RunStop.KeepFault → K.faults keep.new ≡ K.faults keep.old }
 {
-    flush(out, page)?;
-    keep.replace(text)?;
-    push_saved_line(page, number)?;
-    Ok(())
+    let text = write_store(alloc, lists)?;
+    match keep.replace(text.as_slice()) {
+        Ok(()) => Ok(()),
+        Err(KeepFault::Failed) => Err(RunStop::KeepFault),
+        Err(KeepFault::OutOfMemory) => Err(RunStop::OutOfMemory),
+    }
 }
 
-/// Saves the lists in the round of this number.
+/// Saves the lists in the round of this number, after what was printed went to the output. The line that tells so waits then.
 fn save<O: Sink, K: Keeper>(
     alloc: Global,
     number: u64,
@@ -68,21 +63,21 @@ fn save<O: Sink, K: Keeper>(
     keep: &mut K,
     page: &mut Bytes,
 ) -> Result<(), RunStop>
-    ensures saved { OnOk result (HasSaved (store_text lists.now ∷ []) (keeping (K.handed keep.old) (K.kept keep.old))
+    ensures saved { OnOk result (HasSaved (lists.now ∷ []) (keeping (K.handed keep.old) (K.kept keep.old))
         (keeping (K.handed keep.new) (K.kept keep.new))) }
     ensures text { OnOk result (IsOnItsWay (O.contents out.old) (O.contents out.new) page.new
         (page.old ++ saved_line number)) }
-    ensures stopped { IfErr result (λ stop. StopsReplacing stop number (store_text lists.now) (keeping (K.handed keep.old) (K.kept keep.old))
+    ensures stopped { IfErr result (λ stop. StopsSaving stop number lists.now (keeping (K.handed keep.old) (K.kept keep.old))
         (keeping (K.handed keep.new) (K.kept keep.new)) (O.contents out.old) (O.contents out.new) page.old) }
     ensures output_failed { IsErrOf result RunStop.WriteFault → Rose (O.faults out.old) (O.faults out.new) }
     ensures output_kept { result ≢ Err RunStop.WriteFault → O.faults out.new ≡ O.faults out.old }
     ensures keeper_failed { IsErrOf result RunStop.KeepFault → Rose (K.faults keep.old) (K.faults keep.new) }
     ensures keeper_kept { result ≢ Err RunStop.KeepFault → K.faults keep.new ≡ K.faults keep.old }
 {
-    match write_store(alloc, lists) {
-        Ok(text) => replace(number, text.as_slice(), out, keep, page),
-        Err(OutOfMemory) => Err(RunStop::OutOfMemory),
-    }
+    flush(out, page)?;
+    hand_in(alloc, lists, keep)?;
+    push_saved_line(page, number)?;
+    Ok(())
 }
 
 /// Saves the lists where the round of this number installed one.
@@ -100,7 +95,7 @@ fn save_installed<O: Sink, K: Keeper>(
     ensures text { OnOk result (IsOnItsWay (O.contents out.old) (O.contents out.new) page.new
         (page.old ++ saved_part number end.now.taken)) }
     ensures some { IfErr result (λ _. IsTrue (has_installed_one end.now.taken)) }
-    ensures stopped { IfErr result (λ stop. StopsReplacing stop number (store_text lists.now) (keeping (K.handed keep.old) (K.kept keep.old))
+    ensures stopped { IfErr result (λ stop. StopsSaving stop number lists.now (keeping (K.handed keep.old) (K.kept keep.old))
         (keeping (K.handed keep.new) (K.kept keep.new)) (O.contents out.old) (O.contents out.new) page.old) }
     ensures output_failed { IsErrOf result RunStop.WriteFault → Rose (O.faults out.old) (O.faults out.new) }
     ensures output_kept { result ≢ Err RunStop.WriteFault → O.faults out.new ≡ O.faults out.old }
@@ -113,7 +108,7 @@ fn save_installed<O: Sink, K: Keeper>(
     Ok(())
 }
 
-/// Tells of a round that was made, and saves the lists where it installed one.
+/// Tells of a round that was made, where nothing waits to be written, and saves the lists where it installed one.
 pub(crate) fn tell_round<O: Sink, K: Keeper>(
     alloc: Global,
     number: u64,
@@ -123,12 +118,12 @@ pub(crate) fn tell_round<O: Sink, K: Keeper>(
     keep: &mut K,
     page: &mut Bytes,
 ) -> Result<(), RunStop>
+    requires { page.old ≡ [] }
     ensures saved { OnOk result (HasSaved (saved_after end.now.taken lists.now) (keeping (K.handed keep.old) (K.kept keep.old))
         (keeping (K.handed keep.new) (K.kept keep.new))) }
-    ensures text { OnOk result (IsOnItsWay (O.contents out.old) (O.contents out.new) page.new
-        (page.old ++ told_end number end.now)) }
+    ensures text { OnOk result (IsOnItsWay (O.contents out.old) (O.contents out.new) page.new (told_end number end.now)) }
     ensures stopped { IfErr result (λ stop. StopsTelling stop number end.now lists.now (keeping (K.handed keep.old) (K.kept keep.old))
-        (keeping (K.handed keep.new) (K.kept keep.new)) (O.contents out.old) (O.contents out.new) page.old) }
+        (keeping (K.handed keep.new) (K.kept keep.new)) (O.contents out.old) (O.contents out.new)) }
     ensures output_failed { IsErrOf result RunStop.WriteFault → Rose (O.faults out.old) (O.faults out.new) }
     ensures output_kept { result ≢ Err RunStop.WriteFault → O.faults out.new ≡ O.faults out.old }
     ensures keeper_failed { IsErrOf result RunStop.KeepFault → Rose (K.faults keep.old) (K.faults keep.new) }

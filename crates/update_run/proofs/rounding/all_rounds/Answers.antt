@@ -1,14 +1,15 @@
 use Rattle.std.proofs.Common.{◌+◌, ◌<◌, [], refl, ◌∙◌, arith}
-use Rattle.update_run.proofs.RoundByRound.{no_round, one_more, stopped}
+use Rattle.update_run.proofs.OneByOne.{begins_steps, goes_on_writing, goes_on_taking, one_more}
+use Rattle.update_run.proofs.Stopping.{stopped}
 use Rattle.update_run.proofs.rounding.all_rounds.Goals as goal
 
 pub loop-made-init : goal.loop-made-init
-loop-made-init g c = ([], refl, no_round _ _ _ c.rounds_go_on.ensures.none, refl, refl)
+loop-made-init g c = ([], refl, begins_steps c.rounds_go_on.ensures.none _ 1 _ _, refl, refl)
 
 pub loop-made-preserved : goal.loop-made-preserved
 loop-made-preserved g c =
     let inv = c.loop-made.invariant in
-    let more = one_more c.args.plan.now (c.loop-made.made + 1) inv.0 c.args.client.now c.loop-made.client c.one_round.new.client _ _ _ c.loop-made.refused c.in-Ok.is_refused c.rounds_go_on.ensures.one_more (omega (arith, inv.1)) inv.2 c.in-Ok.ensures.took in (
+    let more = one_more c.args.plan.now (c.loop-made.made + 1) inv.0 c.args.client.now c.loop-made.client c.one_round.new.client _ _ _ c.loop-made.refused c.in-Ok.is_refused goes_on_writing (goes_on_taking c.rounds_go_on.ensures.one_more) (omega (arith, inv.1)) inv.2 c.in-Ok.ensures.took in (
       more.0,
       more.1,
       more.2,
