@@ -1,0 +1,9 @@
+pub mod Headline
+pub mod Kept
+pub mod Logs
+pub mod NameOrder
+pub mod Names
+pub mod Rows
+pub mod Saved
+pub mod Stores
+pub mod Unchanged
