@@ -27,7 +27,7 @@ use Rattle.served_runs.proofs.Answers.{named_within, count_up_to}
 use Rattle.served_runs.proofs.Faults.{has_meaning, means, no_change_fault, not_stale_full, not_stale_base, no_first_fault}
 use Rattle.served_runs.proofs.Places.{DecodesAgain, places_are_below, places_are_sent}
 
-found_true : (test : ℕ → Bool) (numbers : List ℕ) (n : ℕ) → find test numbers ≡ Some n → test n ≡ true
+pub found_true : (test : ℕ → Bool) (numbers : List ℕ) (n : ℕ) → find test numbers ≡ Some n → test n ≡ true
 found_true test [] n h = absurd (cc)
 found_true test (first ∷ numbers) n h = go (test first) refl h (found_true test numbers n)
   where
@@ -54,7 +54,7 @@ removes_these : (update : UpdatedList) (places others : List ℕ) → update.ful
 unfolding ok_places
 removes_these update places others partial h k = let here : joined places_of update.removals ≡ Ok places = rw partial at h in ok_same others places (sym k ∙ here)
 
-same_candidate : (meant : Update) (a b : List (List ℕ)) → meant.full ≡ true → candidate meant a ≡ candidate meant b
+pub same_candidate : (meant : Update) (a b : List (List ℕ)) → meant.full ≡ true → candidate meant a ≡ candidate meant b
 same_candidate meant a b full = rw full refl
 
 module _ (history : History) (token_at : Naming) (naming : IsNaming history token_at) (can : CanBeServed history) where
@@ -88,11 +88,11 @@ module _ (history : History) (token_at : Naming) (naming : IsNaming history toke
       (can.bytes.few update.name genuine.version genuine.declared genuine.within)
       (sym (meant.checksum ∙ genuine.checksum)))
 
-  not_empty : (list : ListName) (version : ℕ) → IsTrue (declares history list) → version ≤ version_count history → token_at list version ≡ [] → ⊥
+  pub not_empty : (list : ListName) (version : ℕ) → IsTrue (declares history list) → version ≤ version_count history → token_at list version ≡ [] → ⊥
   not_empty list version declared within none = omega (arith, naming.some list version declared within, ap length none)
 
   -- a replica whose token is that of a version has the set of that version
-  set_at : (held : Held) (version : ℕ) → IsTrue (declares history held.name) → version ≤ version_count history → IsReplicaOf history token_at held → token_at held.name version ≡ held.token
+  pub set_at : (held : Held) (version : ℕ) → IsTrue (declares history held.name) → version ≤ version_count history → IsReplicaOf history token_at held → token_at held.name version ≡ held.token
       → held.set ≡ prefixes_at history held.name version
   set_at held version declared within (inl empty) token = absurd (not_empty held.name version declared within (token ∙ empty.token))
   set_at held version declared within (inr at) token =

@@ -1,7 +1,17 @@
 pub mod Answers
+pub mod Asking
+pub mod Beginning
+pub mod Completing
 pub mod Faults
+pub mod Installing
 pub mod Items
 pub mod Lists
 pub mod Places
+pub mod Plain
+pub mod Requests
+pub mod Responses
+pub mod Rounds
+pub mod Sent
+pub mod Sessions
 pub mod Steps
 pub mod Versions

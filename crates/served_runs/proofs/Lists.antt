@@ -27,7 +27,7 @@ use Rattle.served_runs.proofs.Steps.{NamesGo}
 
 -- ---- names that differ
 
-name_total : IsTotalOrder name_cmp
+pub name_total : IsTotalOrder name_cmp
 name_total =
     then_total (on_total (λ (name : ListName). threat_code name.threat) nat_cmp_total)
     (then_total (on_total (λ (name : ListName). platform_code name.platform) nat_cmp_total) (on_total (λ (name : ListName). entry_code name.entry) nat_cmp_total))
@@ -49,10 +49,10 @@ other_name_too go a b before = by_case (same_name b a) refl
     by_case false is = refl
     by_case true is = absurd (not_before_itself b (subst (λ name. name_cmp name b ≡ Less) (sym (go b a is)) before))
 
-names_in : List Held → List ListName
+unfoldable pub names_in : List Held → List ListName
 names_in lists = map (λ (held : Held). held.name) lists
 
-abbrev Others : ListName → List Held → Type 0
+abbrev pub Others : ListName → List Held → Type 0
 Others name lists = AllByRecursion (λ (held : Held). same_name held.name name ≡ false) lists
 
 later_others : NamesGo → (name : ListName) (lists : List Held) → AllByRecursion (λ later. name_cmp name later ≡ Less) (names_in lists) → Others name lists
@@ -65,12 +65,12 @@ unfolding names_in
 before_at name [] rest held h = h.0
 before_at name (first ∷ done) rest held h = before_at name done rest held h.1
 
-done_others : NamesGo → (done rest : List Held) (held : Held) → IsStrictlySortedBy name_cmp (names_in (done ++ held ∷ rest)) → Others held.name done
+pub done_others : NamesGo → (done rest : List Held) (held : Held) → IsStrictlySortedBy name_cmp (names_in (done ++ held ∷ rest)) → Others held.name done
 unfolding names_in IsStrictlySortedBy
 done_others go [] rest held h = tt
 done_others go (first ∷ done) rest held h = (other_name go first.name held.name (before_at first.name done rest held h.0), done_others go done rest held h.1)
 
-rest_others : NamesGo → (done rest : List Held) (held : Held) → IsStrictlySortedBy name_cmp (names_in (done ++ held ∷ rest)) → Others held.name rest
+pub rest_others : NamesGo → (done rest : List Held) (held : Held) → IsStrictlySortedBy name_cmp (names_in (done ++ held ∷ rest)) → Others held.name rest
 unfolding names_in IsStrictlySortedBy
 rest_others go [] rest held h = later_others go held.name rest h.0
 rest_others go (first ∷ done) rest held h = rest_others go done rest held h.1
@@ -85,7 +85,7 @@ others_stay : (lists : List Held) (update : UpdatedList) → Others update.name 
 others_stay [] update h = refl
 others_stay (held ∷ lists) update h = rw h.0 (ap (λ (rest : List Held). held ∷ rest) (others_stay lists update h.1))
 
-one_changes : (done rest : List Held) (held : Held) (update : UpdatedList) → same_name held.name update.name ≡ true → Others update.name done → Others update.name rest
+pub one_changes : (done rest : List Held) (held : Held) (update : UpdatedList) → same_name held.name update.name ≡ true → Others update.name done → Others update.name rest
     → after_update (done ++ held ∷ rest) update ≡ done ++ list_step held update ∷ rest
 one_changes [] rest held update itself before after = rw itself (ap (λ (more : List Held). list_step held update ∷ more) (others_stay rest update after))
 one_changes (first ∷ done) rest held update itself before after = rw before.0 (ap (λ (more : List Held). first ∷ more) (one_changes done rest held update itself before.1 after))
@@ -94,7 +94,7 @@ step_name : (held : Held) (update : UpdatedList) (fault : Option UpdateFault) �
 step_name held update None = refl
 step_name held update (Some fault) = refl
 
-names_stay : (done rest : List Held) (held : Held) (update : UpdatedList) → names_in ((done ++ list_step held update ∷ []) ++ rest) ≡ names_in (done ++ held ∷ rest)
+pub names_stay : (done rest : List Held) (held : Held) (update : UpdatedList) → names_in ((done ++ list_step held update ∷ []) ++ rest) ≡ names_in (done ++ held ∷ rest)
 unfolding names_in
 names_stay [] rest held update = ap (λ name. name ∷ map (λ (h : Held). h.name) rest) (step_name held update (first_fault held update))
 names_stay (first ∷ done) rest held update = ap (λ names. first.name ∷ names) (names_stay done rest held update)
@@ -102,7 +102,7 @@ names_stay (first ∷ done) rest held update = ap (λ names. first.name ∷ name
 installed : (held : Held) (update : UpdatedList) → first_fault held update ≡ None → IsInstalled (result_of held update)
 installed held update none = rw none tt
 
-update_name : (history : History) (token_at : Naming) (asked : AskedList) (found : Option ℕ) (version : ℕ) → (update_to history token_at asked found version).name ≡ asked.name
+pub update_name : (history : History) (token_at : Naming) (asked : AskedList) (found : Option ℕ) (version : ℕ) → (update_to history token_at asked found version).name ≡ asked.name
 update_name history token_at asked (Some from) version = refl
 update_name history token_at asked None version = refl
 
@@ -125,11 +125,11 @@ module _ (go : NamesGo) (itself : (name : ListName) → same_name name name ≡ 
       (subst (λ (ls : List Held). All IsInstalled (results_of ls (map update_of rest))) (sym changed)
       (all_installed (done ++ list_step held update ∷ []) rest (subst (IsStrictlySortedBy name_cmp) (sym (names_stay done rest held update)) sorted) fit.1))
 
-map_twice : {A B C : Type 0} (f : B → C) (g : A → B) (items : List A) → map f (map g items) ≡ map (λ item. f (g item)) items
+pub map_twice : {A B C : Type 0} (f : B → C) (g : A → B) (items : List A) → map f (map g items) ≡ map (λ item. f (g item)) items
 map_twice f g [] = refl
 map_twice f g (item ∷ items) = ap (λ rest. f (g item) ∷ rest) (map_twice f g items)
 
-asked_declared : (history : History) (options : FetchOptions) (lists : List Held) → All (λ held. IsTrue (declares history held.name)) lists → All (λ (asked : AskedList). IsTrue (declares history asked.name)) (map (asked_list options) lists)
+pub asked_declared : (history : History) (options : FetchOptions) (lists : List Held) → All (λ held. IsTrue (declares history held.name)) lists → All (λ (asked : AskedList). IsTrue (declares history asked.name)) (map (asked_list options) lists)
 asked_declared history options [] h = All-nil (λ (asked : AskedList). IsTrue (declares history asked.name))
 asked_declared history options (held ∷ lists) h =
     All-cons (λ (asked : AskedList). IsTrue (declares history asked.name)) (asked_list options held) (map (asked_list options) lists) (All-head (λ held. IsTrue (declares history held.name)) held lists h)

@@ -1,2 +1,4 @@
 pub mod Versions
 pub mod Installs
+pub mod Answered
+pub mod Complete

@@ -1,7 +1,8 @@
-//! What a run of a client comes to where it asks a server of this project: its lists do not go back to earlier versions, and each
-//! answer to its own request is installed.
+//! What a run of a client comes to where it asks a server of this project: each answer to its own request is installed, and its
+//! lists do not go back to earlier versions.
 //!
-//! `specs/Versions.antt` and `specs/Installs.antt` have what is asked of the server and of the rounds, and what follows.
+//! `specs/Versions.antt` and `specs/Installs.antt` say it of answers and of rounds. `specs/Answered.antt` says of a session in a
+//! link's log that a server answered it, or that it was lost, and `specs/Complete.antt` what a run comes to, over its log.
 #![tactic(auto)]
 
 ghost use Rattle.std.specs.Prelude.{ℕ, List};
@@ -10,12 +11,18 @@ ghost use Rattle.sb_model.specs.Naming.{Naming};
 ghost use Rattle.update_client.specs.Held.{Held};
 ghost use Rattle.update_client.specs.declared.options.FetchOptions.{FetchOptions};
 ghost use Rattle.sb_round.specs.Round.{Round};
+ghost use Rattle.served_runs.specs.Answered.{AnsweredSessionsAreAnsweredRounds, WrittenAnswersReadAgain};
+ghost use Rattle.served_runs.specs.Complete.{AnsweredRunsAreComplete, AnsweredRunsKeepVersions};
 ghost use Rattle.served_runs.specs.Installs.{InstallsAnswers};
 ghost use Rattle.served_runs.specs.Versions.{KeepsVersions};
 
+use http_edge::{one_body, passes};
 use rice_coding::encoding_is_decoded;
+use sb_members::{members_are_as_their_values, written_members_read_again};
 use sb_model::{names_go_by_their_codes, targets_are_the_greatest};
+use text_limits::{fetch_answers_are_not_too_dense, fetch_requests_are_not_too_dense};
 use update_client::answers_are_genuine;
+use update_messages::{values_read_one_way, values_read_or_have_a_fault};
 
 /// A list's version at the end of rounds is not below that at the start, where no limit of the request binds, each message is
 /// what the server answered to the request of its round, and the versions at which it answered do not fall.
@@ -36,4 +43,63 @@ pub fn answers_are_installed()
     names_go_by_their_codes();
     encoding_is_decoded();
     answers_are_genuine();
+}
+
+/// What a server writes of its answer to a request of at most 8 items reads as that answer, where this keeps to the ranges of messages.
+pub fn written_answers_read_again()
+    ensures { WrittenAnswersReadAgain }
+{
+    written_members_read_again();
+    members_are_as_their_values();
+    fetch_answers_are_not_too_dense();
+}
+
+/// Where each session of rounds was answered by a server, or lost, and the versions at which it answered do not fall, so is each round:
+/// its message is what the server answered to the round's own request, or it has none.
+pub fn answered_sessions_are_answered_rounds()
+    ensures { AnsweredSessionsAreAnsweredRounds }
+{
+    passes();
+    one_body();
+    values_read_one_way();
+    values_read_or_have_a_fault();
+    written_members_read_again();
+    members_are_as_their_values();
+    fetch_requests_are_not_too_dense();
+    targets_are_the_greatest();
+}
+
+/// A run that begins with replicas of a server's lists, and each of whose sessions the server answered, or was lost, is complete: each
+/// answered round ends with `ok` and installs the update of every list, the lists stay replicas, and where no session was lost
+/// the run tells of no refusal. SHA-256 may have collisions.
+pub fn answered_runs_are_complete()
+    ensures { AnsweredRunsAreComplete }
+{
+    passes();
+    one_body();
+    values_read_one_way();
+    values_read_or_have_a_fault();
+    written_members_read_again();
+    members_are_as_their_values();
+    fetch_requests_are_not_too_dense();
+    targets_are_the_greatest();
+    names_go_by_their_codes();
+    encoding_is_decoded();
+    answers_are_genuine();
+}
+
+/// A list's version at the end of a run is not below that at its start, where each session of the log was answered by a server, or lost,
+/// the versions at which it answered do not fall, and no limit of the request binds.
+pub fn answered_runs_keep_versions()
+    ensures { AnsweredRunsKeepVersions }
+{
+    passes();
+    one_body();
+    values_read_one_way();
+    values_read_or_have_a_fault();
+    written_members_read_again();
+    members_are_as_their_values();
+    fetch_requests_are_not_too_dense();
+    targets_are_the_greatest();
+    names_go_by_their_codes();
 }

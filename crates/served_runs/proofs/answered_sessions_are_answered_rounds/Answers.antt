@@ -1,0 +1,15 @@
+use Rattle.served_runs.proofs.Requests.{asked_reads_again}
+use Rattle.served_runs.proofs.Sessions.{sessions_are_rounds}
+use Rattle.served_runs.proofs.answered_sessions_are_answered_rounds.Goals as goal
+
+pub returns : goal.returns
+returns c =
+    sessions_are_rounds (record {
+      passes = c.passes.ensures;
+      one_body = c.one_body.ensures.session;
+      one_request = c.values_read_one_way.ensures.request;
+      one_response = c.values_read_one_way.ensures.response;
+      no_fault = λ value message reads. (c.values_read_or_have_a_fault.ensures.response value).0 (message, reads);
+      again = asked_reads_again c.written_members_read_again.ensures c.members_are_as_their_values.ensures.depths c.fetch_requests_are_not_too_dense.ensures;
+    })
+    c.targets_are_the_greatest.ensures.last
