@@ -1,5 +1,5 @@
 -- The lines of an input.
-use Rattle.std.specs.Prelude.{◌≡◌, ℕ, ◌≤◌, ◌==◌, Bool, false, not, if◌then◌else◌, List, [], ◌∷◌, ◌++◌, length}
+use Rattle.std.specs.Prelude.{◌≡◌, ℕ, ◌≤◌, ◌==◌, Bool, false, not, if◌then◌else◌, List, [], ◌∷◌, ◌++◌, length, codes, decimal}
 use Rattle.std.specs.List.{slice_split, list_any, flat_map}
 
 -- the byte that ends a line
@@ -18,6 +18,10 @@ without_empty_end (part ∷ parts) = part ∷ without_empty_end parts
 -- What stands between the newlines of a text. An empty line is a line, and what follows the last newline is one where it is not empty.
 abbrev pub lines_of : List ℕ → List (List ℕ)
 lines_of text = without_empty_end (slice_split is_newline text)
+
+-- what is told of a line: its number, counted from 1, and a text
+abbrev pub numbered : ℕ → List ℕ → List ℕ
+numbered number text = decimal number ++ codes " " ++ text ++ newline ∷ []
 
 -- the most bytes and the most lines of an input
 pub record IsWithinLimits (input : List ℕ) : Type 0 where

@@ -1,0 +1,5 @@
+pub mod Example
+pub mod Law
+pub mod Printed
+pub mod Readings
+pub mod Replay
