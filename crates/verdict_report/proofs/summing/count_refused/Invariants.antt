@@ -1,0 +1,11 @@
+use Rattle.std.proofs.Common.{◌≡◌, ◌≤◌, take}
+use Rattle.std.specs.List.{count_by}
+use Rattle.verdict_report.specs.Printed.{is_refused}
+use Rattle.verdict_report.proofs.summing.count_refused.Given as goal
+
+-- those so far
+abbrev pub invariant-loop-one : goal.invariant-loop-one
+invariant-loop-one l = record {
+  so_far : l.count ≡ count_by is_refused (take l.one-index l.all);
+  few : l.count ≤ l.one-index;
+}

@@ -1,0 +1,12 @@
+//! The report of a check: a line for each URL, with its verdict, and a summary.
+//!
+//! `specs/Printed.antt` has the text of each.
+#![tactic(auto)]
+
+pub use printing::push_report_line;
+pub use summing::push_summary;
+pub use verdicts::{Cause, Judged, Verdict};
+
+mod printing;
+mod summing;
+mod verdicts;
