@@ -2,18 +2,20 @@
 use Rattle.std.proofs.Common.{◌≡◌, ◌≢◌, ℕ, suc, ◌-◌, ◌<◌, ◌≤◌, List, [], ◌∷◌, length, map, get_or, take, drop, take_all, Bool, true, false, cond, refl, sym, ap, ◌∙◌, subst, Option, Some, None, Result, Ok, Err, arith, nat_lt}
 use Rattle.std.specs.Prelude.{◌&&◌, not, nat_le, option_and_then, option_map, is_some, codes, IfOk}
 use Rattle.std.specs.Result.{result_ok}
-use Rattle.std.specs.Str.{bytes_eq}
+use Rattle.std.specs.Str.{bytes_eq, chars}
 use Rattle.std.proofs.lemmas.Slice.Eq.{bytes_eq-Decides}
 use borrow.Author.Tests.{ltb-true, leb-true}
 use Rattle.sb_model.specs.declared.names.ListName.{ListName}
 use Rattle.sb_model.specs.Names.{name_of}
 use Rattle.sb_words.specs.CommandLine.{Given, CommandShape, given_of, value_among}
 use Rattle.update_client.specs.declared.options.FetchOptions.{FetchOptions}
-use Rattle.sb_words.specs.Values.{names_of, few_names_of, different, has_each_once, lists_of}
+use Rattle.sb_words.specs.Values.{names_of, few_names_of, different, has_each_once, lists_of, is_key, host_port_of}
+use Rattle.http_edge.specs.Exchanges.{IsOneLine, IsTarget}
 use Rattle.sb_client.specs.declared.command.Command.{Command}
 use Rattle.update_run.specs.declared.plan.Plan.{Plan}
 use Rattle.sb_client.specs.declared.command.Command.TheVariants.{Replay, Run, Show, Vectors}
-use Rattle.sb_client.specs.Command.{replay_shape, run_shape, bare_shape, given_to, lists_given, server_given, rounds_given, key_given, options_given, has_flag, run_with, run_given, RunWords, run_words, replay_of, run_of, asks_show, asks_vectors, IsNoCommand, IsCommandOf, AreFew, AreFewLists}
+use Rattle.sb_client.proofs.OneLines.{server_line, key_line, no_key_line}
+use Rattle.sb_client.specs.Command.{replay_shape, run_shape, bare_shape, given_to, lists_given, server_given, rounds_given, key_of, key_given, options_given, has_flag, run_with, run_given, RunWords, run_words, replay_of, run_of, asks_show, asks_vectors, IsNoCommand, IsCommandOf, AreFew, IsSound}
 
 -- what is known of a value
 pub ok_same : {T E A : Type 0} (r : Result T E) (f : T → A) (a b : A) → a ≡ b → IfOk r (λ x. f x ≡ a) → IfOk r (λ x. f x ≡ b)
@@ -66,50 +68,71 @@ given_by (Some given) names e = few_lists given.positionals names e
 few_replayed : (words : List (List ℕ)) (names : List ListName) → replay_of words ≡ Some names → AreFew names
 few_replayed words names e = given_by (given_to (codes "sbupdate") (codes "replay") replay_shape words) names e
 
--- a plan has the lists that its words name
+-- the host that the words give, and the key, stand each in one line
+server_by : (text : Option (List ℕ)) (server : List ℕ) → option_and_then (λ text. option_map (λ _. text) (host_port_of text)) text ≡ Some server → IsOneLine (chars server)
+server_by None server e = absurd (cc)
+server_by (Some text) server e = by_address (host_port_of text) refl e
+  where
+    by_address : (address : Option (List ℕ × ℕ)) → host_port_of text ≡ address → option_map (λ _. text) address ≡ Some server → IsOneLine (chars server)
+    by_address None h k = absurd (cc)
+    by_address (Some address) h k = let same : text ≡ server = cc in subst (λ (text : List ℕ). IsOneLine (chars text)) same (server_line text address h)
+
+key_by : (text : Option (List ℕ)) (key : List ℕ) → key_of text ≡ Some key → IsOneLine (chars key)
+key_by None key e = let same : [] ≡ key = cc in subst (λ (text : List ℕ). IsOneLine (chars text)) same no_key_line
+key_by (Some text) key e = by_test (is_key text) refl e
+  where
+    by_test : (b : Bool) → is_key text ≡ b → cond b (Some text) None ≡ Some key → IsOneLine (chars key)
+    by_test true h k = let same : text ≡ key = cc in subst (λ (text : List ℕ). IsOneLine (chars text)) same (key_line text h)
+    by_test false h k = absurd (cc)
+
+-- a plan has the lists that its words name, and asks with the host and the key that they give
 plan_by : (store : Option (List ℕ)) (server : Option (List ℕ)) (rounds : Option ℕ) (key : Option (List ℕ)) (options : Option FetchOptions) (names : List ListName) (need : Bool) (line : RunWords)
+    → ((found : List ℕ) → server ≡ Some found → IsOneLine (chars found)) → ((found : List ℕ) → key ≡ Some found → IsOneLine (chars found))
     → option_and_then (λ store. option_and_then (λ server. option_and_then (λ rounds. option_and_then (λ key. option_map
     (λ options. run_words store server names rounds key options need) options) key) rounds) server) store ≡ Some line
-    → line.plan.names ≡ names
-plan_by None server rounds key options names need line e = absurd (cc)
-plan_by (Some store) None rounds key options names need line e = absurd (cc)
-plan_by (Some store) (Some server) None key options names need line e = absurd (cc)
-plan_by (Some store) (Some server) (Some rounds) None options names need line e = absurd (cc)
-plan_by (Some store) (Some server) (Some rounds) (Some key) None names need line e = absurd (cc)
-plan_by (Some store) (Some server) (Some rounds) (Some key) (Some options) names need line e =
+    → (line.plan.names ≡ names) × IsTarget line.plan.target
+plan_by None server rounds key options names need line host mark e = absurd (cc)
+plan_by (Some store) None rounds key options names need line host mark e = absurd (cc)
+plan_by (Some store) (Some server) None key options names need line host mark e = absurd (cc)
+plan_by (Some store) (Some server) (Some rounds) None options names need line host mark e = absurd (cc)
+plan_by (Some store) (Some server) (Some rounds) (Some key) None names need line host mark e = absurd (cc)
+plan_by (Some store) (Some server) (Some rounds) (Some key) (Some options) names need line host mark e =
     let is : run_words store server names rounds key options need ≡ line = cc in
-    ap (λ (l : RunWords). l.plan.names) (sym is)
+    let target : IsTarget (run_words store server names rounds key options need).plan.target = record { host = host server refl; key = mark key refl } in
+    (ap (λ (l : RunWords). l.plan.names) (sym is), subst (λ (l : RunWords). IsTarget l.plan.target) is target)
 
 planned_by : (named : List (List ℕ × List ℕ)) (some : Option (List ListName)) (line : RunWords) → ((names : List ListName) → some ≡ Some names → AreFew names)
-    → option_and_then (λ names. run_with names named) some ≡ Some line → AreFew line.plan.names
+    → option_and_then (λ names. run_with names named) some ≡ Some line → AreFew line.plan.names × IsTarget line.plan.target
 planned_by named None line few e = absurd (cc)
 planned_by named (Some names) line few e =
-    let is = plan_by (value_among (codes "store") named) (server_given named) (rounds_given named) (key_given named) (options_given named) names (not (has_flag (codes "no-digest") named)) line e in
-    subst AreFew (sym is) (few names refl)
+    let is = plan_by (value_among (codes "store") named) (server_given named) (rounds_given named) (key_given named) (options_given named) names (not (has_flag (codes "no-digest") named)) line
+    (λ found h. server_by (value_among (codes "server") named) found h) (λ found h. key_by (value_among (codes "key") named) found h) e in
+    (subst AreFew (sym is.0) (few names refl), is.1)
 
-run_by : (given : Option Given) (line : RunWords) → option_and_then run_given given ≡ Some line → AreFew line.plan.names
+run_by : (given : Option Given) (line : RunWords) → option_and_then run_given given ≡ Some line → AreFew line.plan.names × IsTarget line.plan.target
 run_by None line e = absurd (cc)
 run_by (Some given) line e = planned_by given.named (lists_given given) line (few_lists given.positionals) e
 
-few_planned : (words : List (List ℕ)) (line : RunWords) → run_of words ≡ Some line → AreFew line.plan.names
-few_planned words line e = run_by (given_to (codes "sbupdate") (codes "run") run_shape words) line e
+sound_planned : (words : List (List ℕ)) (line : RunWords) → run_of words ≡ Some line → AreFew line.plan.names × IsTarget line.plan.target
+sound_planned words line e = run_by (given_to (codes "sbupdate") (codes "run") run_shape words) line e
 
-few_asked : (words : List (List ℕ)) (line : Option RunWords) (plan : Plan) → run_of words ≡ line → option_map (λ (line : RunWords). line.plan) line ≡ Some plan → AreFew plan.names
-few_asked words None plan e h = absurd (cc)
-few_asked words (Some line) plan e h =
+sound_asked : (words : List (List ℕ)) (line : Option RunWords) (plan : Plan) → run_of words ≡ line → option_map (λ (line : RunWords). line.plan) line ≡ Some plan
+    → AreFew plan.names × IsTarget plan.target
+sound_asked words None plan e h = absurd (cc)
+sound_asked words (Some line) plan e h =
     let is : line.plan ≡ plan = cc in
-    subst (λ (plan : Plan). AreFew plan.names) is (few_planned words line e)
+    subst (λ (plan : Plan). AreFew plan.names × IsTarget plan.target) is (sound_planned words line e)
 
 -- what was found is a command
 pub is_found : (words : List (List ℕ)) (found : Option Command) (command : Command) → found ≡ Some command → IsCommandOf words found → IsCommandOf words (Some command)
 is_found words found command e h = subst (IsCommandOf words) e h
 
--- the lists of a command are few
-pub few_lists_of : (words : List (List ℕ)) (command : Command) → IsCommandOf words (Some command) → AreFewLists command
-few_lists_of words (Replay names) e = few_replayed words names e
-few_lists_of words (Run plan) e = few_asked words (run_of words) plan refl e
-few_lists_of words Show e = tt
-few_lists_of words Vectors e = tt
+-- a command keeps to what commands keep to
+pub is_sound : (words : List (List ℕ)) (command : Command) → IsCommandOf words (Some command) → IsSound command
+is_sound words (Replay names) e = few_replayed words names e
+is_sound words (Run plan) e = sound_asked words (run_of words) plan refl e
+is_sound words Show e = tt
+is_sound words Vectors e = tt
 
 -- ---- a program's words are no other's
 

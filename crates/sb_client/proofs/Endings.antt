@@ -3,9 +3,10 @@ use Rattle.std.proofs.Common.{◌≡◌, ◌≢◌, ℕ, ◌⊎◌, inl, inr, Li
 use Rattle.std.specs.Prelude.{IfOk, IsErrOf}
 use Rattle.sb_outside.specs.Outside.{Rose}
 use Rattle.input_lines.specs.Input.{GivesPast, GivesWithin}
-use Rattle.sb_client.specs.declared.stop.Stop.{Stop}
-use Rattle.sb_client.specs.declared.stop.Stop.TheVariants.{ReadFault, WriteFault, PastLimits, OutOfMemory}
-use Rattle.sb_client.specs.Ending.{Ending, EndsReading, IsReadingRun, status_after, status_of}
+use Rattle.input_lines.specs.declared.stop.Stop.{Stop}
+use Rattle.input_lines.specs.declared.stop.Stop.TheVariants.{ReadFault, WriteFault, PastLimits, OutOfMemory}
+use Rattle.input_lines.specs.Ending.{Ending, EndsReading}
+use Rattle.sb_client.specs.Ending.{IsReadingRun, status_after, status_of}
 use Rattle.sb_client.specs.Runs.{HasNoFault, IsFaultOf, IsStatus}
 
 -- a count that stayed below its end did not rise

@@ -1,12 +1,7 @@
 pub mod Commands
 pub mod Endings
-pub mod ExampleDigests
-pub mod ExampleRun
-pub mod Headline
-pub mod Outcomes
-pub mod Readings
-pub mod Replays
+pub mod OneLines
 pub mod RunOptions
 pub mod Runs
+pub mod Served
 pub mod Shows
-pub mod Ways

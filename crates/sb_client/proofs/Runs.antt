@@ -1,30 +1,29 @@
 -- How a run of a client can end, and how one of any command.
 use Rattle.std.proofs.Common.{◌≡◌, ◌≢◌, ◌⊎◌, ℕ, inl, inr, Bool, true, false, not, List, Option, Ok, Err, refl, ap, ◌∙◌, subst}
-use Rattle.std.specs.Prelude.{IfOk, IsErrOf}
+use Rattle.std.specs.Prelude.{IfOk, IsErrOf, ◌==◌}
 use Rattle.sb_model.specs.declared.names.ListName.{ListName}
 use Rattle.sb_outside.specs.Outside.{Rose}
 use Rattle.update_run.specs.declared.plan.Plan.{Plan}
-use Rattle.update_run.specs.Run.{Seen, IsRun, StopsAfter, StopsAtKeeper, StopsForMemory}
-use Rattle.update_run.specs.Law.{IsAnyRun}
+use Rattle.update_run.specs.Run.{Seen, RunEnding, EndsRun, IsRun}
+use Rattle.sb_model.specs.History.{History}
+use Rattle.sb_model.specs.Naming.{Naming}
+use Rattle.honest_runs.specs.Law.{HoldsOfRuns}
+use Rattle.honest_runs.specs.Met.{HasTaken}
+use Rattle.honest_runs.specs.Replicas.{HandsReplicas, TellsReplicas}
+use Rattle.honest_runs.specs.Rows.{IsHeadline, TellsAtEnd, lacks_memory}
 use Rattle.update_run.specs.declared.stop.RunStop.{RunStop}
 use Rattle.update_run.specs.declared.stop.RunStop.TheVariants as stop
 use Rattle.sb_client.specs.declared.command.Command.{Command}
 use Rattle.sb_client.specs.declared.command.Command.TheVariants.{Replay, Run, Show, Vectors}
-use Rattle.sb_client.specs.declared.stop.Stop.TheVariants.{ReadFault, WriteFault, PastLimits, OutOfMemory}
+use Rattle.input_lines.specs.declared.stop.Stop.TheVariants.{ReadFault, WriteFault, PastLimits, OutOfMemory}
 use Rattle.sb_client.specs.Show.{IsCounted, IsPartlyCounted}
-use Rattle.sb_client.specs.Ending.{Ending, RunEnding, run_status_after, run_status_of, status_of}
-use Rattle.sb_client.specs.Runs.{AreCounted, EndsCounting, EndsUpdating, IsCountRun, IsFaultOf, IsReplayRun, IsRunOf, IsShowRun, IsStatus, IsUpdateRun}
+use Rattle.input_lines.specs.Ending.{Ending}
+use Rattle.sb_client.specs.Ending.{run_status_after, run_status_of}
+use Rattle.sb_client.specs.Honest.{HoldsWhereHonest, KeepsStores}
+use Rattle.sb_client.specs.Runs.{AreCounted, EndsCounting, IsCountRun, IsFaultOf, IsReplayRun, IsRunOf, IsShowRun, IsStatus, IsUpdateRun}
 use Rattle.sb_client.proofs.Endings.{known_status, no_fault}
 
 -- ---- a run of updates
-
-pub run_ended : {plan : Plan} {before after : Seen} (ending : RunEnding) → IfOk ending (λ refused. IsRun plan refused before after)
-    → (IsErrOf ending stop.WriteFault → StopsAfter plan before after) → (IsErrOf ending stop.KeepFault → StopsAtKeeper plan before after)
-    → (IsErrOf ending stop.OutOfMemory → StopsForMemory plan before after) → EndsUpdating plan ending before after
-run_ended (Ok refused) whole short unkept memory = whole
-run_ended (Err stop.WriteFault) whole short unkept memory = short refl
-run_ended (Err stop.KeepFault) whole short unkept memory = unkept refl
-run_ended (Err stop.OutOfMemory) whole short unkept memory = memory refl
 
 -- a status that a stop has is of that stop
 pub write_stop : (ending : RunEnding) (status : ℕ) → status ≡ run_status_of ending → status ≡ 3 → IsErrOf ending stop.WriteFault
@@ -50,18 +49,48 @@ run_fault_of ending stop status told is rose kept = record {
   kept = λ other. kept (λ e. other (told ∙ ap run_status_of e));
 }
 
-any_by : (plan : Plan) (before after : Seen) (ending : RunEnding) → EndsUpdating plan ending before after → IsAnyRun plan before after
-any_by plan before after (Ok true) done = inl done
-any_by plan before after (Ok false) done = inr (inl done)
-any_by plan before after (Err stop.WriteFault) done = inr (inr (inl done))
-any_by plan before after (Err stop.KeepFault) done = inr (inr (inr (inl done)))
-any_by plan before after (Err stop.OutOfMemory) done = inr (inr (inr (inr done)))
+-- the last of a run's bodies may not have been taken exactly with the status 8
+lacks_by : (ending : RunEnding) (status : ℕ) → status ≡ run_status_of ending → lacks_memory ending ≡ (status == 8)
+lacks_by (Ok false) status told = rw told refl
+lacks_by (Ok true) status told = rw told refl
+lacks_by (Err stop.WriteFault) status told = rw told refl
+lacks_by (Err stop.KeepFault) status told = rw told refl
+lacks_by (Err stop.OutOfMemory) status told = rw told refl
 
--- with each status it is a run
-pub any_run : {plan : Plan} {status : ℕ} {before after : Seen} → IsUpdateRun plan status before after → IsAnyRun plan before after
-any_run {plan = plan} {before = before} {after = after} run = any_by plan before after run.ending run.done
+module _ (law : HoldsOfRuns) (plan : Plan) (status : ℕ) (before after : Seen) (run : IsUpdateRun plan status before after) where
+  headline : IsHeadline plan run.ending before after
+  headline = law plan run.ending before after run.done
 
-whole_by : (plan : Plan) (before after : Seen) (ending : RunEnding) (status : ℕ) → status ≡ run_status_of ending → EndsUpdating plan ending before after
+  taken_then : HasTaken (status == 8) before.outside.log after.outside.log headline.taken
+  taken_then = subst (λ (lacks : Bool). HasTaken lacks before.outside.log after.outside.log headline.taken) (lacks_by run.ending status run.told) headline.some
+
+  pub run_hands : HoldsWhereHonest plan status before after HandsReplicas
+  run_hands = record { taken = headline.taken; some = taken_then; holds = λ history token_at meets. (headline.holds history token_at meets).hands }
+
+  pub run_keeps : HoldsWhereHonest plan status before after KeepsStores
+  run_keeps = record { taken = headline.taken; some = taken_then; holds = λ history token_at meets. (headline.holds history token_at meets).keeps }
+
+tells_by : {history : History} {token_at : Naming} {plan : Plan} {before after : Seen} (ending : RunEnding) (status : ℕ) → status ≡ run_status_of ending → (status ≡ 0) ⊎ (status ≡ 5)
+    → TellsAtEnd history token_at plan ending before after → TellsReplicas history token_at plan before after
+tells_by (Ok refused) status told end tells = tells
+tells_by (Err stop.WriteFault) status told (inl h) tells = absurd (cc)
+tells_by (Err stop.WriteFault) status told (inr h) tells = absurd (cc)
+tells_by (Err stop.KeepFault) status told (inl h) tells = absurd (cc)
+tells_by (Err stop.KeepFault) status told (inr h) tells = absurd (cc)
+tells_by (Err stop.OutOfMemory) status told (inl h) tells = absurd (cc)
+tells_by (Err stop.OutOfMemory) status told (inr h) tells = absurd (cc)
+
+pub run_tells : (law : HoldsOfRuns) (plan : Plan) (status : ℕ) (before after : Seen) → IsUpdateRun plan status before after → (status ≡ 0) ⊎ (status ≡ 5)
+    → HoldsWhereHonest plan status before after TellsReplicas
+run_tells law plan status before after run end =
+    let headline = law plan run.ending before after run.done in
+    record {
+      taken = headline.taken;
+      some = subst (λ (lacks : Bool). HasTaken lacks before.outside.log after.outside.log headline.taken) (lacks_by run.ending status run.told) headline.some;
+      holds = λ history token_at meets. tells_by run.ending status run.told end (headline.holds history token_at meets).tells;
+    }
+
+whole_by : (plan : Plan) (before after : Seen) (ending : RunEnding) (status : ℕ) → status ≡ run_status_of ending → EndsRun plan ending before after
     → (status ≡ 0) ⊎ (status ≡ 5) → (refused : Bool) × IsRun plan refused before after
 whole_by plan before after (Ok refused) status told done end = (refused, done)
 whole_by plan before after (Err stop.WriteFault) status told done (inl h) = absurd (cc)

@@ -1,15 +1,15 @@
 -- One line more of shown URLs.
+use Rattle.input_lines.specs.Lines.{numbered}
 use Rattle.std.proofs.Common.{◌≡◌, ◌≢◌, ℕ, ◌+◌, List, [], ◌∷◌, ◌++◌, Bool, true, false, refl, ap, ◌∙◌, append_assoc, codes, Ok, Err, Result}
 use Rattle.std.specs.Prelude.{◌||◌}
 use Rattle.std.specs.List.{flat_map}
 use Rattle.url_canon.specs.Url.{Url, text_of}
 use Rattle.url_canon.specs.Canonical.{canonical_of}
+use Rattle.url_canon.specs.Printed.{url_cause}
 use Rattle.url_canon.specs.declared.fault.UrlFault.{UrlFault}
-use Rattle.sb_client.specs.Shown.{url_cause, expression_line, shown_lines, all_shown, is_refused_url, has_refused_url}
+use Rattle.sb_client.specs.Shown.{expression_line, shown_lines, all_shown, is_refused_url, has_refused_url}
 use Rattle.url_expressions.specs.Expressions.{expressions_of}
-use Rattle.sb_client.specs.Printed.{numbered}
-use Rattle.sb_client.proofs.Ways.{some_front}
-use Rattle.sb_client.proofs.Replays.{numbered_some}
+use Rattle.input_lines.specs.Ways.{numbered_some, some_front}
 
 -- a text has a line
 pub shown_some : (number : ℕ) (found : Result Url UrlFault) → shown_lines number found ≢ []

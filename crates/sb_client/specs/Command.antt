@@ -6,6 +6,7 @@ use Rattle.sb_model.specs.declared.names.ListName.{ListName}
 use Rattle.sb_words.specs.declared.shape.OptionKind.TheVariants.{Needed, Optional, Flag}
 use Rattle.sb_words.specs.CommandLine.{Text, CommandOption, CommandShape, Given, given_of, value_among}
 use Rattle.sb_words.specs.Values.{number_of, lists_of, is_key, host_port_of}
+use Rattle.http_edge.specs.Exchanges.{IsTarget}
 use Rattle.update_client.specs.declared.options.FetchOptions.{FetchOptions}
 use Rattle.update_run.specs.declared.plan.Plan.{Plan}
 use Rattle.sb_client.specs.declared.command.Command.{Command}
@@ -44,11 +45,11 @@ replay_of words = option_and_then lists_given (given_to (codes "sbupdate") (code
 
 -- ---- `sbupdate run`
 
--- `run` needs a store, a server and a number of rounds, may have a key, two limits and two flags, and takes positional words.
+-- `run` needs a store and a server, may have a number of rounds, a key, two limits and two flags, and takes positional words.
 abbrev pub run_shape : CommandShape
 run_shape = record {
   options =
-      needed (codes "store") ∷ needed (codes "server") ∷ needed (codes "rounds")
+      needed (codes "store") ∷ needed (codes "server") ∷ optional (codes "rounds")
       ∷ optional (codes "key") ∷ optional (codes "max-update") ∷ optional (codes "max-database")
       ∷ flag (codes "raw-only") ∷ flag (codes "no-digest") ∷ [];
   takes_positionals = true;
@@ -59,9 +60,13 @@ abbrev pub server_given : List (Text × Text) → Option Text
 server_given named =
     option_and_then (λ text. option_map (λ _. text) (host_port_of text)) (value_among (codes "server") named)
 
--- how many rounds: 1 to 1,024
+-- how many rounds: 1 to 1,024, and 4,294,967,295 where the words do not say
+abbrev pub rounds_of : Option Text → Option ℕ
+rounds_of None = Some 4294967295
+rounds_of (Some text) = number_of 1 1024 text
+
 abbrev pub rounds_given : List (Text × Text) → Option ℕ
-rounds_given named = option_and_then (number_of 1 1024) (value_among (codes "rounds") named)
+rounds_given named = rounds_of (value_among (codes "rounds") named)
 
 -- the key, which is empty where there is none
 abbrev pub key_of : Option Text → Option Text
@@ -138,7 +143,7 @@ run_with names named =
 abbrev pub run_given : Given → Option RunWords
 run_given given = option_and_then (λ names. run_with names given.named) (lists_given given)
 
--- what the words of `sbupdate run --store PATH --server HOST:PORT --rounds N .. LIST..` say, where they are such words
+-- what the words of `sbupdate run --store PATH --server HOST:PORT .. LIST..` say, where they are such words
 abbrev pub run_of : List Text → Option RunWords
 run_of words = option_and_then run_given (given_to (codes "sbupdate") (codes "run") run_shape words)
 
@@ -176,9 +181,9 @@ IsCommandOf words (Some Vectors) = asks_vectors words ≡ true
 abbrev pub AreFew : List ListName → Type 0
 AreFew names = (0 < length names) × (length names ≤ 8)
 
--- what the lists of a command keep to: they are 1 to 8
-abbrev pub AreFewLists : Command → Type 0
-AreFewLists (Replay names) = AreFew names
-AreFewLists (Run plan) = AreFew plan.names
-AreFewLists Show = Unit {0}
-AreFewLists Vectors = Unit {0}
+-- What a command keeps to: its lists are 1 to 8, and the host and the key that it asks with stand each in one line.
+abbrev pub IsSound : Command → Type 0
+IsSound (Replay names) = AreFew names
+IsSound (Run plan) = AreFew plan.names × IsTarget plan.target
+IsSound Show = Unit {0}
+IsSound Vectors = Unit {0}

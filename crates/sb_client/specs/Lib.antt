@@ -1,10 +1,7 @@
 pub mod Command
 pub mod Ending
-pub mod Example
-pub mod Printed
-pub mod Readings
-pub mod Replay
+pub mod Honest
 pub mod Runs
+pub mod Served
 pub mod Show
 pub mod Shown
-pub mod Writing

@@ -4,14 +4,14 @@ use Rattle.std.specs.Prelude.{◌≡◌, ◌≢◌, ◌⊎◌, ℕ, ◌-◌, ◌
 use Rattle.sb_model.specs.declared.names.ListName.{ListName}
 use Rattle.sb_outside.specs.Outside.{appended, Rose}
 use Rattle.sb_outside.specs.Writing.{HasFront}
-use Rattle.update_run.specs.Run.{Seen, IsRun, StopsAfter, StopsAtKeeper, StopsForMemory}
+use Rattle.update_run.specs.Run.{Seen, RunEnding, EndsRun}
 use Rattle.update_run.specs.declared.plan.Plan.{Plan}
-use Rattle.update_run.specs.declared.stop.RunStop.TheVariants as stop
 use Rattle.sb_client.specs.declared.command.Command.{Command}
 use Rattle.sb_client.specs.declared.command.Command.TheVariants.{Replay, Run, Show, Vectors}
-use Rattle.sb_client.specs.declared.stop.Stop.TheVariants.{WriteFault, OutOfMemory}
-use Rattle.sb_client.specs.Ending.{Ending, RunEnding, status_of, run_status_of, IsReadingRun}
-use Rattle.sb_client.specs.Replay.{IsPrinted, IsPartlyPrinted}
+use Rattle.input_lines.specs.declared.stop.Stop.TheVariants.{WriteFault, OutOfMemory}
+use Rattle.input_lines.specs.Ending.{Ending}
+use Rattle.sb_client.specs.Ending.{status_of, run_status_of, IsReadingRun}
+use Rattle.update_replay.specs.Replay.{IsPrinted, IsPartlyPrinted}
 use Rattle.sb_client.specs.Show.{IsShown, IsPartlyShown, IsCounted, IsPartlyCounted}
 
 -- each exit status that a run can have
@@ -60,17 +60,11 @@ pub record IsCountRun (status : ℕ) (held held' : Option (List ℕ)) : Type 0 w
 
 -- ---- `run`
 
-abbrev pub EndsUpdating : Plan → RunEnding → (before after : Seen) → Type 0
-EndsUpdating plan (Ok refused) before after = IsRun plan refused before after
-EndsUpdating plan (Err stop.WriteFault) before after = StopsAfter plan before after
-EndsUpdating plan (Err stop.KeepFault) before after = StopsAtKeeper plan before after
-EndsUpdating plan (Err stop.OutOfMemory) before after = StopsForMemory plan before after
-
 -- the lists of a plan are kept up to date; 5 tells of a refusal, or of a round without a response
 pub record IsUpdateRun (plan : Plan) (status : ℕ) (before after : Seen) : Type 0 where
   pub ending : RunEnding
   pub told : status ≡ run_status_of ending
-  pub done : EndsUpdating plan ending before after
+  pub done : EndsRun plan ending before after
 
 -- ---- any command
 

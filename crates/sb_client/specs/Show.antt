@@ -1,9 +1,10 @@
 -- What `show` and `vectors` say of their input and their output.
-use Rattle.std.specs.Prelude.{◌≡◌, ◌↔◌, ℕ, Bool, List, ◌∷◌, [], ◌++◌, length, Option, IfSome, IsTrue, All, codes, decimal}
+use Rattle.std.specs.Prelude.{◌≡◌, ◌↔◌, ℕ, Bool, List, ◌∷◌, [], ◌++◌, length, map, Option, IfSome, IsTrue, All, codes, decimal}
 use Rattle.sb_outside.specs.Outside.{next_piece, left_after_end, appended}
 use Rattle.sb_outside.specs.Writing.{HasFront}
 use Rattle.conformance_vectors.specs.declared.case.Case.{Case}
 use Rattle.conformance_vectors.specs.Vectors.{Meets, MeetCount}
+use Rattle.conformance_vectors.specs.Published.{held_by, published}
 use Rattle.input_lines.specs.Lines.{newline, lines_of, IsWithinLimits}
 use Rattle.sb_client.specs.Shown.{show_text, has_refused_url}
 
@@ -28,10 +29,10 @@ pub record IsPartlyShown (left left' : Option (List (List ℕ))) (held held' : O
 abbrev pub count_text : ℕ → ℕ → List ℕ
 count_text passed all = codes "vectors " ++ decimal passed ++ codes " of " ++ decimal all ++ newline ∷ []
 
--- The examples were counted: 35 cases, how many of them the definitions meet, and whether these are all.
+-- The published examples were counted: how many of their cases the definitions meet, and whether these are all.
 pub record IsCounted (all_met : Bool) (held held' : Option (List ℕ)) : Type 0 where
   pub cases : List Case
-  pub many : length cases ≡ 35
+  pub are : map held_by cases ≡ published
   pub passed : ℕ
   pub count : MeetCount cases passed
   pub met : IsTrue all_met ↔ All Meets cases
@@ -40,7 +41,7 @@ pub record IsCounted (all_met : Bool) (held held' : Option (List ℕ)) : Type 0 
 -- They were counted, and a front of the text is there, of which something is missing.
 pub record IsPartlyCounted (held held' : Option (List ℕ)) : Type 0 where
   pub cases : List Case
-  pub many : length cases ≡ 35
+  pub are : map held_by cases ≡ published
   pub passed : ℕ
   pub count : MeetCount cases passed
   pub front : HasFront held held' (count_text passed (length cases))

@@ -1,22 +1,14 @@
 -- The printed text of URLs, each with its expressions.
-use Rattle.std.specs.Prelude.{ℕ, ◌+◌, Bool, true, false, List, [], ◌∷◌, ◌++◌, Result, Ok, Err, codes, decimal}
+use Rattle.std.specs.Prelude.{ℕ, ◌+◌, Bool, true, false, List, [], ◌∷◌, ◌++◌, Result, Ok, Err, codes}
 use Rattle.std.specs.List.{flat_map, list_any}
 use Rattle.hex.specs.Hex.{encode_lower}
 use Rattle.sha2.specs.Sha256.{sha256}
 use Rattle.url_canon.specs.Url.{Url, text_of}
 use Rattle.url_canon.specs.Canonical.{canonical_of}
 use Rattle.url_canon.specs.declared.fault.UrlFault.{UrlFault}
-use Rattle.url_canon.specs.declared.fault.UrlFault.TheVariants.{Empty, NoHost, TooLong, OutOfMemory}
+use Rattle.url_canon.specs.Printed.{url_cause}
 use Rattle.url_expressions.specs.Expressions.{expressions_of}
-use Rattle.input_lines.specs.Lines.{newline, lines_of}
-use Rattle.sb_client.specs.Printed.{numbered}
-
--- why a text has no canonical URL; want of memory is never told
-abbrev pub url_cause : UrlFault → List ℕ
-url_cause Empty = codes "empty"
-url_cause NoHost = codes "no-host"
-url_cause (TooLong len) = codes "too-long " ++ decimal len
-url_cause OutOfMemory = []
+use Rattle.input_lines.specs.Lines.{numbered, newline, lines_of}
 
 -- an expression after its hash
 abbrev pub expression_line : List ℕ → List ℕ

@@ -1,4 +1,4 @@
-ghost use Rattle.std.specs.Prelude.{◌≡◌, ◌≢◌, ◌⊎◌, ◌<◌, ◌≤◌, ℕ, List, [], length, map, string_bytes, if◌then◌else◌, None, Some, true, false};
+ghost use Rattle.std.specs.Prelude.{◌≡◌, ◌≢◌, ◌⊎◌, ◌<◌, ◌≤◌, ℕ, List, [], length, map, string_bytes, if◌then◌else◌, Option, None, Some, true, false, All};
 ghost use Rattle.sb_model.specs.declared.names.ListName.{ListName};
 ghost use Rattle.sb_model.specs.History.{History, IsWellFormed};
 ghost use Rattle.sb_model.specs.Naming.{Naming, IsNaming};
@@ -6,36 +6,41 @@ ghost use Rattle.sb_outside.specs.Outside.{next_piece};
 ghost use Rattle.update_client.specs.Held.{most_lists, nothing_held_of};
 ghost use Rattle.sb_round.specs.Honest.{IsHonest};
 ghost use Rattle.sb_round.specs.Collision.{candidates_of, HasNoCollision};
-ghost use Rattle.sb_round.specs.Round.{outside};
+ghost use Rattle.timed_sessions.specs.Told.{outside};
 ghost use Rattle.update_run.specs.Saved.{keeping};
 ghost use Rattle.update_run.specs.Run.{seen};
-ghost use Rattle.update_run.specs.Law.{MeetsHonest, HandsReplicas, TellsReplicas};
+ghost use Rattle.http_edge.specs.Exchanges.{IsTarget};
+ghost use Rattle.honest_runs.specs.Replicas.{HandsReplicas, TellsReplicas};
 ghost use Rattle.update_run.specs.declared.plan.Plan.{Plan as PlanOf};
-ghost use Rattle.sb_client.specs.Command.{replay_of, run_of, asks_show, asks_vectors, IsNoCommand, AreFewLists, RunWords};
+ghost use Rattle.sb_client.specs.Command.{replay_of, run_of, asks_show, asks_vectors, IsNoCommand, IsSound, RunWords};
 ghost use Rattle.input_lines.specs.Lines.{lines_of, IsWithinLimits};
-ghost use Rattle.sb_client.specs.Readings.{Reading, AreReadings, bodies_of};
+ghost use Rattle.update_replay.specs.Readings.{Reading, AreReadings, bodies_of};
 ghost use Rattle.sb_client.specs.Ending.{run_status_after, run_status_of, status_after, status_of};
-ghost use Rattle.sb_client.specs.Replay.{PrintsReplicas};
+ghost use Rattle.update_replay.specs.Replay.{PrintsReplicas};
+ghost use Rattle.sb_client.specs.Honest.{HoldsWhereHonest, KeepsStores};
+ghost use Rattle.sb_client.specs.Served.{MeetsAnswers, TellsComplete, MeetsVersions, TellsVersions};
+ghost use Rattle.served_runs.specs.Answered.{IsAnsweredIn};
+ghost use Rattle.sb_outside.specs.declared.links.Session.{Session};
 ghost use Rattle.sb_client.specs.Runs.{AreCounted, HasNoFault, IsCountRun, IsFaultOf, IsReplayRun, IsRunOf, IsShowRun, IsStatus, IsUpdateRun, IsUsageRun, TellsUsage};
 
 use crate::command::{Command, command_of};
-use crate::replay::replay;
 use crate::show::show;
-use crate::stop::Stop;
 use crate::vectors::vectors;
-use input_lines::fronts_are_within;
+use honest_runs::runs_hold;
+use input_lines::{Stop, fronts_are_within};
 use sb_model::{ListName, OutOfMemory};
 use sb_outside::{Clock, Dice, Gate, Keeper, Link, Sink, Source, write_all};
-use sb_round::replicas_stay;
+use sb_round::rounds_are_their_sessions;
+use served_runs::{answered_runs_are_complete, answered_runs_keep_versions};
 use std::alloc::Global;
 use std::sync::Wait;
 use std::thread::Threads;
-use update_messages::{values_read_one_way, values_read_or_have_a_fault};
-use update_run::{Plan, RunStop, run, runs_save_replicas};
+use update_replay::{replay, replays_print_replicas};
+use update_run::{Plan, RunStop, run};
 
 /// What is printed where the words are no command line.
 pub const USAGE: &str = "usage: sbupdate replay LIST...\n       \
-    sbupdate run --store PATH --server HOST:PORT --rounds N [--key KEY] [--max-update N] [--max-database N] [--raw-only] [--no-digest] LIST...\n       \
+    sbupdate run --store PATH --server HOST:PORT [--rounds N] [--key KEY] [--max-update N] [--max-database N] [--raw-only] [--no-digest] LIST...\n       \
     sbcheck show\n       sbcheck vectors\n";
 
 /// Tells how the program is used.
@@ -129,10 +134,11 @@ fn run_status<O: Sink, K: Keeper, L: Link, C: Clock, D: Dice, G: Gate>(
 ) -> u8
     requires some { 0 < length plan.now.names }
     requires few { length plan.now.names ≤ most_lists }
+    requires target { IsTarget plan.now.target }
     ensures runs { IsUpdateRun plan.now result
-        (seen (outside (L.log link.old) (C.answers clock.old) (D.given dice.old))
+        (seen (outside (L.log link.old) (C.answers clock.old) (C.waits clock.old) (D.given dice.old))
         (keeping (K.handed keep.old) (K.kept keep.old)) (O.contents out.old))
-        (seen (outside (L.log link.new) (C.answers clock.new) (D.given dice.new))
+        (seen (outside (L.log link.new) (C.answers clock.new) (C.waits clock.new) (D.given dice.new))
         (keeping (K.handed keep.new) (K.kept keep.new)) (O.contents out.new)) }
     ensures written { IsFaultOf 3 result (O.faults out.old) (O.faults out.new) }
     ensures saved { IsFaultOf 4 result (K.faults keep.old) (K.faults keep.new) }
@@ -171,11 +177,11 @@ fn run_command<S: Source, O: Sink, K: Keeper, L: Link, C: Clock, D: Dice, G: Gat
     dice: &mut D,
     gate: &G,
 ) -> u8
-    requires { AreFewLists command }
+    requires { IsSound command }
     ensures does { IsRunOf command result (S.left input.old) (S.left input.new)
-        (seen (outside (L.log link.old) (C.answers clock.old) (D.given dice.old))
+        (seen (outside (L.log link.old) (C.answers clock.old) (C.waits clock.old) (D.given dice.old))
         (keeping (K.handed keep.old) (K.kept keep.old)) (O.contents out.old))
-        (seen (outside (L.log link.new) (C.answers clock.new) (D.given dice.new))
+        (seen (outside (L.log link.new) (C.answers clock.new) (C.waits clock.new) (D.given dice.new))
         (keeping (K.handed keep.new) (K.kept keep.new)) (O.contents out.new)) }
     ensures unread { ((names : List ListName) → command ≢ Command.Replay names) → command ≢ Command.Show → input.new ≡ input.old }
     ensures unwritten { (result ≡ 2) ⊎ (result ≡ 6) → out.new ≡ out.old }
@@ -201,8 +207,8 @@ fn run_command<S: Source, O: Sink, K: Keeper, L: Link, C: Clock, D: Dice, G: Gat
 ///
 /// `run` asks the server at the other end of the link for updates. It loads the lists that the keeper keeps, or begins
 /// with empty ones, makes as many rounds as the words say, has the keeper keep the lists after each round that installed
-/// one, and writes what became of each round and at the end a line for each list. The gate is passed before each
-/// round.
+/// one, and writes what became of each round and at the end a line for each list. Where they say no number of rounds, it makes
+/// 4,294,967,295. What was printed is written before each round, and then the gate is passed.
 ///
 /// `show` reads the input likewise, takes each line as a URL, and writes its canonical text and its expressions, each
 /// after its SHA-256. `vectors` reads nothing, and writes how many of the published examples are met. Neither these nor `replay` use the
@@ -253,9 +259,9 @@ pub fn run_client<
     ensures replays { (names : List ListName) → replay_of (map string_bytes words.now) ≡ Some names
         → IsReplayRun names result (S.left input.old) (S.left input.new) (O.contents out.old) (O.contents out.new) }
     ensures runs { (line : RunWords) → run_of (map string_bytes words.now) ≡ Some line → IsUpdateRun line.plan result
-        (seen (outside (L.log link.old) (C.answers clock.old) (D.given dice.old))
+        (seen (outside (L.log link.old) (C.answers clock.old) (C.waits clock.old) (D.given dice.old))
         (keeping (K.handed keep.old) (K.kept keep.old)) (O.contents out.old))
-        (seen (outside (L.log link.new) (C.answers clock.new) (D.given dice.new))
+        (seen (outside (L.log link.new) (C.answers clock.new) (C.waits clock.new) (D.given dice.new))
         (keeping (K.handed keep.new) (K.kept keep.new)) (O.contents out.new)) }
     ensures shows { asks_show (map string_bytes words.now) ≡ true
         → IsShowRun result (S.left input.old) (S.left input.new) (O.contents out.old) (O.contents out.new) }
@@ -302,38 +308,68 @@ pub fn run_client<
         → (result ≡ 0) ⊎ (result ≡ 5)
         → PrintsReplicas history token_at names readings (O.contents out.old) (O.contents out.new) }
 
-    // The headline of a run: where it begins with replicas of the server's lists and the bodies that the server sent are
-    // honest and no digest collides, each text that the keeper is handed is the store of replicas, wherever the run
-    // ends, and so are the lists that it prints.
-    ensures saves { (line : RunWords) (history : History) (token_at : Naming) → run_of (map string_bytes words.now) ≡ Some line
-        → MeetsHonest history token_at line.plan
-        (seen (outside (L.log link.old) (C.answers clock.old) (D.given dice.old))
+    // The headline of a run: where it begins with replicas of the server's lists, and those of the log's bodies that it took are honest
+    // and no digest collides, then, wherever the run ends, each text that the keeper is handed is the store of replicas, and what it
+    // keeps is what it kept, or no store, or reads as replicas; and at the end the lists are printed, as replicas.
+    ensures saves { (line : RunWords) → run_of (map string_bytes words.now) ≡ Some line → HoldsWhereHonest line.plan result
+        (seen (outside (L.log link.old) (C.answers clock.old) (C.waits clock.old) (D.given dice.old))
         (keeping (K.handed keep.old) (K.kept keep.old)) (O.contents out.old))
-        (seen (outside (L.log link.new) (C.answers clock.new) (D.given dice.new))
+        (seen (outside (L.log link.new) (C.answers clock.new) (C.waits clock.new) (D.given dice.new))
+        (keeping (K.handed keep.new) (K.kept keep.new)) (O.contents out.new)) HandsReplicas }
+    ensures keeps { (line : RunWords) → run_of (map string_bytes words.now) ≡ Some line → HoldsWhereHonest line.plan result
+        (seen (outside (L.log link.old) (C.answers clock.old) (C.waits clock.old) (D.given dice.old))
+        (keeping (K.handed keep.old) (K.kept keep.old)) (O.contents out.old))
+        (seen (outside (L.log link.new) (C.answers clock.new) (C.waits clock.new) (D.given dice.new))
+        (keeping (K.handed keep.new) (K.kept keep.new)) (O.contents out.new)) KeepsStores }
+    ensures tells { (line : RunWords) → run_of (map string_bytes words.now) ≡ Some line → (result ≡ 0) ⊎ (result ≡ 5)
+        → HoldsWhereHonest line.plan result
+        (seen (outside (L.log link.old) (C.answers clock.old) (C.waits clock.old) (D.given dice.old))
+        (keeping (K.handed keep.old) (K.kept keep.old)) (O.contents out.old))
+        (seen (outside (L.log link.new) (C.answers clock.new) (C.waits clock.new) (D.given dice.new))
+        (keeping (K.handed keep.new) (K.kept keep.new)) (O.contents out.new)) TellsReplicas }
+
+    // Completeness of a run, over its words, its store and its log: where it asks a server of this history from replicas, and each session was
+    // answered by the server or lost, each round that was answered prints `ok` and that each of its updates is installed; and where none was
+    // lost, no refusal is told.
+    ensures installs { (line : RunWords) (history : History) (token_at : Naming) (kept : Option (List ℕ)) (sessions : List Session)
+        → run_of (map string_bytes words.now) ≡ Some line → (result ≡ 0) ⊎ (result ≡ 5) → MeetsAnswers history token_at line.plan kept sessions
+        (seen (outside (L.log link.old) (C.answers clock.old) (C.waits clock.old) (D.given dice.old))
+        (keeping (K.handed keep.old) (K.kept keep.old)) (O.contents out.old))
+        (seen (outside (L.log link.new) (C.answers clock.new) (C.waits clock.new) (D.given dice.new))
         (keeping (K.handed keep.new) (K.kept keep.new)) (O.contents out.new))
-        → HandsReplicas history token_at
-        (seen (outside (L.log link.old) (C.answers clock.old) (D.given dice.old))
+        → TellsComplete history token_at line.plan kept sessions
+        (seen (outside (L.log link.old) (C.answers clock.old) (C.waits clock.old) (D.given dice.old))
         (keeping (K.handed keep.old) (K.kept keep.old)) (O.contents out.old))
-        (seen (outside (L.log link.new) (C.answers clock.new) (D.given dice.new))
+        (seen (outside (L.log link.new) (C.answers clock.new) (C.waits clock.new) (D.given dice.new))
         (keeping (K.handed keep.new) (K.kept keep.new)) (O.contents out.new)) }
-    ensures tells { (line : RunWords) (history : History) (token_at : Naming) → run_of (map string_bytes words.now) ≡ Some line
-        → MeetsHonest history token_at line.plan
-        (seen (outside (L.log link.old) (C.answers clock.old) (D.given dice.old))
+    ensures answered { (line : RunWords) (history : History) (token_at : Naming) (kept : Option (List ℕ)) (sessions : List Session)
+        → run_of (map string_bytes words.now) ≡ Some line → MeetsAnswers history token_at line.plan kept sessions
+        (seen (outside (L.log link.old) (C.answers clock.old) (C.waits clock.old) (D.given dice.old))
         (keeping (K.handed keep.old) (K.kept keep.old)) (O.contents out.old))
-        (seen (outside (L.log link.new) (C.answers clock.new) (D.given dice.new))
+        (seen (outside (L.log link.new) (C.answers clock.new) (C.waits clock.new) (D.given dice.new))
         (keeping (K.handed keep.new) (K.kept keep.new)) (O.contents out.new))
-        → (result ≡ 0) ⊎ (result ≡ 5)
-        → TellsReplicas history token_at
-        (seen (outside (L.log link.old) (C.answers clock.old) (D.given dice.old))
+        → All (IsAnsweredIn history token_at line.plan.target) sessions → result ≢ 5 }
+
+    // Versions do not go back: where the versions at which the server answered do not fall, no list that is printed is at a version
+    // below that at which the run began with it.
+    ensures versions { (line : RunWords) (history : History) (token_at : Naming) (least : ℕ) (kept : Option (List ℕ)) (sessions : List Session)
+        → run_of (map string_bytes words.now) ≡ Some line → (result ≡ 0) ⊎ (result ≡ 5) → MeetsVersions history token_at least line.plan kept sessions
+        (seen (outside (L.log link.old) (C.answers clock.old) (C.waits clock.old) (D.given dice.old))
         (keeping (K.handed keep.old) (K.kept keep.old)) (O.contents out.old))
-        (seen (outside (L.log link.new) (C.answers clock.new) (D.given dice.new))
+        (seen (outside (L.log link.new) (C.answers clock.new) (C.waits clock.new) (D.given dice.new))
+        (keeping (K.handed keep.new) (K.kept keep.new)) (O.contents out.new))
+        → TellsVersions history token_at least line.plan kept sessions
+        (seen (outside (L.log link.old) (C.answers clock.old) (C.waits clock.old) (D.given dice.old))
+        (keeping (K.handed keep.old) (K.kept keep.old)) (O.contents out.old))
+        (seen (outside (L.log link.new) (C.answers clock.new) (C.waits clock.new) (D.given dice.new))
         (keeping (K.handed keep.new) (K.kept keep.new)) (O.contents out.new)) }
 {
     fronts_are_within();
-    values_read_one_way();
-    values_read_or_have_a_fault();
-    replicas_stay();
-    runs_save_replicas();
+    replays_print_replicas();
+    runs_hold();
+    rounds_are_their_sessions();
+    answered_runs_are_complete();
+    answered_runs_keep_versions();
     match command_of(alloc, words) {
         Ok(Some(command)) => run_command(alloc, command, input, out, keep, link, clock, dice, gate),
         Ok(None) => tell_usage(out),

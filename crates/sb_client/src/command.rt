@@ -30,7 +30,7 @@ const RUN: Shape = Shape {
         },
         OptionShape {
             name: "rounds",
-            kind: OptionKind::Needed,
+            kind: OptionKind::Optional,
         },
         OptionShape {
             name: "key",
@@ -56,8 +56,11 @@ const RUN: Shape = Shape {
     takes_positionals: true,
 };
 
-/// The most rounds of a run.
+/// The most rounds that the words can say.
 const MOST_ROUNDS: u64 = 1024;
+
+/// How many rounds a run makes whose words say none: with a minute each, some 8,000 years.
+const ROUNDS_UNSAID: u32 = 4_294_967_295;
 
 /// The most entries of a limit.
 const MOST_ENTRIES: u64 = 2_147_483_647;
@@ -143,11 +146,13 @@ fn server_in<'a>(given: &Words<'a>) -> Option<&'a str>
     }
 }
 
-/// How many rounds the words give.
+/// How many rounds the words give, or leave open.
 fn rounds_in(given: &Words<'_>) -> Option<u32>
     ensures { result ≡ rounds_given given.now.named }
 {
-    let text = given.value("rounds")?;
+    let Some(text) = given.value("rounds") else {
+        return Some(ROUNDS_UNSAID);
+    };
     match number(text, 1, MOST_ROUNDS) {
         Some(rounds) => Some(rounds as u32),
         None => None,

@@ -5,18 +5,12 @@
 #![tactic(auto)]
 
 pub use client::{USAGE, run_client};
-pub use laws::premises_are_met;
 pub use objects::Targets;
 pub use targeting::targets;
 
 mod client;
 mod command;
-mod laws;
-mod lines;
 mod objects;
-mod printing;
-mod replay;
 mod show;
-mod stop;
 mod targeting;
 mod vectors;

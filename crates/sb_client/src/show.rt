@@ -4,38 +4,22 @@ ghost use Rattle.sb_outside.specs.Outside.{Rose, appended};
 ghost use Rattle.sb_outside.specs.Writing.{IsOnItsWay, HasFront};
 ghost use Rattle.url_canon.specs.Url.{text_of};
 ghost use Rattle.url_canon.specs.Canonical.{canonical_of};
+ghost use Rattle.url_canon.specs.Printed.{url_cause};
 ghost use Rattle.url_expressions.specs.Expressions.{expressions_of};
-ghost use Rattle.input_lines.specs.Lines.{lines_of};
+ghost use Rattle.input_lines.specs.Lines.{numbered, lines_of};
 ghost use Rattle.input_lines.specs.declared.input.TheConstants.{MAX_INPUT};
-ghost use Rattle.sb_client.specs.Printed.{numbered};
-ghost use Rattle.sb_client.specs.Shown.{url_cause, expression_line, shown_lines, all_shown, show_text, is_refused_url, has_refused_url};
+ghost use Rattle.sb_client.specs.Shown.{expression_line, shown_lines, all_shown, show_text, is_refused_url, has_refused_url};
 ghost use Rattle.sb_client.specs.Show.{IsShown, IsPartlyShown};
 ghost use Rattle.input_lines.specs.Input.{GivesWithin, GivesPast};
-ghost use Rattle.sb_client.specs.Writing.{IsStopped};
+ghost use Rattle.input_lines.specs.Writing.{IsStopped};
 
-use crate::stop::Stop;
 use hash_prefixes::{append_hex, full_hash};
-use input_lines::{first_line, read_input};
+use input_lines::{Stop, first_line, read_input};
 use sb_model::{Bytes, OutOfMemory};
 use sb_outside::{Sink, Source, flush, flush_if_full};
 use std::alloc::Global;
-use url_canon::{CanonicalUrl, UrlFault, canonical};
+use url_canon::{CanonicalUrl, UrlFault, canonical, push_url_cause};
 use url_expressions::expressions;
-
-/// Appends why a text has no canonical URL.
-fn push_url_cause(page: &mut Bytes, fault: UrlFault) -> Result<(), OutOfMemory>
-    ensures { OnOk result (page.new ≡ page.old ++ url_cause fault) }
-{
-    match fault {
-        UrlFault::Empty => page.append(b"empty"),
-        UrlFault::NoHost => page.append(b"no-host"),
-        UrlFault::TooLong(len) => {
-            page.append(b"too-long ")?;
-            page.append_decimal(len as u64)
-        }
-        UrlFault::OutOfMemory => Ok(()),
-    }
-}
 
 /// Appends the line of a text that has no canonical URL.
 fn push_refused(page: &mut Bytes, number: u64, fault: UrlFault) -> Result<(), OutOfMemory>

@@ -3,8 +3,8 @@ ghost use Rattle.sb_outside.specs.Outside.{Rose, appended};
 ghost use Rattle.conformance_vectors.specs.Vectors.{Meets, MeetCount};
 ghost use Rattle.sb_client.specs.Show.{count_text, IsCounted, IsPartlyCounted};
 
-use crate::stop::Stop;
 use conformance_vectors::{Case, published_cases, run_table};
+use input_lines::Stop;
 use sb_model::{Bytes, OutOfMemory};
 use sb_outside::{Sink, flush};
 use std::alloc::Global;

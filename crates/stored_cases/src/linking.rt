@@ -8,6 +8,7 @@ use sb_outside::MemorySource;
 
 const SETTINGS: Settings = Settings {
     wait: 1_800,
+    find_wait: 1_800,
     cache: 300,
     negative: 300,
 };
@@ -18,6 +19,7 @@ fn settings_of(reader: &Reader, place: &Place<'_>) -> Result<Settings, CaseFault
     match numbers.as_slice() {
         [wait, cache, negative] => Ok(Settings {
             wait: low_word(*wait),
+            find_wait: low_word(*wait),
             cache: low_word(*cache),
             negative: low_word(*negative),
         }),

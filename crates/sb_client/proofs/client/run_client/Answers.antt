@@ -1,12 +1,12 @@
-use Rattle.std.proofs.Common.{inl, inr, refl, map, string_bytes}
-use Rattle.sb_client.proofs.Commands.{is_found, few_lists_of, no_command, is_no_run, no_reader, replay_found, run_found, show_found, vectors_found, vectors_alone}
+use Rattle.std.proofs.Common.{refl, map, string_bytes}
+use Rattle.sb_client.proofs.Commands.{is_found, is_sound, no_command, is_no_run, no_reader, replay_found, run_found, show_found, vectors_found, vectors_alone}
 use Rattle.sb_client.proofs.Endings.{left_over, not_begun, not_risen, whole_of}
-use Rattle.sb_client.proofs.Headline.{prints_replicas}
-use Rattle.sb_client.proofs.Runs.{any_run, count_not_begun, left_to_run, none_counted, run_not_begun, run_of_plan, run_of_replay, run_of_show, run_of_vectors, status_of_run, whole_run}
+use Rattle.sb_client.proofs.Runs.{count_not_begun, left_to_run, none_counted, run_not_begun, run_of_plan, run_of_replay, run_hands, run_keeps, run_of_show, run_of_vectors, run_tells, status_of_run}
+use Rattle.sb_client.proofs.Served.{run_answered, run_complete, run_versions}
 use Rattle.sb_client.proofs.client.run_client.Goals as goal
 
 pub run_command-requires : goal.run_command-requires
-run_command-requires g c = few_lists_of (map string_bytes c.args.words.now) c.in-Ok-Some.command (is_found _ _ _ c.in-Ok-Some.field-0-is c.in-Ok-Some.ensures)
+run_command-requires g c = is_sound (map string_bytes c.args.words.now) c.in-Ok-Some.command (is_found _ _ _ c.in-Ok-Some.field-0-is c.in-Ok-Some.ensures)
 
 -- ---- the statuses
 
@@ -104,20 +104,40 @@ pub returns-in-Ok-Some-clause-replica : goal.returns-in-Ok-Some-clause-replica
 returns-in-Ok-Some-clause-replica g c names pieces readings history token_at words told read formed naming honest apart status =
     let replays = run_of_replay _ _ _ _ _ c.in-Ok-Some.command names (replay_found _ _ _ c.in-Ok-Some.field-0-is c.in-Ok-Some.ensures names words) c.run_command.ensures.does in
     let printed = whole_of replays status in
-    prints_replicas c.values_read_one_way.ensures.response c.values_read_or_have_a_fault.ensures.response c.replicas_stay.ensures names printed.0 _ _ _ _ printed.1
-    pieces readings history token_at told read formed naming honest apart
+    c.replays_print_replicas.ensures names printed.0 _ _ _ _ printed.1 pieces readings history token_at told read formed naming honest apart
 
 pub returns-in-Ok-Some-clause-saves : goal.returns-in-Ok-Some-clause-saves
-returns-in-Ok-Some-clause-saves g c line history token_at words meets =
-    let runs = run_of_plan _ _ _ _ _ c.in-Ok-Some.command line.plan (run_found _ _ _ c.in-Ok-Some.field-0-is c.in-Ok-Some.ensures line words) c.run_command.ensures.does in
-    c.runs_save_replicas.ensures.saved line.plan _ _ history token_at meets (any_run runs)
+returns-in-Ok-Some-clause-saves g c line words =
+    run_hands c.runs_hold.ensures line.plan _ _ _
+    (run_of_plan _ _ _ _ _ c.in-Ok-Some.command line.plan (run_found _ _ _ c.in-Ok-Some.field-0-is c.in-Ok-Some.ensures line words) c.run_command.ensures.does)
+
+pub returns-in-Ok-Some-clause-keeps : goal.returns-in-Ok-Some-clause-keeps
+returns-in-Ok-Some-clause-keeps g c line words =
+    run_keeps c.runs_hold.ensures line.plan _ _ _
+    (run_of_plan _ _ _ _ _ c.in-Ok-Some.command line.plan (run_found _ _ _ c.in-Ok-Some.field-0-is c.in-Ok-Some.ensures line words) c.run_command.ensures.does)
 
 pub returns-in-Ok-Some-clause-tells : goal.returns-in-Ok-Some-clause-tells
-returns-in-Ok-Some-clause-tells g c line history token_at words meets status =
-    let runs = run_of_plan _ _ _ _ _ c.in-Ok-Some.command line.plan (run_found _ _ _ c.in-Ok-Some.field-0-is c.in-Ok-Some.ensures line words) c.run_command.ensures.does in
-    let whole = whole_run runs status in
-    c.runs_save_replicas.ensures.printed line.plan _ _ history token_at whole.0 meets whole.1
+returns-in-Ok-Some-clause-tells g c line words status =
+    run_tells c.runs_hold.ensures line.plan _ _ _
+    (run_of_plan _ _ _ _ _ c.in-Ok-Some.command line.plan (run_found _ _ _ c.in-Ok-Some.field-0-is c.in-Ok-Some.ensures line words) c.run_command.ensures.does) status
 
 pub returns-in-Err-clause-saves : goal.returns-in-Err-clause-saves
-returns-in-Err-clause-saves g c line history token_at words meets =
-    c.runs_save_replicas.ensures.saved line.plan _ _ history token_at meets (inr (inr (inr (inr (inl refl)))))
+returns-in-Err-clause-saves g c line words = run_hands c.runs_hold.ensures line.plan 8 _ _ (run_not_begun line.plan _)
+
+pub returns-in-Err-clause-keeps : goal.returns-in-Err-clause-keeps
+returns-in-Err-clause-keeps g c line words = run_keeps c.runs_hold.ensures line.plan 8 _ _ (run_not_begun line.plan _)
+
+pub returns-in-Ok-Some-clause-installs : goal.returns-in-Ok-Some-clause-installs
+returns-in-Ok-Some-clause-installs g c line history token_at kept sessions words status meets =
+    run_complete c.rounds_are_their_sessions.ensures history token_at line.plan kept sessions _ _ c.answered_runs_are_complete.ensures _
+    (run_of_plan _ _ _ _ _ c.in-Ok-Some.command line.plan (run_found _ _ _ c.in-Ok-Some.field-0-is c.in-Ok-Some.ensures line words) c.run_command.ensures.does) status meets
+
+pub returns-in-Ok-Some-clause-answered : goal.returns-in-Ok-Some-clause-answered
+returns-in-Ok-Some-clause-answered g c line history token_at kept sessions words meets all =
+    run_answered c.rounds_are_their_sessions.ensures history token_at line.plan kept sessions _ _ c.answered_runs_are_complete.ensures _
+    (run_of_plan _ _ _ _ _ c.in-Ok-Some.command line.plan (run_found _ _ _ c.in-Ok-Some.field-0-is c.in-Ok-Some.ensures line words) c.run_command.ensures.does) meets all
+
+pub returns-in-Ok-Some-clause-versions : goal.returns-in-Ok-Some-clause-versions
+returns-in-Ok-Some-clause-versions g c line history token_at least kept sessions words status meets =
+    run_versions c.rounds_are_their_sessions.ensures history token_at line.plan kept sessions _ _ c.answered_runs_keep_versions.ensures least _
+    (run_of_plan _ _ _ _ _ c.in-Ok-Some.command line.plan (run_found _ _ _ c.in-Ok-Some.field-0-is c.in-Ok-Some.ensures line words) c.run_command.ensures.does) status meets

@@ -1,5 +1,5 @@
 use Rattle.update_run.specs.declared.stop.RunStop.TheVariants.{WriteFault, KeepFault}
-use Rattle.sb_client.proofs.Runs.{keep_stop, run_ended, run_fault_of, write_stop}
+use Rattle.sb_client.proofs.Runs.{keep_stop, run_fault_of, write_stop}
 use Rattle.sb_client.proofs.client.run_status.Goals as goal
 
 pub returns-clause-runs : goal.returns-clause-runs
@@ -8,7 +8,7 @@ returns-clause-runs g c =
     record {
       ending = c.run.result;
       told = c.run_exit_status.ensures;
-      done = run_ended c.run.result did.run did.write_fault did.keep_fault did.memory;
+      done = did.ends;
     }
 
 pub returns-clause-written : goal.returns-clause-written

@@ -1,5 +1,5 @@
 use Rattle.std.proofs.Common.{inr, refl, ap}
-use Rattle.sb_client.specs.declared.stop.Stop.TheVariants.{ReadFault, WriteFault}
+use Rattle.input_lines.specs.declared.stop.Stop.TheVariants.{ReadFault, WriteFault}
 use Rattle.sb_client.proofs.Endings.{ended, fault_of, unwritten}
 use Rattle.sb_client.proofs.client.show_status.Goals as goal
 

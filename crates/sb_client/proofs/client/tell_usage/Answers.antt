@@ -2,7 +2,7 @@ use Rattle.std.proofs.Common.{ℕ, List, inr, take, drop, ap, ◌∙◌, length,
 use Rattle.std.proofs.lemmas.List.{take-append-drop}
 use Rattle.sb_outside.specs.Outside.{appended}
 use Rattle.sb_client.specs.declared.client.TheConstants.{USAGE}
-use Rattle.sb_client.proofs.Ways.{drop_some}
+use Rattle.input_lines.specs.Ways.{drop_some}
 use Rattle.sb_client.proofs.client.tell_usage.Goals as goal
 
 pub returns-in-Err-clause-usage : goal.returns-in-Err-clause-usage

@@ -1,5 +1,5 @@
 use Rattle.std.proofs.Common.{inr, refl, ap}
-use Rattle.sb_client.specs.declared.stop.Stop.TheVariants.{WriteFault, OutOfMemory}
+use Rattle.input_lines.specs.declared.stop.Stop.TheVariants.{WriteFault, OutOfMemory}
 use Rattle.sb_client.proofs.Endings.{fault_of, stop_of}
 use Rattle.sb_client.proofs.Runs.{counted}
 use Rattle.sb_client.proofs.client.vectors_status.Goals as goal

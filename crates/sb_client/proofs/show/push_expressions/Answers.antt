@@ -1,7 +1,7 @@
 use Rattle.std.proofs.Common.{◌≡◌, ◌<◌, ◌+◌, ◌++◌, ℕ, List, length, drop, ap, ◌∙◌, arith}
 use Rattle.std.specs.List.{flat_map}
 use Rattle.sb_client.specs.Shown.{expression_line}
-use Rattle.sb_client.proofs.Replays.{place_step}
+use Rattle.input_lines.specs.Ways.{place_step}
 use Rattle.sb_client.proofs.show.push_expressions.Goals as goal
 
 pub loop-expression-preserved : goal.loop-expression-preserved

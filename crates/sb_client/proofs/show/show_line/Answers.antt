@@ -1,7 +1,7 @@
 use Rattle.std.proofs.Common.{◌++◌}
 use Rattle.url_canon.specs.Canonical.{canonical_of}
 use Rattle.sb_client.specs.Shown.{shown_lines}
-use Rattle.sb_client.proofs.Ways.{front_none, some_back}
+use Rattle.input_lines.specs.Ways.{front_none, some_back}
 use Rattle.sb_client.proofs.Shows.{shown_some}
 use Rattle.sb_client.proofs.show.show_line.Goals as goal
 

@@ -4,7 +4,7 @@ use Rattle.sb_outside.specs.Writing.{HasFront}
 use Rattle.url_canon.specs.Canonical.{canonical_of}
 use Rattle.input_lines.specs.Lines.{lines_of}
 use Rattle.sb_client.specs.Shown.{shown_lines, all_shown, show_text, has_refused_url}
-use Rattle.sb_client.proofs.Ways.{way_start, way_more, way_front, front_more}
+use Rattle.input_lines.specs.Ways.{way_start, way_more, way_front, front_more}
 use Rattle.sb_client.proofs.Shows.{shown_step, refused_step}
 use Rattle.sb_client.proofs.show.show_lines.Goals as goal
 

@@ -1,0 +1,52 @@
+-- What a run that came to its end printed, where the sessions of its log were answered by a server, or lost.
+use Rattle.std.specs.Prelude.{◌≡◌, ℕ, List, ◌++◌, map, Option, Some}
+use Rattle.std.specs.List.{flat_map}
+use Rattle.sb_model.specs.History.{History}
+use Rattle.sb_model.specs.Naming.{Naming}
+use Rattle.sb_outside.specs.Outside.{appended}
+use Rattle.sb_outside.specs.declared.links.Session.{Session}
+use Rattle.update_client.specs.Held.{Held}
+use Rattle.sb_round.specs.Round.{Round}
+use Rattle.sb_round.specs.Rounds.{entry_of}
+use Rattle.honest_runs.specs.Met.{IsLogged}
+use Rattle.served_runs.specs.Answered.{AreAnsweredOrLost, AreAnsweredInOrder}
+use Rattle.served_runs.specs.Complete.{AsksServer, AsksWithoutLimits, IsComplete}
+use Rattle.served_runs.specs.Versions.{GoOn}
+use Rattle.update_run.specs.Opening.{first_lists}
+use Rattle.update_run.specs.Printed.{run_text, told_rounds, list_line}
+use Rattle.update_run.specs.Run.{Seen}
+use Rattle.update_run.specs.declared.plan.Plan.{Plan}
+
+-- ---- completeness
+
+-- A run of this plan asked a server of this history from replicas, and each session that its log has more was answered, or lost.
+pub record MeetsAnswers (history : History) (token_at : Naming) (plan : Plan) (kept : Option (List ℕ)) (sessions : List Session) (before after : Seen) : Type 0 where
+  pub known : before.keeper.kept ≡ Some kept
+  pub asks : AsksServer history token_at plan kept
+  pub log : IsLogged sessions before.outside.log after.outside.log
+  pub answered : AreAnsweredOrLost history token_at plan.target plan.need_digest sessions
+
+-- The rounds of these sessions are printed: each that was answered prints `ok`, and that each of its updates is installed.
+pub record TellsComplete (history : History) (token_at : Naming) (plan : Plan) (kept : Option (List ℕ)) (sessions : List Session) (before after : Seen) : Type 0 where
+  pub rounds : List Round
+  pub are : map entry_of rounds ≡ sessions
+  pub complete : IsComplete history token_at plan kept rounds sessions
+  pub text : after.held ≡ appended before.held (run_text kept (first_lists plan.names kept) rounds)
+
+-- ---- versions
+
+-- A run of this plan asked a server of this history for whole updates, and each session that its log has more was answered, at versions
+-- that are not below this one and do not fall, or lost.
+pub record MeetsVersions (history : History) (token_at : Naming) (least : ℕ) (plan : Plan) (kept : Option (List ℕ)) (sessions : List Session) (before after : Seen) : Type 0 where
+  pub known : before.keeper.kept ≡ Some kept
+  pub asks : AsksWithoutLimits history token_at plan kept
+  pub log : IsLogged sessions before.outside.log after.outside.log
+  pub answered : AreAnsweredInOrder history token_at plan.target plan.need_digest least sessions
+
+-- The lists that are printed are at versions that are not below those of the lists that the run began with.
+pub record TellsVersions (history : History) (token_at : Naming) (least : ℕ) (plan : Plan) (kept : Option (List ℕ)) (sessions : List Session) (before after : Seen) : Type 0 where
+  pub rounds : List Round
+  pub are : map entry_of rounds ≡ sessions
+  pub lists : List Held
+  pub go_on : GoOn history token_at least (first_lists plan.names kept) lists
+  pub text : after.held ≡ appended before.held (told_rounds kept (first_lists plan.names kept) rounds ++ flat_map list_line lists)
