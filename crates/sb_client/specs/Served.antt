@@ -1,20 +1,19 @@
 -- What a run that came to its end printed, where the sessions of its log were answered by a server, or lost.
-use Rattle.std.specs.Prelude.{◌≡◌, ℕ, List, ◌++◌, map, Option, Some}
-use Rattle.std.specs.List.{flat_map}
+use Rattle.std.specs.Prelude.{◌≡◌, ℕ, List, map, Option, Some}
 use Rattle.sb_model.specs.History.{History}
 use Rattle.sb_model.specs.Naming.{Naming}
 use Rattle.sb_outside.specs.Outside.{appended}
 use Rattle.sb_outside.specs.declared.links.Session.{Session}
-use Rattle.update_client.specs.Held.{Held}
 use Rattle.sb_round.specs.Round.{Round}
-use Rattle.sb_round.specs.Rounds.{entry_of}
+use Rattle.sb_round.specs.Rounds.{entry_of, body_of}
+use Rattle.sb_round.specs.Run.{lists_after}
 use Rattle.honest_runs.specs.Met.{IsLogged}
 use Rattle.served_runs.specs.Answered.{AreAnsweredOrLost, AreAnsweredInOrder}
 use Rattle.served_runs.specs.Complete.{AsksServer, AsksWithoutLimits, IsComplete}
 use Rattle.served_runs.specs.Versions.{GoOn}
 use Rattle.update_run.specs.Opening.{first_lists}
-use Rattle.update_run.specs.Printed.{run_text, told_rounds, list_line}
-use Rattle.update_run.specs.Run.{Seen}
+use Rattle.update_run.specs.Printed.{run_text}
+use Rattle.update_run.specs.Run.{Seen, HasMade}
 use Rattle.update_run.specs.declared.plan.Plan.{Plan}
 
 -- ---- completeness
@@ -26,9 +25,11 @@ pub record MeetsAnswers (history : History) (token_at : Naming) (plan : Plan) (k
   pub log : IsLogged sessions before.outside.log after.outside.log
   pub answered : AreAnsweredOrLost history token_at plan.target plan.need_digest sessions
 
--- The rounds of these sessions are printed: each that was answered prints `ok`, and that each of its updates is installed.
+-- The rounds that were made, whose sessions these are, are printed: each that was answered prints `ok`, and that each of its updates
+-- is installed.
 pub record TellsComplete (history : History) (token_at : Naming) (plan : Plan) (kept : Option (List ℕ)) (sessions : List Session) (before after : Seen) : Type 0 where
   pub rounds : List Round
+  pub made : HasMade plan kept rounds before.outside after.outside
   pub are : map entry_of rounds ≡ sessions
   pub complete : IsComplete history token_at plan kept rounds sessions
   pub text : after.held ≡ appended before.held (run_text kept (first_lists plan.names kept) rounds)
@@ -43,10 +44,11 @@ pub record MeetsVersions (history : History) (token_at : Naming) (least : ℕ) (
   pub log : IsLogged sessions before.outside.log after.outside.log
   pub answered : AreAnsweredInOrder history token_at plan.target plan.need_digest least sessions
 
--- The lists that are printed are at versions that are not below those of the lists that the run began with.
+-- The rounds that were made, whose sessions these are, are printed, and the lists that they led to. Each list that the run began with
+-- at a version up to this one is then at that version or at one after it.
 pub record TellsVersions (history : History) (token_at : Naming) (least : ℕ) (plan : Plan) (kept : Option (List ℕ)) (sessions : List Session) (before after : Seen) : Type 0 where
   pub rounds : List Round
+  pub made : HasMade plan kept rounds before.outside after.outside
   pub are : map entry_of rounds ≡ sessions
-  pub lists : List Held
-  pub go_on : GoOn history token_at least (first_lists plan.names kept) lists
-  pub text : after.held ≡ appended before.held (told_rounds kept (first_lists plan.names kept) rounds ++ flat_map list_line lists)
+  pub go_on : GoOn history token_at least (first_lists plan.names kept) (lists_after (first_lists plan.names kept) (map body_of rounds))
+  pub text : after.held ≡ appended before.held (run_text kept (first_lists plan.names kept) rounds)

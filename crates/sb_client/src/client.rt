@@ -214,17 +214,17 @@ fn run_command<S: Source, O: Sink, K: Keeper, L: Link, C: Clock, D: Dice, G: Gat
 /// after its SHA-256. `vectors` reads nothing, and writes how many of the published examples are met. Neither these nor `replay` use the
 /// keeper, the link, the clock, the dice or the gate, and `run` does not use the input.
 ///
-/// `rt` is a handle for threads. No command takes it today, so that each returns.
+/// `rt` is a handle for threads and for waiting. No command takes it today.
 ///
 /// | Status | Comes |
 /// |---|---|
 /// | 0 | where no other stands |
-/// | 1 | exactly where the words are no command line |
+/// | 1 | only where the words are no command line, and always then unless memory was refused |
 /// | 2 | only where the input's count of faults rose |
 /// | 3 | only where the output's count of faults rose |
 /// | 4 | only where the keeper's count of faults rose |
 /// | 5 | exactly where a line of a replay or a response of a run has no reading or an update that is refused, or a round of a run brought no response, and the run came to its end |
-/// | 6 | exactly where the input passes 201,326,592 bytes or 65,536 lines before its end or a fault |
+/// | 6 | only where the input passes 201,326,592 bytes or 65,536 lines before its end or a fault |
 /// | 8 | where memory was refused |
 /// | 21 | exactly where a URL that is shown has no canonical form, or an example is not met, and the run came to its end |
 pub fn run_client<
@@ -350,8 +350,8 @@ pub fn run_client<
         (keeping (K.handed keep.new) (K.kept keep.new)) (O.contents out.new))
         → All (IsAnsweredIn history token_at line.plan.target) sessions → result ≢ 5 }
 
-    // Versions do not go back: where the versions at which the server answered do not fall, no list that is printed is at a version
-    // below that at which the run began with it.
+    // Versions do not go back: where the versions at which the server answered do not fall and are not below this one, each list that
+    // the run began with at a version up to this one is printed at that version or at a later one.
     ensures versions { (line : RunWords) (history : History) (token_at : Naming) (least : ℕ) (kept : Option (List ℕ)) (sessions : List Session)
         → run_of (map string_bytes words.now) ≡ Some line → (result ≡ 0) ⊎ (result ≡ 5) → MeetsVersions history token_at least line.plan kept sessions
         (seen (outside (L.log link.old) (C.answers clock.old) (C.waits clock.old) (D.given dice.old))

@@ -25,7 +25,8 @@ use update_client::answers_are_genuine;
 use update_messages::{values_read_one_way, values_read_or_have_a_fault};
 
 /// A list's version at the end of rounds is not below that at the start, where no limit of the request binds, each message is
-/// what the server answered to the request of its round, and the versions at which it answered do not fall.
+/// what the server answered to the request of its round, and the versions at which it answered do not fall and are not below that of
+/// the list.
 pub fn versions_do_not_go_back()
     ensures { (history : History) (token_at : Naming) (options : FetchOptions) (least : ℕ) (lists : List Held) (rounds : List Round)
         → KeepsVersions history token_at options least lists rounds }
@@ -89,7 +90,7 @@ pub fn answered_runs_are_complete()
 }
 
 /// A list's version at the end of a run is not below that at its start, where each session of the log was answered by a server, or lost,
-/// the versions at which it answered do not fall, and no limit of the request binds.
+/// the versions at which it answered do not fall and are not below that of the list, and no limit of the request binds.
 pub fn answered_runs_keep_versions()
     ensures { AnsweredRunsKeepVersions }
 {
