@@ -151,10 +151,11 @@ def lists_of(words):
 
 
 def answer_words(words):
-    found = options_of(words, ("--journal", "--kind", "--wait", "--cache", "--negative"))
+    found = options_of(words, ("--journal", "--kind", "--wait", "--find-wait", "--cache", "--negative"))
     if found is None or found[1] or "--journal" not in found[0] or found[0].get("--kind") not in ("fetch", "find"):
         return None
-    times = {name: found[0].get("--" + name, seconds) for name, seconds in (("wait", "1800"), ("cache", "300"), ("negative", "300"))}
+    unsaid = {"wait": "1800", "find-wait": found[0].get("--wait", "1800"), "cache": "300", "negative": "300"}
+    times = {name: found[0].get("--" + name, seconds) for name, seconds in unsaid.items()}
     if any(not re.fullmatch("0|[1-9][0-9]{0,4}", seconds) or int(seconds) > 86_400 for seconds in times.values()):
         return None
     return found[0]["--kind"], {name: int(seconds) for name, seconds in times.items()}

@@ -281,7 +281,7 @@ def find_body(journal, text, times):
     names = [f"{t}/{p}/{e}" for t in THREATS for p in PLATFORMS for e in ENTRIES if t in threats and p in platforms and e in entries]
     matches = [one for name in names if name in journal.declared for one in matches_of(journal, name, prefixes, times["cache"])]
     body = {"matches": matches} if matches else {}
-    return body | some_seconds("minimumWaitDuration", times["wait"]) | some_seconds("negativeCacheDuration", times["negative"])
+    return body | some_seconds("minimumWaitDuration", times["find-wait"]) | some_seconds("negativeCacheDuration", times["negative"])
 
 
 def answer(data, text, kind, times):
@@ -415,5 +415,5 @@ def any_question(rand, kind):
     except BadJournal:
         journal = Journal()
     request = any_request(rand, journal, names) if kind == "fetch" else any_find(rand, journal, names)
-    times = {name: rand.choice([0, 1, 1_800, 86_400]) for name in ("wait", "cache", "negative")}
+    times = {name: rand.choice([0, 1, 1_800, 86_400]) for name in ("wait", "find-wait", "cache", "negative")}
     return data, request, kind, times

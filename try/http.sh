@@ -23,10 +23,10 @@ fail() {
   exit 1
 }
 
-# starts a server for so many connections
+# starts a server for so many connections, or without a number
 serve() {
   port=$(free_port)
-  bin/sblistd serve --journal "$folder/journal" --listen "127.0.0.1:$port" --connections "$1" > "$folder/printed" &
+  bin/sblistd serve --journal "$folder/journal" --listen "127.0.0.1:$port" ${1:+--connections "$1"} > "$folder/printed" &
   server=$!
   url="http://127.0.0.1:$port/v4/threatListUpdates:fetch"
 }
@@ -121,6 +121,40 @@ done
 [ "$answered" = "$MANY" ] || fail "$answered of $MANY connections were answered"
 ended
 echo "$MANY connections one after another, in $((SECONDS - start)) seconds"
+
+# ---- connections without a number, at an address of eight groups
+
+# the memory that the server holds, in kB
+held() {
+  awk '/^VmRSS/ { print $2 }' "/proc/$server/status"
+}
+
+# so many fetches, of which each has to be answered
+fetches() {
+  local answered=0
+  for _ in $(seq "$1"); do
+    [ "$(status_of --data "$request" "$url")" = 200 ] && answered=$((answered + 1))
+  done
+  [ "$answered" = "$1" ] || fail "$answered of $1 connections were answered"
+}
+
+serve ""
+fetches 100
+before=$(held)
+fetches 2900
+after=$(held)
+kill -0 "$server" || fail "the server without a number of connections ended"
+[ "$after" -le $((before + before / 100)) ] || fail "it held $before kB after 100 connections, and $after kB after 3000"
+kill "$server"
+wait "$server" 2> /dev/null
+server=
+echo "3000 connections of a server without a number: it held $before kB after 100 of them, and $after kB after the last"
+
+port=$(free_port)
+bin/sblistd serve --journal "$folder/journal" --listen "[::1]:$port" --connections 1 > "$folder/printed" &
+server=$!
+expect "a fetch at [::1]" 200 --data "$request" "http://[::1]:$port/v4/threatListUpdates:fetch"
+ended
 
 # ---- what the programs say on standard error before they end
 

@@ -3,7 +3,7 @@ use Rattle.std.specs.Prelude.{◌≡◌, ℕ, false, ◌&&◌, if◌then◌else�
 use Rattle.std.specs.Str.{bytes_eq}
 use Rattle.sb_words.specs.declared.shape.OptionKind.TheVariants.{Needed, Optional}
 use Rattle.sb_words.specs.CommandLine.{Text, CommandOption, CommandShape, Given, given_of, value_among}
-use Rattle.sb_words.specs.Values.{number_of, host_port_of}
+use Rattle.sb_words.specs.Values.{number_of, listen_address_of}
 use Rattle.sb_outside.specs.declared.links.Kind.{Kind}
 use Rattle.sb_outside.specs.declared.links.Kind.TheVariants.{Update, Find}
 use Rattle.delta_server.specs.declared.answering.Settings.{Settings}
@@ -16,21 +16,21 @@ needed name = record { name = name; kind = Needed }
 abbrev pub optional : Text → CommandOption
 optional name = record { name = name; kind = Optional }
 
--- `answer` needs a journal and a kind of message, may have three durations, and takes no positional words.
+-- `answer` needs a journal and a kind of message, may have four durations, and takes no positional words.
 abbrev pub answer_shape : CommandShape
 answer_shape = record {
   options =
       needed (codes "journal") ∷ needed (codes "kind")
-      ∷ optional (codes "wait") ∷ optional (codes "cache") ∷ optional (codes "negative") ∷ [];
+      ∷ optional (codes "wait") ∷ optional (codes "find-wait") ∷ optional (codes "cache") ∷ optional (codes "negative") ∷ [];
   takes_positionals = false;
 }
 
--- `serve` needs a journal, an address and a number of connections.
+-- `serve` needs a journal and an address, and may have a number of connections and the same durations.
 abbrev pub serve_shape : CommandShape
 serve_shape = record {
   options =
-      needed (codes "journal") ∷ needed (codes "listen") ∷ needed (codes "connections")
-      ∷ optional (codes "wait") ∷ optional (codes "cache") ∷ optional (codes "negative") ∷ [];
+      needed (codes "journal") ∷ needed (codes "listen") ∷ optional (codes "connections")
+      ∷ optional (codes "wait") ∷ optional (codes "find-wait") ∷ optional (codes "cache") ∷ optional (codes "negative") ∷ [];
   takes_positionals = false;
 }
 
@@ -48,13 +48,15 @@ seconds_of default (Some text) = number_of 0 86400 text
 abbrev pub seconds_given : Text → ℕ → List (Text × Text) → Option ℕ
 seconds_given name default named = seconds_of default (value_among name named)
 
--- what a server says of times: its minimum wait, that of every answer, and how long a match and its absence may be kept
+-- what a server says of times: its minimum waits, of which that of find answers is the other one where it is left out, and how long a
+-- match and its absence may be kept
 abbrev pub settings_given : List (Text × Text) → Option Settings
 settings_given named =
-    option_and_then (λ wait. option_and_then (λ cache. option_map
-    (λ negative. record { wait = wait; find_wait = wait; cache = cache; negative = negative })
+    option_and_then (λ wait. option_and_then (λ find_wait. option_and_then (λ cache. option_map
+    (λ negative. record { wait = wait; find_wait = find_wait; cache = cache; negative = negative })
     (seconds_given (codes "negative") 300 named))
     (seconds_given (codes "cache") 300 named))
+    (seconds_given (codes "find-wait") wait named))
     (seconds_given (codes "wait") 1800 named)
 
 -- the kind of the request: `fetch` for updates, or `find` for full hashes
@@ -94,11 +96,15 @@ pub record ServeWords : Type 0 where
 -- the address, where it is one
 abbrev pub listen_given : List (Text × Text) → Option Text
 listen_given named =
-    option_and_then (λ text. option_map (λ _. text) (host_port_of text)) (value_among (codes "listen") named)
+    option_and_then (λ text. option_map (λ _. text) (listen_address_of text)) (value_among (codes "listen") named)
 
--- how many connections: 1 to 1,000,000
+-- how many connections: 1 to 1,000,000, and 4,294,967,295 where the words do not say
+abbrev pub connections_of : Option Text → Option ℕ
+connections_of None = Some 4294967295
+connections_of (Some text) = number_of 1 1000000 text
+
 abbrev pub connections_given : List (Text × Text) → Option ℕ
-connections_given named = option_and_then (number_of 1 1000000) (value_among (codes "connections") named)
+connections_given named = connections_of (value_among (codes "connections") named)
 
 abbrev pub serve_with : Option Text → Option Text → Option ℕ → Option Settings → Option ServeWords
 serve_with journal listen connections settings =
@@ -111,7 +117,7 @@ serve_given given =
     serve_with (value_among (codes "journal") given.named) (listen_given given.named) (connections_given given.named)
     (settings_given given.named)
 
--- what the words of `sblistd serve --journal PATH --listen HOST:PORT --connections N ..` say, where they are such words
+-- what the words of `sblistd serve --journal PATH --listen ADDRESS ..` say, where they are such words
 abbrev pub serve_of : List Text → Option ServeWords
 serve_of words = option_and_then serve_given (given_to (codes "serve") serve_shape words)
 

@@ -6,7 +6,7 @@ ghost use Rattle.sb_service.specs.Command.{answer_given, answer_of, answer_shape
 use delta_server::Settings;
 use sb_model::OutOfMemory;
 use sb_outside::Kind;
-use sb_words::{OptionKind, OptionShape, Shape, Words, host_port, number, read_words};
+use sb_words::{OptionKind, OptionShape, Shape, Words, listen_address, number, read_words};
 use std::alloc::Global;
 
 /// The words of `answer`.
@@ -22,6 +22,10 @@ const ANSWER: Shape = Shape {
         },
         OptionShape {
             name: "wait",
+            kind: OptionKind::Optional,
+        },
+        OptionShape {
+            name: "find-wait",
             kind: OptionKind::Optional,
         },
         OptionShape {
@@ -49,10 +53,14 @@ const SERVE: Shape = Shape {
         },
         OptionShape {
             name: "connections",
-            kind: OptionKind::Needed,
+            kind: OptionKind::Optional,
         },
         OptionShape {
             name: "wait",
+            kind: OptionKind::Optional,
+        },
+        OptionShape {
+            name: "find-wait",
             kind: OptionKind::Optional,
         },
         OptionShape {
@@ -67,8 +75,11 @@ const SERVE: Shape = Shape {
     takes_positionals: false,
 };
 
-/// The most connections of a run.
+/// The most connections that the words can say.
 const MOST_CONNECTIONS: u64 = 1_000_000;
+
+/// How many connections are served where the words say none.
+const CONNECTIONS_UNSAID: u32 = 4_294_967_295;
 
 /// The most seconds of a duration: a day.
 const MOST_SECONDS: u64 = 86_400;
@@ -126,11 +137,12 @@ fn settings_in(given: &Words<'_>) -> Option<Settings>
     ensures { result ≡ settings_given given.now.named }
 {
     let wait = seconds(given, "wait", 1800)?;
+    let find_wait = seconds(given, "find-wait", wait)?;
     let cache = seconds(given, "cache", 300)?;
     let negative = seconds(given, "negative", 300)?;
     Some(Settings {
         wait,
-        find_wait: wait,
+        find_wait,
         cache,
         negative,
     })
@@ -212,17 +224,19 @@ fn listen_in<'a>(given: &Words<'a>) -> Option<&'a str>
     ensures { option_map (λ address. address.now) result ≡ listen_given given.now.named }
 {
     let listen = given.value("listen")?;
-    match host_port(listen) {
+    match listen_address(listen) {
         Some(_) => Some(listen),
         None => None,
     }
 }
 
-/// How many connections the words give.
+/// How many connections the words give, or leave open.
 fn connections_in(given: &Words<'_>) -> Option<u32>
     ensures { result ≡ connections_given given.now.named }
 {
-    let text = given.value("connections")?;
+    let Some(text) = given.value("connections") else {
+        return Some(CONNECTIONS_UNSAID);
+    };
     match number(text, 1, MOST_CONNECTIONS) {
         Some(connections) => Some(connections as u32),
         None => None,

@@ -22,8 +22,8 @@ use update_messages::{values_read_one_way, values_read_or_have_a_fault};
 
 /// What is printed where the words are no command line.
 pub const USAGE: &str =
-    "usage: sblistd answer --journal PATH --kind fetch|find [--wait S] [--cache S] [--negative S]\n       \
-    sblistd serve --journal PATH --listen HOST:PORT --connections N [--wait S] [--cache S] [--negative S]\n";
+    "usage: sblistd answer --journal PATH --kind fetch|find [--wait S] [--find-wait S] [--cache S] [--negative S]\n       \
+    sblistd serve --journal PATH --listen HOST:PORT [--connections N] [--wait S] [--find-wait S] [--cache S] [--negative S]\n";
 
 /// Tells how the program is used.
 fn tell_usage<O: Sink>(out: &mut O) -> u8
