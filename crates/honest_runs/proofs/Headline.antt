@@ -104,6 +104,7 @@ module _ (stays : (lists : List Held) (bodies : List (List UpdatedList)) → Sta
         kept = run.kept;
         known = meets.server.known ∙ ap (λ text. Some text) (same_kept run.kept meets.server.kept meets.server.known run.loaded);
         rounds = run.rounds;
+        all = run.all;
         made = run.made;
         lists = lists_after (first_lists plan.names run.kept) (map body_of run.rounds);
         are = refl;

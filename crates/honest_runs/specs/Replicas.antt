@@ -1,5 +1,5 @@
 -- What a run hands to its keeper, keeps and prints where it met an honest server.
-use Rattle.std.specs.Prelude.{◌≡◌, ◌⊎◌, ℕ, List, ◌++◌, map, All, Option, Some, None, IfSome, Ok, IsErr}
+use Rattle.std.specs.Prelude.{◌≡◌, ◌⊎◌, ℕ, List, ◌++◌, length, map, All, Option, Some, None, IfSome, Ok, IsErr}
 use Rattle.std.specs.List.{flat_map}
 use Rattle.sb_model.specs.History.{History}
 use Rattle.sb_model.specs.Naming.{Naming}
@@ -53,12 +53,14 @@ KeepsReplicas history token_at before after =
 
 -- ---- what is printed
 
--- The whole text of the run was written, which is fixed by what was kept and by the rounds that the link, the clock and the dice tell: the
--- rounds' lines, and then a line for each list that they led to. These lists have the plan's names, and are replicas.
+-- The whole text of the run was written, which is fixed by what was kept and by the rounds that the link, the clock and the dice tell, as
+-- many as the plan asks for: the rounds' lines, and then a line for each list that they led to. These lists have the plan's names, and are
+-- replicas.
 pub record TellsReplicas (history : History) (token_at : Naming) (plan : Plan) (before after : Seen) : Type 0 where
   pub kept : Option (List ℕ)
   pub known : before.keeper.kept ≡ Some kept
   pub rounds : List Round
+  pub all : length rounds ≡ plan.rounds
   pub made : HasMade plan kept rounds before.outside after.outside
   pub lists : List Held
   pub are : lists ≡ lists_after (first_lists plan.names kept) (map body_of rounds)

@@ -77,6 +77,7 @@ module _ (law : RoundsAreTheirSessions) (history : History) (token_at : Naming) 
       let made : HasMade plan kept run.rounds before.outside after.outside = subst (λ (text : Option (List ℕ)). HasMade plan text run.rounds before.outside after.outside) same run.made in
       record {
         rounds = run.rounds;
+        all = run.all;
         made = made;
         are = made_sessions law plan kept run.rounds before.outside after.outside made sessions meets.log;
         complete = answered history token_at plan kept run.rounds before.outside after.outside sessions meets.asks made meets.log meets.answered;
@@ -116,6 +117,7 @@ module _ (law : RoundsAreTheirSessions) (history : History) (token_at : Naming) 
       let made : HasMade plan kept whole.1.rounds before.outside after.outside = subst (λ (text : Option (List ℕ)). HasMade plan text whole.1.rounds before.outside after.outside) same whole.1.made in
       record {
         rounds = whole.1.rounds;
+        all = whole.1.all;
         made = made;
         are = made_sessions law plan kept whole.1.rounds before.outside after.outside made sessions meets.log;
         go_on = keep history token_at plan kept whole.1.rounds before.outside after.outside sessions least meets.asks made meets.log meets.answered;

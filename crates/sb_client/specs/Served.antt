@@ -1,5 +1,5 @@
 -- What a run that came to its end printed, where the sessions of its log were answered by a server, or lost.
-use Rattle.std.specs.Prelude.{◌≡◌, ℕ, List, map, Option, Some}
+use Rattle.std.specs.Prelude.{◌≡◌, ℕ, List, length, map, Option, Some}
 use Rattle.sb_model.specs.History.{History}
 use Rattle.sb_model.specs.Naming.{Naming}
 use Rattle.sb_outside.specs.Outside.{appended}
@@ -25,10 +25,11 @@ pub record MeetsAnswers (history : History) (token_at : Naming) (plan : Plan) (k
   pub log : IsLogged sessions before.outside.log after.outside.log
   pub answered : AreAnsweredOrLost history token_at plan.target plan.need_digest sessions
 
--- The rounds that were made, whose sessions these are, are printed: each that was answered prints `ok`, and that each of its updates
+-- The rounds that were made, as many as the plan asks for, whose sessions these are, are printed: each that was answered prints `ok`, and that each of its updates
 -- is installed.
 pub record TellsComplete (history : History) (token_at : Naming) (plan : Plan) (kept : Option (List ℕ)) (sessions : List Session) (before after : Seen) : Type 0 where
   pub rounds : List Round
+  pub all : length rounds ≡ plan.rounds
   pub made : HasMade plan kept rounds before.outside after.outside
   pub are : map entry_of rounds ≡ sessions
   pub complete : IsComplete history token_at plan kept rounds sessions
@@ -44,10 +45,11 @@ pub record MeetsVersions (history : History) (token_at : Naming) (least : ℕ) (
   pub log : IsLogged sessions before.outside.log after.outside.log
   pub answered : AreAnsweredInOrder history token_at plan.target plan.need_digest least sessions
 
--- The rounds that were made, whose sessions these are, are printed, and the lists that they led to. Each list that the run began with
+-- The rounds that were made, as many as the plan asks for, whose sessions these are, are printed, and the lists that they led to. Each list that the run began with
 -- at a version up to this one is then at that version or at one after it.
 pub record TellsVersions (history : History) (token_at : Naming) (least : ℕ) (plan : Plan) (kept : Option (List ℕ)) (sessions : List Session) (before after : Seen) : Type 0 where
   pub rounds : List Round
+  pub all : length rounds ≡ plan.rounds
   pub made : HasMade plan kept rounds before.outside after.outside
   pub are : map entry_of rounds ≡ sessions
   pub go_on : GoOn history token_at least (first_lists plan.names kept) (lists_after (first_lists plan.names kept) (map body_of rounds))
