@@ -8,7 +8,7 @@ ghost use Rattle.delta_server.specs.Served.{IsOlder, IsServed};
 ghost use Rattle.delta_server.specs.Tokens.{server_naming, server_token};
 
 use crate::served::{Held, Served, held_at, later_prefixes, older_prefixes, served_list};
-use crate::target::{Limits, target};
+use crate::targets::{Limits, target_from};
 use crate::tokens::{held_version, state_token};
 use crate::updates::{Sent, full_update, partial_update, unchanged_update};
 use list_versions::History;
@@ -74,7 +74,7 @@ fn whole_answer(
 {
     let list = asked.name;
     let nothing = held_at(alloc, history, list, 0)?;
-    let version = target(
+    let version = target_from(
         alloc,
         history,
         list,
@@ -114,7 +114,7 @@ fn partial_answer(
         return unchanged_update(alloc, asked, served.digest, token);
     }
     let before = held_at(alloc, history, list, held)?;
-    let version = target(
+    let version = target_from(
         alloc,
         history,
         list,

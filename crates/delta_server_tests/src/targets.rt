@@ -1,6 +1,6 @@
 //! Which version a client is brought to, from a list of two changes of 1,000 prefixes each.
-use crate::journals::{answered, request_for};
-use delta_server::state_token;
+use crate::journals::{answered, history_of, request_for};
+use delta_server::{read_token, state_token, target, token_of};
 use sb_model::{Bytes, EntryType, ListName, OutOfMemory, PlatformType, ThreatType};
 use std::alloc::Global;
 use std::test::Fail;
@@ -102,5 +102,24 @@ fn one_who_holds_the_newest_version_stays(rt: HostRuntime) -> Result<(), Fail> {
 fn the_newest_set_is_sent_whole_without_a_limit(rt: HostRuntime) -> Result<(), Fail> {
     let comes = comes_to(rt.alloc(), "", "", 2, true)?;
     assert!(rt; comes);
+    Ok(())
+}
+
+// The version that a new client with an update limit is brought to, as its token names it.
+fn named_target(alloc: Global) -> Result<Option<(ListName, u64)>, Fail> {
+    let journal = journal(alloc)?;
+    let history = history_of(alloc, journal.as_slice())?;
+    let Some(_newest) = history.newest(MALWARE) else {
+        return Ok(None);
+    };
+    let version = target(alloc, &history, MALWARE, None, 1_024, 0)?;
+    let token = token_of(&history, MALWARE, version);
+    Ok(read_token(&history, token.as_slice()))
+}
+
+#[test]
+fn a_target_is_named_by_its_token(rt: HostRuntime) -> Result<(), Fail> {
+    let named = named_target(rt.alloc())?;
+    assert!(rt; named == Some((MALWARE, 1)));
     Ok(())
 }

@@ -1,7 +1,7 @@
 use Rattle.std.proofs.Common.{◌+◌, sym, ap, ◌∙◌, arith}
 use Rattle.sb_model.specs.Target.{is_within}
 use Rattle.delta_server.proofs.AnswerFacts.{surely_takes}
-use Rattle.delta_server.proofs.target.may_surely_take.Goals as goal
+use Rattle.delta_server.proofs.targets.may_surely_take.Goals as goal
 
 pub returns-then-is_within : goal.returns-then-is_within
 returns-then-is_within c = λ passes.

@@ -1,12 +1,12 @@
 ghost use Rattle.std.specs.Prelude.{◌≡◌, ℕ, ◌≤◌, List, true, IfOk, IfSome, IsTrue};
 ghost use Rattle.std.specs.Option.{unwrap_or};
-ghost use Rattle.sb_model.specs.History.{version_count, sizes_at, prefixes_at};
+ghost use Rattle.sb_model.specs.History.{declares, version_count, sizes_at, prefixes_at};
 ghost use Rattle.sb_model.specs.Target.{target_version};
 ghost use Rattle.list_versions.specs.HashSizes.{IsMapOf};
 ghost use Rattle.delta_server.specs.Served.{IsServed};
 ghost use Rattle.delta_server.specs.Walk.{may_take};
 
-use crate::served::{Held, Served};
+use crate::served::{Held, Served, held_at, served_list};
 use crate::version::is_within;
 use crate::walk::target_of;
 use list_versions::History;
@@ -37,7 +37,7 @@ fn may_surely_take(held: &PrefixSet, newer: &PrefixSet, limits: Limits) -> bool
 /// The version of a list that a client is brought to, who holds a version of it or none: what was
 /// folded of the version that it holds, or of version 0. It walks through the changes only where the
 /// limits may keep the client from the newest version.
-pub(crate) fn target(
+pub(crate) fn target_from(
     alloc: Global,
     history: &History,
     list: ListName,
@@ -73,4 +73,31 @@ pub(crate) fn target(
         limits.update,
         limits.database,
     )
+}
+
+/// The version of a declared list that a client is brought to, who holds a version of it or none:
+/// the greatest that differs in at most `max_update` prefixes from what it holds and has at most
+/// `max_database`, where 0 is no limit. One who holds a version may stay there.
+pub fn target(
+    alloc: Global,
+    history: &History,
+    list: ListName,
+    from: Option<u64>,
+    max_update: u32,
+    max_database: u32,
+) -> Result<u64, OutOfMemory>
+    requires declared { declares history.now.versions list ≡ true }
+    requires within { IfSome from (λ version. version ≤ version_count history.now.versions) }
+    ensures { IfOk result (λ version. version
+        ≡ target_version history.now.versions list from max_update max_database) }
+{
+    let Some(served) = served_list(history, list) else {
+        unreachable!()
+    };
+    let held = held_at(alloc, history, list, from.unwrap_or(0))?;
+    let limits = Limits {
+        update: max_update,
+        database: max_database,
+    };
+    target_from(alloc, history, list, &served, from, &held, limits)
 }

@@ -14,7 +14,7 @@ use Rattle.delta_server.proofs.AnswerFacts.{reaches_newest}
 use Rattle.delta_server.proofs.CountFacts.{SetLaws}
 use Rattle.delta_server.proofs.SameFacts.{apart_of, folded_same, published_same, sized_alike}
 use Rattle.delta_server.proofs.TargetFacts.{goes_on, held_is}
-use Rattle.delta_server.proofs.target.target.Goals as goal
+use Rattle.delta_server.proofs.targets.target_from.Goals as goal
 
 -- what was folded, in whatever order
 module _ (versions : History) (list : ListName) (from : Option ℕ) (folding : HashSizes) (entries : List Added) where
