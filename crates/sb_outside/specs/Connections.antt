@@ -17,9 +17,11 @@ connected (Connected wire) = Some wire
 connected NoMore = None
 connected TimedOut = None
 
--- The first of the connections that were to come is taken: these are its pieces.
+-- The first of the connections that were to come is taken: these are its pieces. There is one at least, which may be
+-- empty: bytes and the end of input after them, or that end alone.
 pub record TakesFirst (before after : Option (List (List (List ℕ)))) (start left : Option (List (List ℕ))) : Type 0 where
   pub pieces : List (List ℕ)
+  pub some : 0 < length pieces
   pub first : before ≡ option_map (λ later. pieces ∷ later) after
   pub started : IfTold start (Some pieces)
   pub remains : IfTold left (Some pieces)

@@ -1,4 +1,4 @@
-ghost use Rattle.std.specs.Prelude.{◌≡◌, ℕ, ◌≤◌, ◌↔◌, List, [], ◌∷◌, map, length, Option, Some, None, IsErr, IfSome, IfOk, OnOk, OnErr, Contains};
+ghost use Rattle.std.specs.Prelude.{◌≡◌, ℕ, ◌≤◌, ◌↔◌, List, [], ◌∷◌, map, length, Option, Some, None, IsErr, IfSome, IfNone, IfOk, OnOk, OnErr, Contains};
 ghost use Rattle.std.specs.Option.{option_map};
 ghost use Rattle.sb_outside.specs.Outside.{Rose, IfTold, raised, with_entry};
 ghost use Rattle.sb_outside.specs.Connections.{open_connection, connected, TakesFirst, Returns};
@@ -94,6 +94,23 @@ impl MemoryDoor {
     {
         self.faults
     }
+
+    /// Takes the first of the connections that are to come, and logs it as open.
+    fn take_first(&mut self) -> Option<MemoryWire>
+        ensures some { IfSome result (λ wire. self.new ≡ record self.old {
+              coming = self.new.coming;
+              log = logged self.old.room self.old.log open_connection;
+            }) }
+        ensures wire { IfSome result (λ wire. (first : _) × (number : ℕ)
+            × (self.old.coming ≡ first ∷ self.new.coming) × (wire ≡ fresh number first)) }
+        ensures number { IfSome result (λ wire. IfSome self.old.log (λ entries. wire.number ≡ length entries)) }
+        ensures none { IfNone result ((self.old.coming ≡ []) × (self.new ≡ self.old)) }
+    {
+        let wire = self.coming.pop_front()?;
+        let number = self.log.len();
+        self.log.push(open_connection(self.alloc));
+        Some(wire.begin(number))
+    }
 }
 
 /// An entry of which nothing is known yet. It takes no memory.
@@ -162,12 +179,7 @@ impl Door for MemoryDoor {
             self.faults = self.faults.saturating_add(1);
             return Err(Failed);
         }
-        let Some(wire) = self.coming.pop_front() else {
-            return Ok(None);
-        };
-        let number = self.log.len();
-        self.log.push(open_connection(self.alloc));
-        Ok(Some(wire.begin(number)))
+        Ok(self.take_first())
     }
 
     fn next_before(&mut self, _moment: Moment) -> Result<Arrival<MemoryWire>, Failed>
@@ -219,12 +231,10 @@ impl Door for MemoryDoor {
         if self.late.as_slice().contains(&self.calls) {
             return Ok(Arrival::TimedOut);
         }
-        let Some(wire) = self.coming.pop_front() else {
-            return Ok(Arrival::NoMore);
-        };
-        let number = self.log.len();
-        self.log.push(open_connection(self.alloc));
-        Ok(Arrival::Connected(wire.begin(number)))
+        match self.take_first() {
+            Some(wire) => Ok(Arrival::Connected(wire)),
+            None => Ok(Arrival::NoMore),
+        }
     }
 
     fn done(&mut self, wire: MemoryWire)

@@ -71,6 +71,8 @@ pub fn read_piece<S: Source>(
     ensures failed_left { IsErrOf result ReadFault.Failed → S.left source.new ≡ S.left source.old }
     ensures refused_left { IsErrOf result ReadFault.OutOfMemory →
         GivesSome (S.left source.old) (S.left source.new) }
+    ensures refused_most { IsErrOf result ReadFault.OutOfMemory →
+        GivesAtMost (length buffer.new) (S.left source.old) (S.left source.new) }
 
     // Where the text is what the source gave since some start, it is that afterwards, or the whole.
     ensures so_far { IfOk result (λ n. 0 < n → (start : Option (List (List ℕ))) →
