@@ -204,23 +204,47 @@ def copy_to(room, names):
             shutil.copy(path, os.path.join(folder, os.path.basename(path)[: -len(".md")]))
 
 
-def refused_in(room, names):
-    """Has the wrong bodies in a copy tried, and answers those that were refused, and whether nothing else failed."""
+def copy_libraries(room, names, uses):
+    """Copies the built libraries of the crates below these, as far as there are any."""
+    for name in {it for one in names for it in below(one, uses)}:
+        built = os.path.join(CRATES, name, "out", "rlib")
+        if os.path.isdir(built):
+            shutil.copytree(built, os.path.join(room, "crates", name, "out", "rlib"), copy_function=shutil.copy2)
+
+
+def tell(ran, refused):
+    """Prints what a run says of wrong bodies, and notes those that were refused. Answers whether it was taken as a command at all."""
+    is_command = True
+    for line in ran.stdout:
+        found = re.match(r"rt: must-fail (\w+)/(\S+)\.edit: refused, as it must be( \(only .*)?", line)
+        if line.startswith("usage:"):
+            is_command = False
+        if found:
+            refused.add((found[1], found[2]))
+        if is_command and found and not found[3]:
+            print(line.rstrip()[:200], flush=True)
+        elif is_command and not line.startswith(("fn ", "statements ", "library ", "checked ")):
+            print(line.rstrip(), flush=True)
+    return is_command
+
+
+def refused_in(room, names, uses):
+    """Has the wrong bodies in a copy tried, and answers those that were refused, and whether nothing else failed. A toolchain whose
+    `rt ci` takes no names keeps nothing either: there `rt must-fail` tries them, over the libraries that checks have built."""
     refused = set()
-    with subprocess.Popen(["rt", "ci", *names], cwd=room, stdout=subprocess.PIPE, text=True, errors="replace") as tries:
-        for line in tries.stdout:
-            found = re.match(r"rt: must-fail (\w+)/(\S+)\.edit: refused, as it must be( \(only .*)?", line)
-            if found:
-                refused.add((found[1], found[2]))
-            if found and not found[3]:
-                print(line.rstrip()[:200], flush=True)
-            elif not line.startswith(("fn ", "statements ", "library ", "checked ")):
-                print(line.rstrip(), flush=True)
+    given = {"cwd": room, "stdout": subprocess.PIPE, "stderr": subprocess.STDOUT, "text": True, "errors": "replace"}
+    with subprocess.Popen(["rt", "ci", *names], **given) as tries:
+        is_command = tell(tries, refused)
+    if is_command:
+        return refused, tries.returncode == 0
+    copy_libraries(room, names, uses)
+    with subprocess.Popen(["rt", "must-fail", *names], **given) as tries:
+        tell(tries, refused)
     return refused, tries.returncode == 0
 
 
 def try_bodies(names):
-    """`rt ci NAMES` tries them over what the gate has proved on this machine; `rt must-fail` would prove all below once more."""
+    """Has them tried, and writes tried.md where each was refused."""
     uses = uses_of()
     names = names or [name for name in uses if bodies_of(name, KEPT)]
     for name in names:
@@ -230,7 +254,7 @@ def try_bodies(names):
     texts = {name: text_of(len(bodies_of(name, KEPT)), own_sum(name, uses), specs_sum(name, uses)) for name in names}
     with tempfile.TemporaryDirectory(prefix="wrong-bodies-") as room:
         copy_to(room, names)
-        refused, is_well = refused_in(room, names)
+        refused, is_well = refused_in(room, names, uses)
     left = sorted(f"{name}/{body}" for name, body in wanted - refused)
     if left or not is_well:
         stop(f"no tried.md was written: not refused, or something else failed: {', '.join(left) or 'see above'}")
