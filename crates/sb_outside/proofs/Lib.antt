@@ -6,3 +6,4 @@ pub mod Torn
 pub mod WirePieces
 pub mod PlayedSteps
 pub mod Tails
+pub mod Untold

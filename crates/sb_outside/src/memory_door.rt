@@ -98,9 +98,9 @@ impl MemoryDoor {
     /// Takes the first of the connections that are to come, and logs it as open.
     fn take_first(&mut self) -> Option<MemoryWire>
         ensures some { IfSome result (λ wire. self.new ≡ record self.old {
-              coming = self.new.coming;
-              log = logged self.old.room self.old.log open_connection;
-            }) }
+          coming = self.new.coming;
+          log = logged self.old.room self.old.log open_connection;
+        }) }
         ensures wire { IfSome result (λ wire. (first : _) × (number : ℕ)
             × (self.old.coming ≡ first ∷ self.new.coming) × (wire ≡ fresh number first)) }
         ensures number { IfSome result (λ wire. IfSome self.old.log (λ entries. wire.number ≡ length entries)) }

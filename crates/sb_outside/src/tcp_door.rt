@@ -1,6 +1,6 @@
 ghost use Rattle.std.specs.Prelude.{◌≡◌, ◌≢◌, ◌≤◌, None, Ok, true, false, is_some, IsErr, IfSome, IfOk, OnOk, OnErr};
 ghost use Rattle.sb_outside.specs.Outside.{Rose, raised};
-ghost use Rattle.sb_outside.specs.Connections.{connected};
+ghost use Rattle.sb_outside.specs.Connections.{connected, TakesFirst};
 ghost use Rattle.sb_outside.specs.Tcp.{TcpListening};
 
 use crate::system_clock::system_millis;
@@ -219,6 +219,7 @@ impl<R: time::Clock + Clone + Drop> Door for TcpDoor<R> {
     ghost coming = { λ _. None };
 
     /// A connection that its peer gave up before it was taken is passed over.
+    #[tactic(auto, using(crate::proofs::Untold::takes_first))]
     fn next(&mut self) -> Result<Option<TcpWire<R>>, Failed>
         ensures some { result ≢ Ok None }
         ensures unusable { self.old.is_usable ≡ false → IsErr result }
@@ -229,6 +230,7 @@ impl<R: time::Clock + Clone + Drop> Door for TcpDoor<R> {
         ensures counted { self.old.faults ≤ self.new.faults }
         ensures failed { OnErr result (Rose self.old.faults self.new.faults) }
         ensures no_faults { IfOk result (λ next. IfSome next (λ wire. (wire.read_faults ≡ 0) × (wire.write_faults ≡ 0))) }
+        ensures first { IfOk result (λ next. IfSome next (λ wire. TakesFirst None None None None)) }
     {
         if let Some(listener) = &self.listener {
             match self.take_next(listener) {
@@ -245,6 +247,7 @@ impl<R: time::Clock + Clone + Drop> Door for TcpDoor<R> {
 
     /// It looks for a connection some hundred times a second. Its clock is the system's; where that cannot be read, the
     /// call fails.
+    #[tactic(auto, using(crate::proofs::Untold::takes_first))]
     fn next_before(&mut self, moment: Moment) -> Result<Arrival<TcpWire<R>>, Failed>
         ensures some { result ≢ Ok Arrival.NoMore }
         ensures unusable { self.old.is_usable ≡ false → IsErr result }
@@ -256,6 +259,7 @@ impl<R: time::Clock + Clone + Drop> Door for TcpDoor<R> {
         ensures failed { OnErr result (Rose self.old.faults self.new.faults) }
         ensures no_faults { IfOk result (λ arrival. IfSome (connected arrival)
             (λ wire. (wire.read_faults ≡ 0) × (wire.write_faults ≡ 0))) }
+        ensures first { IfOk result (λ arrival. IfSome (connected arrival) (λ wire. TakesFirst None None None None)) }
     {
         if let Some(listener) = &self.listener {
             match self.take_before(listener, moment) {
