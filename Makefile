@@ -8,7 +8,7 @@ LIST := MALWARE/ANY_PLATFORM/URL
 PROGRAMS := sbupdate sbcheck sblistd kernels
 BUILT := $(wildcard bin/sbupdate bin/sblistd)
 
-.PHONY: all test check gate wrong-bodies demo compare try-http try-run try-memory bench clean
+.PHONY: all test check gate wrong-bodies demo compare try-http try-run try-memory try-readme bench clean
 
 all:
 	python3 tools/build.py $(PROGRAMS)
@@ -16,7 +16,7 @@ all:
 test:
 	.ci/run
 
-# The repository's own checks alone, without a proof.
+# The repository's own checks alone, without a proof: wrong bodies, and what the documents name.
 check:
 	tools/check.sh
 
@@ -60,6 +60,10 @@ try-run: all
 # Measures the memory that sbupdate and sblistd take for hostile JSON, and fails where it is more than the limits allow.
 try-memory: all
 	python3 try/memory.py
+
+# Runs the sessions of README in a clean clone, with the programs of bin/, and compares what they print. Up to two minutes.
+try-readme: all
+	python3 try/readme.py
 
 bench: all
 	python3 bench/bench.py

@@ -3,7 +3,7 @@
 
 The toolchain builds a program only once it is proved, with all that it stands on. This runs `rt ci` over a copy of what the
 programs named need, without tests of other crates and without wrong bodies: it proves crates that do not stand on each
-other side by side, and what it has proved counts for the gate. From time to time it says how far it is. Where the
+other side by side, and what it has proved counts for the gate where the toolchain keeps it. From time to time it says how far it is. Where the
 programs of bin/ are newer than all that they are made of, it does nothing.
 
     build.py NAME..
