@@ -270,6 +270,16 @@ def faults_of_form(readme):
             yield f"a line has {len(line)} columns; {MOST_COLUMNS} are the most: {line[:40]}.."
 
 
+def faults_of_quotes(page):
+    """What stands between fences that are marked `rust` is quoted from a file that the page names, word for word."""
+    quotes = re.findall(r"^```rust\n(.*?)^```", page.whole, re.M | re.S)
+    named = [it for it in page.spans if it.startswith("crates/") and it.endswith(".rt") and stands(it)]
+    texts = [text_of(it) for it in named]
+    for quote in quotes:
+        if texts and not any(quote in it for it in texts):
+            yield f"no named file has what is quoted: {quote.strip().splitlines()[0].strip()}"
+
+
 def faults_of_crates(page):
     for crate in reading_lists.crates_in_order():
         if f"`{crate}`" not in page.text:
@@ -278,12 +288,12 @@ def faults_of_crates(page):
 
 def faults():
     code, pages = Code(), []
-    for path in [*PAGES, *sorted(glob.glob(os.path.join(REPOSITORY, "docs", "*.md"))), *sorted(glob.glob(os.path.join(CRATES, "*", "*.md")))]:
+    for path in [*PAGES, *sorted(glob.glob(os.path.join(REPOSITORY, "docs", "**", "*.md"), recursive=True)), *sorted(glob.glob(os.path.join(CRATES, "*", "*.md")))]:
         pages.append(Page(os.path.relpath(path, REPOSITORY) if os.path.isabs(path) else path))
     by_path = {it.path: it for it in pages}
     targets = set(re.findall(r"^([a-z-]+):", text_of("Makefile"), re.M))
     for page in pages:
-        found = [*faults_of_links(page), *faults_of_names(page, code, targets)]
+        found = [*faults_of_links(page), *faults_of_names(page, code, targets), *faults_of_quotes(page)]
         if page.path in (README, PROMISES):
             found += faults_of_clauses(page, code)
         yield from ((page.path, it) for it in found)
