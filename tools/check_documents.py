@@ -27,10 +27,10 @@ NO_OPTIONS = {"--help", "--name"}
 MOST_WORDS, MOST_COLUMNS = 12, 120
 ENDINGS = ("antt", "rt", "py", "sh", "md", "jsonl", "edit", "txt")
 
-# the words of each end: where their options and statuses are defined, and the section of the page of formats with them
+# each end: the crate that defines its statuses (`IsStatus`), and the section of the page of formats with them
 ENDS = {
-    "the client": ("sb_client/specs/Command.antt", "sb_client/specs/Runs.antt", "Words and statuses of the client programs"),
-    "the server": ("sb_service/specs/Command.antt", "sb_service/specs/Answer.antt", "The list server"),
+    "the client": ("sb_client", "Words and statuses of the client programs"),
+    "the server": ("sb_service", "The list server"),
 }
 PROGRAMS = {"sbupdate": "the client", "sbcheck": "the client", "sblistd": "the server"}
 
@@ -215,19 +215,20 @@ def faults_of_clause_lists(page, code):
             yield f'"{heading}" {"lacks" if name in known else "has, and the call has not,"} {name}'
 
 
-def options_of(end):
-    text = text_of(os.path.join("crates", ENDS[end][0]))
-    return {f"--{it}" for it in re.findall(r'\b(?:needed|optional|flag) \(codes "([a-z-]+)"\)', text)}
+def known_options():
+    """The options in the shapes of the commands, as the definitions of any crate have them."""
+    texts = (Code.texts(it, "specs", "antt") for it in os.listdir(CRATES))
+    return {f"--{it}" for text in texts for it in re.findall(r'\b(?:needed|optional|flag) \(codes "([a-z-]+)"\)', text)}
 
 
 def statuses_of(end):
-    text = text_of(os.path.join("crates", ENDS[end][1]))
+    text = Code.texts(ENDS[end][0], "specs", "antt")
     found = re.search(r"^IsStatus status =(.*?)(?:^\S|\Z)", text, re.M | re.S)
     return set(map(int, re.findall(r"status ≡ (\d+)", found[1]))) if found else set()
 
 
 def faults_of_options(pages):
-    known = set().union(*map(options_of, ENDS))
+    known = known_options()
     for page in pages:
         if page.path not in OF_OPTIONS:
             continue
@@ -240,7 +241,7 @@ def faults_of_options(pages):
 
 
 def faults_of_statuses(formats, readme):
-    for end, (_, _, heading) in ENDS.items():
+    for end, (_, heading) in ENDS.items():
         section, known = formats.section(heading), statuses_of(end)
         if section is None:
             yield FORMATS, f"no section {heading}"
@@ -268,6 +269,15 @@ def faults_of_form(readme):
     for line in readme.text.split("\n"):
         if len(line) > MOST_COLUMNS and not line.startswith("|"):
             yield f"a line has {len(line)} columns; {MOST_COLUMNS} are the most: {line[:40]}.."
+
+
+def faults_of_sections(formats):
+    """Each section of the page of formats begins with its standard and the files that hold it."""
+    for section in re.split(r"^## ", formats.text, flags=re.M)[1:]:
+        heading, _, rest = section.partition("\n")
+        front = rest.strip().split("\n\n")[0]
+        if not front.startswith("*Standard: ") or not re.search(r"(?:Definitions?|Code):\s", front):
+            yield f'"{heading}" does not begin with its standard and the files of its definitions'
 
 
 def faults_of_quotes(page):
@@ -298,6 +308,7 @@ def faults():
             found += faults_of_clauses(page, code)
         yield from ((page.path, it) for it in found)
     yield from ((PROMISES, it) for it in faults_of_clause_lists(by_path[PROMISES], code))
+    yield from ((FORMATS, it) for it in faults_of_sections(by_path[FORMATS]))
     yield from faults_of_options(pages)
     yield from faults_of_statuses(by_path[FORMATS], by_path[README])
     yield from ((README, it) for it in faults_of_form(by_path[README]))
