@@ -7,8 +7,8 @@ docs/PROMISES.md between two markers: for each clause the files, each after thos
 it the clause takes (comments above a definition included), of how many it has.
 
 Types and constants of `src/` (imports of `declared`) and definitions of the toolchain's crates are not followed; the
-latter are named by their crates. A parameter is told from a definition of the same name where it is bound in sight, and
-else counts as the definition, so a list may name a little too much, and never too little.
+latter are named by their crates. A name that a definition binds in sight, as a parameter with its type, is not taken for
+a definition of that name; one that it binds otherwise is, so a list may name a little too much.
 
     reading_lists.py            prints the lists
     reading_lists.py --write    puts them into docs/PROMISES.md
