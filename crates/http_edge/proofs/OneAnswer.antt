@@ -1,5 +1,5 @@
 -- Bytes that pass come to one body, and to nothing else.
-use Rattle.std.proofs.Common.{◌≡◌, ◌≢◌, ℕ, ◌<◌, ◌≤◌, ◌⊎◌, List, [], ◌∷◌, ◌++◌, length, take, Bool, true, false, Option, Some, None, refl, sym, ap, ◌∙◌, subst, arith, inl, inr}
+use Rattle.std.proofs.Common.{◌≡◌, ◌≢◌, ℕ, List, [], ◌∷◌, ◌++◌, Bool, true, false, Option, Some, None, refl, sym, ap, ◌∙◌, subst, arith, inl, inr}
 use Rattle.std.specs.Prelude.{Result, Ok, Err, IsTrue, MatchBool, All, codes}
 use Rattle.std.proofs.lemmas.List.{append_cancel_left, append_cancel_right}
 use Rattle.std.proofs.lemmas.List.Elements.{All-head, All-tail}
@@ -8,10 +8,10 @@ use Rattle.base64.specs.GeneralPurpose.{encode_of, decode_of, IsBytes}
 use Rattle.base64.proofs.EngineFacts.{decode_of-encode_of}
 use Rattle.sha2.specs.Sha256.{sha256}
 use Rattle.sb_outside.specs.declared.links.Session.{Session}
-use Rattle.httparse.specs.Grammar.{Field, ResponseHead, status_code}
+use Rattle.httparse.specs.Grammar.{ResponseHead, status_code}
 use Rattle.http_edge.specs.Responses.{digest_text}
-use Rattle.http_edge.specs.Digests.{digest_members, IsDigestMember, IsNoDigest, HasFirst, IsDigestIn, IsDigestGiven}
-use Rattle.http_edge.specs.Outcomes.{HasSuccess, HasWhole, HasBody, HasLongBody, LacksRest, HasWrongChunk, framing_of, IsRightDigest, BytesOutcome, SessionOutcome}
+use Rattle.http_edge.specs.Digests.{digest_members, IsDigestMember, IsNoDigest, HasFirst, IsDigestGiven}
+use Rattle.http_edge.specs.Outcomes.{HasSuccess, HasWhole, HasBody, HasLongBody, HasWrongChunk, framing_of, IsRightDigest, BytesOutcome, SessionOutcome}
 use Rattle.http_edge.specs.declared.fields.Framing.{Framing}
 use Rattle.http_edge.specs.declared.fields.Framing.TheVariants.{ByLength, Chunked, Unframed}
 use Rattle.http_edge.specs.declared.faults.ExchangeFault.{ExchangeFault}

@@ -1,20 +1,18 @@
 -- What was read only while more was needed, and what decides nothing yet.
-use Rattle.std.proofs.Common.{◌≡◌, ◌≢◌, ℕ, ◌-◌, ◌<◌, ◌≤◌, ◌⊎◌, List, [], ◌∷◌, ◌++◌, length, take, drop, Bool, true, false, Option, Some, None, refl, sym, ap, ◌∙◌, subst, arith, inl, inr, append_assoc}
-use Rattle.std.specs.Prelude.{Result, Ok, Err, IsTrue, All}
+use Rattle.std.proofs.Common.{◌≡◌, ℕ, ◌-◌, ◌≤◌, List, [], ◌∷◌, ◌++◌, length, take, drop, Bool, true, false, None, refl, sym, ap, ◌∙◌, subst, arith, inl, inr, append_assoc}
+use Rattle.std.specs.Prelude.{Ok, Err, IsTrue}
 use Rattle.std.specs.Char.{is_ascii_digit}
 use Rattle.std.proofs.lemmas.List.{append-nil, take_all, take-append-drop}
 use Rattle.std.proofs.lemmas.List.Elements.{All-nil, All-cons}
-use Rattle.httparse.specs.Grammar.{lf, IsField, ResponseHead, IsResponseHead, print_response, ReadsResponse, is_value_byte, status_code, AllPass}
+use Rattle.httparse.specs.Grammar.{lf, IsField, ResponseHead, IsResponseHead, print_response, is_value_byte, status_code}
 use Rattle.httparse.proofs.GrammarLemmas.{response_unique}
 use Rattle.http_edge.specs.Heads.{HasGoodFields, HasBadFields, BeginsResponse, IsRefusedResponse, IsOpenResponse}
-use Rattle.http_edge.specs.Chunks.{IsOpenBody}
-use Rattle.http_edge.specs.ChunkSteps.{IsReadTo, IsOpenAt, IsOpenWith, IsOpenBodyWith}
-use Rattle.http_edge.specs.Outcomes.{HasResponse, HasSuccess, HasWhole, HasBody, HasLongBody, LacksRest, HasWrongChunk, framing_of, IsFault, BytesOutcome, IsUndecided, ReadsToDecision}
-use Rattle.http_edge.specs.SessionBytes.{EndsByRead, ReadsWhile, ReadsOnly, IsShort, IsOpenHead, IsResponsePartsOf}
+use Rattle.http_edge.specs.ChunkSteps.{IsReadTo, IsOpenWith, IsOpenBodyWith}
+use Rattle.http_edge.specs.Outcomes.{HasResponse, HasSuccess, HasBody, HasLongBody, LacksRest, HasWrongChunk, framing_of, IsUndecided, ReadsToDecision}
+use Rattle.http_edge.specs.SessionBytes.{ReadsWhile, ReadsOnly, IsShort, IsOpenHead, IsResponsePartsOf}
 use Rattle.http_edge.specs.declared.chunks.ChunkPlace.{ChunkPlace}
 use Rattle.http_edge.specs.declared.fields.Framing.{Framing}
 use Rattle.http_edge.specs.declared.fields.Framing.TheVariants.{ByLength, Chunked, Unframed}
-use Rattle.http_edge.specs.declared.faults.ExchangeFault.{ExchangeFault}
 use Rattle.http_edge.specs.declared.faults.ExchangeFault.TheVariants as fault
 use Rattle.http_edge.specs.declared.response_heads.ResponseParts.{ResponseParts}
 use Rattle.http_edge.proofs.HeadSizes.{response_some}

@@ -1,7 +1,7 @@
 -- The response of the status 200 of a body, as a server writes it, is read with that body.
-use Rattle.std.proofs.Common.{◌≡◌, ◌≢◌, ℕ, ◌+◌, ◌-◌, ◌*◌, ◌/◌, ◌%◌, ◌^◌, ◌<◌, ◌≤◌, List, [], ◌∷◌, ◌++◌, length, map, reverse, replicate, take, zero, suc, cond, Bool, true, false, Option, Some, None, refl, sym, ap, ◌∙◌, subst, arith, inl, inr, append_assoc, length-append, lit<}
-use Rattle.std.specs.Prelude.{Result, Ok, Err, IsTrue, ◌==◌, ◌&&◌, nat_lt, not, All, codes, decimal, slice_index}
-use Rattle.std.specs.List.{flat_map, list_all, slice_split}
+use Rattle.std.proofs.Common.{◌≡◌, ℕ, ◌+◌, ◌-◌, ◌*◌, ◌/◌, ◌%◌, ◌^◌, ◌<◌, ◌≤◌, List, [], ◌∷◌, ◌++◌, length, map, reverse, replicate, take, zero, suc, cond, Bool, true, false, Some, refl, sym, ap, ◌∙◌, subst, arith, inl, inr, append_assoc, length-append, lit<}
+use Rattle.std.specs.Prelude.{Ok, IsTrue, ◌==◌, ◌&&◌, nat_lt, not, All, codes, decimal, slice_index}
+use Rattle.std.specs.List.{flat_map, list_all}
 use Rattle.std.specs.Char.{is_ascii_digit}
 use Rattle.std.specs.Str.Parse.{digits_value, AllDigits}
 use Rattle.std.proofs.lemmas.Bool.{cases_lt}
@@ -21,14 +21,12 @@ use Rattle.base64.proofs.RoundTrip.{length-encode_symbols}
 use Rattle.sha2.specs.Sha256.{sha256, digest_bytes}
 use Rattle.sha2.proofs.Facts256.{length-sha256}
 use Rattle.httparse.specs.Ascii.{crlf_bytes}
-use Rattle.httparse.specs.Grammar.{crlf, is_token_byte, is_value_byte, is_ows, skip_ows, trim_ows, Field, IsField, print_field, print_section, ResponseHead, IsResponseHead, print_response, ReadsResponse, status_code}
+use Rattle.httparse.specs.Grammar.{crlf, is_token_byte, is_value_byte, is_ows, skip_ows, trim_ows, Field, IsField, print_field, ResponseHead, IsResponseHead, print_response}
 use Rattle.httparse.proofs.GrammarLemmas.{print_response-append}
 use Rattle.http_edge.specs.Fields.{capped, is_number, number_said, length_in, length_said, encodings_said, values_of}
-use Rattle.http_edge.specs.Heads.{HasGoodFields}
-use Rattle.http_edge.specs.Digests.{members_in, digest_members, IsNoDigest, IsDigestMember, HasFirst, IsDigestGiven}
+use Rattle.http_edge.specs.Digests.{members_in, digest_members, IsNoDigest, IsDigestGiven}
 use Rattle.http_edge.specs.Responses.{line, digest_text, response_text}
-use Rattle.http_edge.specs.Outcomes.{framing_in, framing_of, HasResponse, HasSuccess, HasBody, HasWhole, BytesOutcome}
-use Rattle.http_edge.specs.declared.fields.BodyLength.{BodyLength}
+use Rattle.http_edge.specs.Outcomes.{framing_in, framing_of, HasBody, BytesOutcome}
 use Rattle.http_edge.specs.declared.fields.BodyLength.TheVariants.{Said, Malformed}
 use Rattle.http_edge.specs.declared.fields.Framing.{Framing}
 use Rattle.http_edge.specs.declared.fields.Framing.TheVariants.{ByLength}

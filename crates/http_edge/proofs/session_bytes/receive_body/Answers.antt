@@ -1,4 +1,4 @@
-use Rattle.std.proofs.Common.{◌≡◌, ◌<◌, ℕ, List, [], ◌++◌, length, false, true, refl, ap, sym, ◌∙◌, subst, inl, append_assoc, Err, rules, arith}
+use Rattle.std.proofs.Common.{◌<◌, ℕ, List, [], ◌++◌, length, refl, ap, sym, ◌∙◌, subst, inl, append_assoc, Err, rules, arith}
 use Rattle.std.proofs.lemmas.List.{append-nil}
 use Rattle.http_edge.specs.SessionBytes.{IsShort}
 use Rattle.http_edge.proofs.SessionSteps.{receives_nothing, receives_then, receives_end, receives_failure}

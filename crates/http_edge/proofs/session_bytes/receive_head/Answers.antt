@@ -1,4 +1,4 @@
-use Rattle.std.proofs.Common.{◌≡◌, ◌<◌, ℕ, List, [], ◌++◌, length, false, true, refl, inl, ap, sym, subst, Err, rules, arith}
+use Rattle.std.proofs.Common.{◌<◌, ℕ, List, [], ◌++◌, length, false, true, refl, inl, ap, sym, subst, Err, rules, arith}
 use Rattle.http_edge.specs.SessionBytes.{Receives, ReadsWhile, IsOpenHead}
 use Rattle.http_edge.proofs.SessionSteps.{receives_nothing, receives_then, receives_end, receives_failure}
 use Rattle.http_edge.proofs.ResponseFacts.{refused_response, open_response}

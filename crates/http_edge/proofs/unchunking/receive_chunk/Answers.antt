@@ -1,7 +1,7 @@
-use Rattle.std.proofs.Common.{◌≡◌, ◌≤◌, ◌+◌, ℕ, List, [], ◌++◌, length, refl, sym, ap, ◌∙◌, subst, inl, append_assoc, Err, rules, arith, length-append}
+use Rattle.std.proofs.Common.{ℕ, List, [], ◌++◌, length, refl, sym, ap, ◌∙◌, subst, inl, append_assoc, Err, rules, arith, length-append}
 use Rattle.std.proofs.lemmas.List.{append-nil}
 use Rattle.http_edge.specs.ChunkSteps.{IsOpenAt, IsOpenWith}
-use Rattle.http_edge.proofs.SessionSteps.{receives_nothing, receives_then, receives_end, receives_failure}
+use Rattle.http_edge.proofs.SessionSteps.{receives_nothing, receives_then, receives_failure}
 use Rattle.http_edge.proofs.ReadFacts.{read_on}
 use Rattle.http_edge.proofs.unchunking.receive_chunk.Goals as goal
 
