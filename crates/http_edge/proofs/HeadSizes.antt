@@ -4,7 +4,7 @@ use Rattle.std.specs.Prelude.{All}
 use Rattle.std.specs.List.{flat_map}
 use Rattle.std.proofs.lemmas.List.{length-take}
 use Rattle.std.proofs.lemmas.List.Elements.{All-head, All-tail}
-use Rattle.httparse.specs.Grammar.{LineEnd, crlf, lf, print_end, Field, IsField, print_field, print_section, RequestHead, print_request, ResponseHead, IsResponseHead, print_response}
+use Rattle.httparse.specs.Grammar.{LineEnd, crlf, lf, print_end, Field, IsField, print_field, print_section, RequestHead, IsRequestHead, print_request, ResponseHead, IsResponseHead, print_response}
 use Rattle.httparse.specs.Spans.{RequestExceeds, ResponseExceeds, SectionExceeds}
 
 end_some : (end : LineEnd) → 0 < length (print_end end)
@@ -41,6 +41,12 @@ request_size head = last_part _ (print_section head.fields head.last)
 response_size : (head : ResponseHead) → length (print_section head.fields head.last) ≤ length (print_response head)
 unfolding print_response
 response_size head = last_part _ (print_section head.fields head.last)
+
+pub request_some : (head : RequestHead) → IsRequestHead head → 0 < length (print_request head)
+request_some head is =
+    let size = section_size head.fields head.last is.fields in
+    let whole = request_size head in
+    omega arith
 
 pub response_some : (head : ResponseHead) → IsResponseHead head → 0 < length (print_response head)
 response_some head is =

@@ -10,6 +10,7 @@ pub mod RequestFacts
 pub mod ResponseFacts
 pub mod ChunkOutcomes
 pub mod ReadFacts
+pub mod RequestReads
 pub mod OneAnswer
 pub mod Written
 pub mod Targets

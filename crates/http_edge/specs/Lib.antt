@@ -7,7 +7,7 @@ pub mod Digests
 pub mod Chunks
 pub mod Outcomes
 pub mod Exchanges
-pub mod Receiving
 pub mod ChunkSteps
 pub mod SessionBytes
+pub mod Receiving
 pub mod Law

@@ -8,6 +8,7 @@ use Rattle.httparse.specs.Grammar.{RequestHead, print_request, ReadsRequest}
 use Rattle.httparse.specs.Spans.{IsWithin, IsHeaderWithin, span_bytes, header_bytes, name_and_value}
 use Rattle.http_edge.specs.Heads.{IsRefusedRequest, IsOpenRequest}
 use Rattle.http_edge.specs.Requests.{HasRequest}
+use Rattle.http_edge.specs.SessionBytes.{ReadsWhile, IsShort}
 use Rattle.http_edge.specs.declared.requests.RequestParts.{RequestParts}
 use Rattle.http_edge.specs.declared.requests.RequestStep.{RequestStep}
 use Rattle.http_edge.specs.declared.requests.RequestStep.TheVariants.{Whole, Refused, Open}
@@ -44,18 +45,34 @@ IsRequestStep text Open = IsOpenRequest text
 pub record EndsShort (text : List ℕ) (wanted : ℕ) (before after : Option (List (List ℕ))) : Type 0 where
   pub given : List ℕ
   pub gives : ReadsToEnd given before after
+  pub reads : ReadsWhile (IsShort text wanted) given
   pub short : length (text ++ given) < wanted
 
 -- A source gave some bytes, and a text with them has the wanted ones, which are kept.
 pub record FillsUp (text filled : List ℕ) (wanted : ℕ) (before after : Option (List (List ℕ))) : Type 0 where
   pub given : List ℕ
   pub gives : GivesFront given before after
+  pub reads : ReadsWhile (IsShort text wanted) given
   pub enough : wanted ≤ length (text ++ given)
   pub is : filled ≡ take wanted (text ++ given)
 
--- A source gave some bytes, and a text grew by them.
+-- One read of a source gave bytes, and a text grew by them.
 pub record GrowsBySome (text grown : List ℕ) (before after : Option (List (List ℕ))) : Type 0 where
   pub given : List ℕ
   pub some : 0 < length given
+  pub short : length given ≤ 65536
   pub whole : grown ≡ text ++ given
   pub gives : GivesFront given before after
+
+-- A source gave some bytes, and then a read failed.
+pub record FailsShort (text : List ℕ) (wanted : ℕ) (before after : Option (List (List ℕ))) : Type 0 where
+  pub given : List ℕ
+  pub gives : GivesFront given before after
+  pub reads : ReadsWhile (IsShort text wanted) given
+  pub short : length (text ++ given) < wanted
+
+-- A source gave some bytes.
+pub record GivesWhile (needs : List ℕ → Type 0) (before after : Option (List (List ℕ))) : Type 0 where
+  pub given : List ℕ
+  pub gives : GivesFront given before after
+  pub reads : ReadsWhile needs given

@@ -1,6 +1,6 @@
 -- What the bytes of a request come to, whether its source has ended or not. A definition over all bytes received: how they
 -- were cut does not count.
-use Rattle.std.specs.Prelude.{◌≡◌, ℕ, ◌<◌, ◌≤◌, ◌⊎◌, List, [], ◌∷◌, length, take, codes, Bool, if◌then◌else◌, Option, Some, None, Result, Ok, Err, IsTrue, MatchBool, ⊤}
+use Rattle.std.specs.Prelude.{◌≡◌, ℕ, ◌<◌, ◌≤◌, ◌⊎◌, List, [], ◌∷◌, ◌++◌, length, take, codes, Bool, if◌then◌else◌, Option, Some, None, Result, Ok, Err, IsErrOf, IsTrue, MatchBool, ⊤}
 use Rattle.std.specs.Str.{bytes_eq}
 use Rattle.sb_outside.specs.Outside.{GivesFront}
 use Rattle.sb_outside.specs.Reading.{ReadsToEnd}
@@ -58,6 +58,10 @@ pub record LacksBody (bytes : List ℕ) : Type 0 where
   pub allowed : body_length ≤ 1048576
   pub short : length rest < body_length
 
+-- More bytes are needed: were the input to end after these, the request would be cut off.
+abbrev pub NeedsMore : List ℕ → Type 0
+NeedsMore bytes = ((length bytes < 16384) × IsOpenRequest bytes) ⊎ LacksBody bytes
+
 -- When each refusal is right. Of bytes that end inside a target, or of so many bytes as a head may have that end there,
 -- two are. A fault of reading and want of memory are not known by the bytes.
 abbrev pub IsRefusal : List ℕ → Bool → RequestFault → Type 0
@@ -66,10 +70,21 @@ IsRefusal bytes ended Head = IsRefusedRequest bytes
 IsRefusal bytes ended HeadLimit = (16384 ≤ length bytes) × IsOpenRequest bytes
 IsRefusal bytes ended NoLength = (head : RequestHead) × (rest : List ℕ) × HasRequest bytes head rest None
 IsRefusal bytes ended (BodyLimit n) = (head : RequestHead) × (rest : List ℕ) × HasRequest bytes head rest (Some n) × (1048576 < n)
-IsRefusal bytes ended Cut = IsTrue ended × (((length bytes < 16384) × IsOpenRequest bytes) ⊎ LacksBody bytes)
+IsRefusal bytes ended Cut = IsTrue ended × NeedsMore bytes
 IsRefusal bytes ended OutOfMemory = ⊤
 
 -- what the bytes come to
 abbrev pub RequestOutcome : List ℕ → Bool → Result HttpRequest RequestFault → Type 0
 RequestOutcome bytes ended (Ok request) = ReadsAs bytes request
 RequestOutcome bytes ended (Err fault) = IsRefusal bytes ended fault
+
+-- Bytes were read no further than to what decides them. Those before the last read need more, and one read gives at most
+-- 65,536 bytes. Where the end was read, and where a read failed, all of them need more.
+pub record ReadsToRequest (bytes : List ℕ) (ended : Bool) (result : Result HttpRequest RequestFault) : Type 0 where
+  pub before : List ℕ
+  pub last : List ℕ
+  pub parts : bytes ≡ before ++ last
+  pub needed : NeedsMore before
+  pub short : length last ≤ 65536
+  pub end : IsTrue ended → NeedsMore bytes
+  pub fault : IsErrOf result ReadFault → NeedsMore bytes

@@ -1,8 +1,10 @@
 ghost use Rattle.std.specs.Prelude.{◌≡◌, ◌≢◌, ℕ, ◌<◌, ◌≤◌, List, ◌++◌, length, Option, OnOk, OnErr, IsErrOf};
 ghost use Rattle.sb_outside.specs.Outside.{Rose, GivesFront, AnswersEnd};
-ghost use Rattle.sb_outside.specs.Reading.{ReadsToEnd, GivesSome};
-ghost use Rattle.http_edge.specs.Receiving.{GrowsBySome, EndsShort, FillsUp};
+ghost use Rattle.sb_outside.specs.Reading.{GivesAtMost};
+ghost use Rattle.http_edge.specs.Receiving.{GrowsBySome, EndsShort, FillsUp, FailsShort, GivesWhile};
+ghost use Rattle.http_edge.specs.SessionBytes.{IsShort};
 
+use crate::heads::PIECE;
 use sb_model::Bytes;
 use sb_outside::{ReadFault, Source, read_piece};
 
@@ -20,12 +22,12 @@ pub(crate) fn receive<S: Source>(
     buffer: &mut [u8],
     text: &mut Bytes,
 ) -> Result<(), Stop>
-    requires { 0 < length buffer.old }
+    requires { length buffer.old ≡ PIECE }
     ensures more { OnOk result (GrowsBySome text.old text.new (S.left source.old) (S.left source.new)) }
     ensures text { OnErr result (text.new ≡ text.old) }
     ensures end { IsErrOf result Stop.Ended → AnswersEnd (S.left source.old) (S.left source.new) }
     ensures failed_left { IsErrOf result Stop.Failed → S.left source.new ≡ S.left source.old }
-    ensures refused_left { IsErrOf result Stop.OutOfMemory → GivesSome (S.left source.old) (S.left source.new) }
+    ensures refused_left { IsErrOf result Stop.OutOfMemory → GivesAtMost PIECE (S.left source.old) (S.left source.new) }
     ensures failed { IsErrOf result Stop.Failed → Rose (S.faults source.old) (S.faults source.new) }
     ensures kept { result ≢ Err Stop.Failed → S.faults source.new ≡ S.faults source.old }
     ensures counted { S.faults source.old ≤ S.faults source.new }
@@ -46,10 +48,11 @@ pub(crate) fn receive_body<S: Source>(
     body: &mut Bytes,
     wanted: usize,
 ) -> Result<(), Stop>
-    requires { 0 < length buffer.old }
+    requires { length buffer.old ≡ PIECE }
     ensures whole { OnOk result (FillsUp body.old body.new wanted (S.left source.old) (S.left source.new)) }
     ensures short { IsErrOf result Stop.Ended → EndsShort body.old wanted (S.left source.old) (S.left source.new) }
-    ensures failed_left { OnErr result (result ≢ Err Stop.Ended → GivesSome (S.left source.old) (S.left source.new)) }
+    ensures failed_left { IsErrOf result Stop.Failed → FailsShort body.old wanted (S.left source.old) (S.left source.new) }
+    ensures refused_left { IsErrOf result Stop.OutOfMemory → GivesWhile (IsShort body.old wanted) (S.left source.old) (S.left source.new) }
     ensures failed { IsErrOf result Stop.Failed → Rose (S.faults source.old) (S.faults source.new) }
     ensures kept { result ≢ Err Stop.Failed → S.faults source.new ≡ S.faults source.old }
     ensures counted { S.faults source.old ≤ S.faults source.new }

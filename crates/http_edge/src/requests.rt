@@ -4,11 +4,12 @@ ghost use Rattle.sb_outside.specs.Outside.{Rose, GivesFront};
 ghost use Rattle.httparse.specs.Grammar.{RequestHead};
 ghost use Rattle.httparse.specs.Spans.{IsHeaderWithin};
 ghost use Rattle.http_edge.specs.Fields.{values_at, length_in};
-ghost use Rattle.http_edge.specs.Requests.{Gives, IsRefusal, RequestOutcome, length_by, length_unless};
+ghost use Rattle.http_edge.specs.Requests.{Gives, NeedsMore, IsRefusal, RequestOutcome, ReadsToRequest, length_by, length_unless};
+ghost use Rattle.http_edge.specs.SessionBytes.{ReadsWhile};
 ghost use Rattle.http_edge.specs.Receiving.{IsFound, IsPlaced, IsPartsOf, IsRequestStep};
 
 use crate::fields::{BodyLength, first_value, length_said};
-use crate::heads::{FIELD_LIMIT, HEAD_LIMIT, buffer_of, front_of, room_for_fields};
+use crate::heads::{FIELD_LIMIT, HEAD_LIMIT, PIECE, buffer_of, front_of, room_for_fields};
 use crate::receiving::{Stop, receive, receive_body};
 use crate::{HttpRequest, RequestFault};
 use httparse::spans::{HeaderSpan, RequestSpans, parse_request};
@@ -118,12 +119,14 @@ fn receive_head<S: Source>(
     buffer: &mut [u8],
     text: &mut Bytes,
 ) -> Result<RequestParts, RequestFault>
-    requires room { 0 < length buffer.old }
+    requires room { length buffer.old ≡ PIECE }
     requires none { text.old ≡ [] }
     ensures parts { IfOk result (λ parts. IsPartsOf text.new parts) }
     ensures given { OnOk result (GivesFront text.new (S.left source.old) (S.left source.new)) }
+    ensures reads { OnOk result (ReadsWhile NeedsMore text.new) }
     ensures refusal { IfErr result (λ fault. (bytes : List ℕ) × (ended : Bool)
-        × Gives bytes ended (S.left source.old) (S.left source.new) × IsRefusal bytes ended fault) }
+        × Gives bytes ended (S.left source.old) (S.left source.new) × IsRefusal bytes ended fault
+        × ReadsToRequest bytes ended (Err fault)) }
     ensures failed { IsErrOf result RequestFault.ReadFault → Rose (S.faults source.old) (S.faults source.new) }
     ensures kept { result ≢ Err RequestFault.ReadFault → S.faults source.new ≡ S.faults source.old }
     ensures counted { S.faults source.old ≤ S.faults source.new }
@@ -159,10 +162,12 @@ fn receive_rest<S: Source>(
     text: &Bytes,
     parts: RequestParts,
 ) -> Result<HttpRequest, RequestFault>
-    requires room { 0 < length buffer.old }
+    requires room { length buffer.old ≡ PIECE }
     requires parts { IsPartsOf text.now parts }
+    requires reads { ReadsWhile NeedsMore text.now }
     ensures outcome { (start : Option (List (List ℕ))) → GivesFront text.now start (S.left source.old)
-        → (bytes : List ℕ) × (ended : Bool) × Gives bytes ended start (S.left source.new) × RequestOutcome bytes ended result }
+        → (bytes : List ℕ) × (ended : Bool) × Gives bytes ended start (S.left source.new) × RequestOutcome bytes ended result
+        × ReadsToRequest bytes ended result }
     ensures failed { IsErrOf result RequestFault.ReadFault → Rose (S.faults source.old) (S.faults source.new) }
     ensures kept { result ≢ Err RequestFault.ReadFault → S.faults source.new ≡ S.faults source.old }
     ensures counted { S.faults source.old ≤ S.faults source.new }
@@ -196,11 +201,12 @@ fn receive_rest<S: Source>(
 }
 
 /// Reads one request (RFC 9112): its head, of at most 16,384 bytes and 64 fields, and its body, of at most
-/// 1,048,576 bytes. What follows the body is not looked at.
+/// 1,048,576 bytes. What follows the body is not looked at. It reads on only while the request is neither whole nor
+/// refused, at most 65,536 bytes in one read.
 pub fn read_request<S: Source>(alloc: Global, source: &mut S) -> Result<HttpRequest, RequestFault>
-    // What the source gave, with its end or without, and what that comes to.
+    // What the source gave, with its end or without, what that comes to, and that no more was read than decides it.
     ensures outcome { (bytes : List ℕ) × (ended : Bool) × Gives bytes ended (S.left source.old) (S.left source.new)
-        × RequestOutcome bytes ended result }
+        × RequestOutcome bytes ended result × ReadsToRequest bytes ended result }
 
     // A fault is counted, and nothing else is.
     ensures failed { IsErrOf result RequestFault.ReadFault → Rose (S.faults source.old) (S.faults source.new) }
