@@ -11,6 +11,8 @@ pub mod ResponseFacts
 pub mod ChunkOutcomes
 pub mod ReadFacts
 pub mod RequestReads
+pub mod PlaceFacts
+pub mod DecidingFacts
 pub mod OneAnswer
 pub mod Written
 pub mod Targets

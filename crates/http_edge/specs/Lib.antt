@@ -10,4 +10,6 @@ pub mod Exchanges
 pub mod ChunkSteps
 pub mod SessionBytes
 pub mod Receiving
+pub mod Places
+pub mod Deciding
 pub mod Law

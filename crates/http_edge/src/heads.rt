@@ -15,7 +15,7 @@ pub(crate) const PIECE: usize = 65_536;
 
 /// Room for the fields of every head and trailer of 16,384 bytes, since a field has three bytes at least. So the
 /// parser never refuses one for the number of its fields.
-const ROOM: usize = 5_461;
+pub(crate) const ROOM: usize = 5_461;
 
 pub(crate) fn room_for_fields(alloc: Global) -> Result<Vec<HeaderSpan>, OutOfMemory>
     ensures { IfOk result (λ room. vec_len room ≡ ROOM) }

@@ -2,6 +2,7 @@
 //! sources and sinks, and a client's exchange over a link, each with its limits and its digest (RFC 9530).
 #![tactic(auto)]
 
+pub use deciding::RequestWatch;
 pub use exchanging::{Exchanged, exchange};
 pub use faults::{ExchangeFault, RequestFault, ResponseFault};
 pub use fields::{BodyLength, Framing};
@@ -13,10 +14,12 @@ pub use requests::read_request;
 pub use responding::write_response;
 
 mod chunks;
+mod deciding;
 mod digests;
 mod exchanging;
 mod faults;
 mod fields;
+mod head_places;
 mod heads;
 mod laws;
 mod messages;

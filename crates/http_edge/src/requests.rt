@@ -18,7 +18,7 @@ use sb_outside::Source;
 use std::alloc::Global;
 
 /// How many bytes the body of a request has at most.
-const BODY_LIMIT: u64 = 1_048_576;
+pub(crate) const BODY_LIMIT: u64 = 1_048_576;
 
 /// What is taken of the head of a request.
 #[derive(Debug, Drop)]
@@ -52,7 +52,7 @@ fn length_by(method: &[u8], said: BodyLength) -> Option<u64>
 }
 
 /// How many bytes the body of a request has, where that is known.
-fn request_length(
+pub(crate) fn request_length(
     method: &[u8],
     buffer: &[u8],
     fields: &[HeaderSpan],

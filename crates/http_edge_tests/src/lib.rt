@@ -4,6 +4,8 @@
 #[cfg(test)]
 mod asking;
 #[cfg(test)]
+mod deciding;
+#[cfg(test)]
 mod exchanges;
 #[cfg(test)]
 mod reading;
