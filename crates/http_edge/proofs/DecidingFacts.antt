@@ -6,8 +6,7 @@ use Rattle.std.proofs.lemmas.List.{take-append-le, take_all, append-nil, length-
 use Rattle.httparse.specs.Grammar.{RequestHead, NeverHasRequest, HasNoRequest, MayBecomeRequest}
 use Rattle.http_edge.specs.Heads.{IsRefusedRequest, IsOpenRequest}
 use Rattle.http_edge.specs.Requests.{HasRequest, ReadsAs, NeedsMore, RequestOutcome}
-use Rattle.http_edge.specs.Deciding.{IsDecided, LacksSome, HasHead, IsStage, KeepsHead, StandsFor}
-use Rattle.http_edge.specs.declared.deciding.RequestWatch.{RequestWatch}
+use Rattle.http_edge.specs.Deciding.{IsDecided, LacksSome, HasHead, IsStage, KeepsHead, StandsFor, Watching}
 use Rattle.http_edge.specs.declared.deciding.Stage.{Stage}
 use Rattle.http_edge.specs.declared.deciding.Stage.TheVariants.{Head, Body, Decided}
 use Rattle.http_edge.specs.declared.faults.RequestFault.{RequestFault}
@@ -175,7 +174,7 @@ stage_needs bytes Decided not is = absurd (not refl)
 pub stage_decides : (bytes : List ℕ) (stage : Stage) → stage ≡ Decided → IsStage bytes stage → IsDecided bytes
 stage_decides bytes stage same is = subst (IsStage bytes) same is
 
-pub stands_decided : (watch : RequestWatch) (bytes : List ℕ) → watch.stage ≡ Decided → IsDecided bytes → StandsFor watch bytes
+pub stands_decided : (watch : Watching) (bytes : List ℕ) → watch.stage ≡ Decided → IsDecided bytes → StandsFor watch bytes
 stands_decided watch bytes same is = record {
   stage = subst (IsStage bytes) (sym same) is;
   kept = subst (KeepsHead watch bytes) (sym same) tt;

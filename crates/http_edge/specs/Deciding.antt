@@ -1,6 +1,5 @@
 -- Whether the bytes of a request decide it, before their end is known.
 use Rattle.std.specs.Prelude.{◌≡◌, ◌≢◌, ℕ, ◌+◌, ◌<◌, ◌≤◌, List, length, drop, false, Option, Some, Result, Err, ⊤}
-use Rattle.std.specs.Vec.{vec_capacity}
 use Rattle.httparse.specs.Grammar.{RequestHead}
 use Rattle.http_edge.specs.Heads.{IsRefusedRequest, IsOpenRequest}
 use Rattle.http_edge.specs.Requests.{HasRequest, RequestOutcome}
@@ -9,7 +8,6 @@ use Rattle.http_edge.specs.declared.deciding.HeadStep.{HeadStep}
 use Rattle.http_edge.specs.declared.deciding.HeadStep.TheVariants.{Whole, Refused, Open}
 use Rattle.http_edge.specs.declared.deciding.Stage.{Stage}
 use Rattle.http_edge.specs.declared.deciding.Stage.TheVariants.{Head, Body, Decided}
-use Rattle.http_edge.specs.declared.deciding.RequestWatch.{RequestWatch}
 use Rattle.http_edge.specs.declared.faults.RequestFault.{RequestFault}
 use Rattle.http_edge.specs.declared.faults.RequestFault.TheVariants.{ReadFault, OutOfMemory}
 use Rattle.http_edge.specs.declared.messages.HttpRequest.{HttpRequest}
@@ -37,14 +35,20 @@ IsStage bytes (Head place) = (length bytes < 16384) × IsAt place bytes
 IsStage bytes (Body missing) = LacksSome bytes missing
 IsStage bytes Decided = IsDecided bytes
 
+-- What is kept of a request that is watched: how far it has come, the bytes of its head, and the room that was taken for them.
+pub record Watching : Type 0 where
+  pub stage : Stage
+  pub head : List ℕ
+  pub room : ℕ
+
 -- While the head is open, all its bytes are kept, in room that was taken before.
-abbrev pub KeepsHead : RequestWatch → List ℕ → Stage → Type 0
-KeepsHead watch bytes (Head place) = (watch.head.items ≡ bytes) × (16384 ≤ vec_capacity watch.head)
+abbrev pub KeepsHead : Watching → List ℕ → Stage → Type 0
+KeepsHead watch bytes (Head place) = (watch.head ≡ bytes) × (16384 ≤ watch.room)
 KeepsHead watch bytes (Body missing) = ⊤
 KeepsHead watch bytes Decided = ⊤
 
--- What the value keeps is right of these bytes: it stands for them.
-pub record StandsFor (watch : RequestWatch) (bytes : List ℕ) : Type 0 where
+-- What is kept is right of these bytes: it stands for them.
+pub record StandsFor (watch : Watching) (bytes : List ℕ) : Type 0 where
   pub stage : IsStage bytes watch.stage
   pub kept : KeepsHead watch bytes watch.stage
 

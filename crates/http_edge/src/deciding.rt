@@ -12,6 +12,7 @@ use crate::requests::{BODY_LIMIT, request_length};
 use httparse::spans::{EMPTY_HEADER_SPAN, HeaderSpan, RequestSpans, parse_request};
 use sb_model::OutOfMemory;
 use std::alloc::Global;
+use std::marker::Model;
 
 /// What a text says of the head of a request.
 #[derive(Clone, Copy)]
@@ -46,6 +47,15 @@ pub(crate) enum Stage {
 pub struct RequestWatch {
     head: Vec<u8>,
     stage: Stage,
+}
+
+impl Model for RequestWatch {
+    ghost use Rattle.std.specs.Vec.{vec_capacity};
+    ghost use Rattle.http_edge.specs.Deciding.{Watching};
+
+    ghost Value = { Watching };
+
+    ghost view = { λ w. record { stage = w.stage; head = w.head.items; room = vec_capacity w.head } };
 }
 
 /// What a whole head says.
