@@ -1,0 +1,134 @@
+-- A response on its way, and that a whole request has the answer that is right for it.
+use Rattle.std.proofs.Common.{◌≡◌, ℕ, Bool, List, [], ◌++◌, length, codes, decimal, Option, Some, None, Result, Ok, Err, IfSome, refl, sym, ap, ◌∙◌, subst}
+use Rattle.std.proofs.lemmas.List.{append-nil}
+use Rattle.sha2.specs.Sha256.{sha256}
+use Rattle.sb_outside.specs.Outside.{next_piece, appended}
+use Rattle.http_edge.specs.Requests.{Gives, ReadsAs, ReadsToRequest, RequestOutcome}
+use Rattle.http_edge.specs.Responses.{allow_line, digest_text, line, response_text, status_text}
+use Rattle.http_edge.specs.declared.faults.RequestFault.{RequestFault}
+use Rattle.http_edge.specs.declared.messages.Allow.{Allow}
+use Rattle.http_edge.specs.declared.messages.HttpRequest.{HttpRequest}
+use Rattle.http_edge.specs.declared.messages.Status.{Status}
+use Rattle.http_serving.specs.Law.{HasOneAnswer, IsAnsweredAsRead}
+use Rattle.http_serving.specs.Serving.{IsAnswerAfter, HasWritten, Serves, HasAnswer, AnswersAtMost, IsComplete}
+use Rattle.http_serving.specs.Steps.{IsStopAfter, IsSent}
+use Rattle.http_serving.specs.declared.ends.ConnectionEnd.{ConnectionEnd}
+use Rattle.http_serving.specs.declared.ends.ConnectionEnd.TheVariants as end
+use Rattle.http_serving.proofs.Requests.{IsFrontOf, front_of_gives, no_status, same_request}
+
+-- ---- a response on its way
+
+written_of_sent : (Right : HttpRequest → Status → Allow → List ℕ → Type 0) (received : Result HttpRequest RequestFault) (status : Status) (allow : Allow) (body : List ℕ) (how : ConnectionEnd)
+    → (before after : Option (List ℕ)) → IsAnswerAfter Right received status allow body → IsSent status allow body how before after → HasWritten Right received how before after
+written_of_sent Right received status allow body (end.Answered told) before after answer sent = record {
+  allow = allow;
+  body = body;
+  answer = subst (λ (s : Status). IsAnswerAfter Right received s allow body) (sym sent.0) answer;
+  written = subst (λ (s : Status). after ≡ appended before (response_text s allow body)) (sym sent.0) sent.1;
+}
+written_of_sent Right received status allow body end.WriteFault before after answer sent = record {
+  status = status;
+  allow = allow;
+  body = body;
+  answer = answer;
+  written = sent;
+}
+written_of_sent Right received status allow body end.ReadFault before after answer sent = absurd sent
+written_of_sent Right received status allow body end.OutOfMemory before after answer sent = sent
+
+pub served : (Right : HttpRequest → Status → Allow → List ℕ → Type 0) (received : Result HttpRequest RequestFault) (status : Status) (allow : Allow) (body : List ℕ) (how : ConnectionEnd)
+    → (left later last : Option (List (List ℕ))) (before between after : Option (List ℕ))
+    → (bytes : List ℕ) × (ended : Bool) × Gives bytes ended left later × RequestOutcome bytes ended received × ReadsToRequest bytes ended received
+    → last ≡ later → between ≡ before → IsAnswerAfter Right received status allow body → IsSent status allow body how between after
+    → Serves Right how left last before after
+served Right received status allow body how left later last before between after (bytes, ended, gives, read, prompt) same-left same-contents response sent = record {
+  bytes = bytes;
+  ended = ended;
+  received = received;
+  gives = subst (Gives bytes ended left) (sym same-left) gives;
+  outcome = read;
+  prompt = prompt;
+  written = written_of_sent Right received status allow body how before after response
+      (subst (λ (held : Option (List ℕ)). IsSent status allow body how held after) same-contents sent);
+}
+
+pub stopped : (Right : HttpRequest → Status → Allow → List ℕ → Type 0) (received : Result HttpRequest RequestFault) (how : ConnectionEnd)
+    → (left later : Option (List (List ℕ))) (before after : Option (List ℕ))
+    → (bytes : List ℕ) × (ended : Bool) × Gives bytes ended left later × RequestOutcome bytes ended received × ReadsToRequest bytes ended received
+    → after ≡ before → IsStopAfter received how → Serves Right how left later before after
+stopped Right received (end.Answered status) left later before after given same stop = absurd stop
+stopped Right received end.WriteFault left later before after given same stop = absurd stop
+stopped Right received end.ReadFault left later before after (bytes, ended, gives, read, prompt) same stop =
+    record { bytes = bytes; ended = ended; received = received; gives = gives; outcome = read; prompt = prompt; written = (stop, same) }
+stopped Right received end.OutOfMemory left later before after (bytes, ended, gives, read, prompt) same stop =
+    record { bytes = bytes; ended = ended; received = received; gives = gives; outcome = read; prompt = prompt; written = same }
+
+-- ---- a whole request has one answer
+
+-- the first bytes of a whole request, or more, are answered as the request is
+response_after : (Right : HttpRequest → Status → Allow → List ℕ → Type 0) (bytes whole : List ℕ) (ended : Bool) (received : Result HttpRequest RequestFault) (status : Status) (allow : Allow) (body : List ℕ) (request : HttpRequest)
+    → ReadsAs whole request → IsFrontOf bytes whole ended → RequestOutcome bytes ended received → IsAnswerAfter Right received status allow body
+    → Right request status allow body
+response_after Right bytes whole ended (Ok heard) status allow body request reads front read response =
+    subst (λ (r : HttpRequest). Right r status allow body) (same_request bytes whole ended heard request read reads front) response
+response_after Right bytes whole ended (Err refusal) status allow body request reads front read response =
+    absurd (no_status bytes whole ended request refusal status reads front read response.0)
+
+pub response_of_whole : (Right : HttpRequest → Status → Allow → List ℕ → Type 0) (bytes : List ℕ) (request : HttpRequest) → IsAnsweredAsRead Right bytes request
+response_of_whole Right bytes request reads ended received status allow body read response =
+    response_after Right bytes bytes ended received status allow body request reads
+    (record { lost = []; parts = append-nil bytes; all = λ _. refl }) read response
+
+-- a response, by the text of its line of the allowed method
+text_of : Status → List ℕ → List ℕ → List ℕ
+text_of status allowed body =
+    (line (codes "HTTP/1.1 " ++ status_text status)
+    ++ line (codes "Content-Type: application/json")
+    ++ line (codes "Content-Length: " ++ decimal (length body))
+    ++ line (codes "Content-Digest: " ++ digest_text (sha256 body))
+    ++ allowed
+    ++ line (codes "Connection: close")
+    ++ line []) ++ body
+
+same_text : (first second : Status) (allow other : Allow) (a b : List ℕ) → first ≡ second → allow_line first allow ≡ allow_line second other → a ≡ b
+    → response_text first allow a ≡ response_text second other b
+unfolding text_of line
+same_text first second allow other a b status allowed body =
+    let one : response_text first allow a ≡ text_of first (allow_line first allow) a = refl in
+    let two : response_text second other b ≡ text_of second (allow_line second other) b = refl in
+    one ∙ ap (λ (s : Status). text_of s (allow_line first allow) a) status ∙ ap (λ (l : List ℕ). text_of second l a) allowed
+    ∙ ap (text_of second (allow_line second other)) body ∙ sym two
+
+at_most : (Right : HttpRequest → Status → Allow → List ℕ → Type 0) (bytes whole : List ℕ) (ended : Bool) (received : Result HttpRequest RequestFault) (how : ConnectionEnd) (before after : Option (List ℕ))
+    → (status : Status) (allow : Allow) (body : List ℕ) → ((request : HttpRequest) → HasOneAnswer Right request)
+    → HasAnswer Right whole status allow body → IsFrontOf bytes whole ended → RequestOutcome bytes ended received → HasWritten Right received how before after
+    → AnswersAtMost status allow body how before after
+at_most Right bytes whole ended received (end.Answered told) before after status allow body one good front read is =
+    let response = response_after Right bytes whole ended received told is.allow is.body good.request good.reads front read is.answer in
+    let right = one good.request told status is.allow allow is.body body response good.right in
+    (right.0, is.written ∙ ap (appended before) (same_text told status is.allow allow is.body body right.0 right.1 right.2))
+at_most Right bytes whole ended received end.WriteFault before after status allow body one good front read is = tt
+at_most Right bytes whole ended received end.ReadFault before after status allow body one good front read is = tt
+at_most Right bytes whole ended received end.OutOfMemory before after status allow body one good front read is = tt
+
+pub complete_of : (Right : HttpRequest → Status → Allow → List ℕ → Type 0) (how : ConnectionEnd) (left later : Option (List (List ℕ))) (before after : Option (List ℕ))
+    → ((request : HttpRequest) → HasOneAnswer Right request) → Serves Right how left later before after
+    → IfSome left (λ pieces. IsComplete Right pieces how before after)
+complete_of Right how None later before after one serves = tt
+complete_of Right how (Some pieces) later before after one serves = λ status allow body good.
+    at_most Right serves.bytes (next_piece pieces) serves.ended serves.received how before after status allow body one good
+    (front_of_gives serves.bytes serves.ended pieces later serves.gives) serves.outcome serves.written
+
+-- ---- a stop is no answer
+
+no_answer : (received : Result HttpRequest RequestFault) (how : ConnectionEnd) (before after : Option (List ℕ)) (status : Status) (allow : Allow) (body : List ℕ)
+    → IsStopAfter received how → AnswersAtMost status allow body how before after
+no_answer received (end.Answered told) before after status allow body stop = absurd stop
+no_answer received end.WriteFault before after status allow body stop = tt
+no_answer received end.ReadFault before after status allow body stop = tt
+no_answer received end.OutOfMemory before after status allow body stop = tt
+
+pub complete_of_stop : (Right : HttpRequest → Status → Allow → List ℕ → Type 0) (received : Result HttpRequest RequestFault) (how : ConnectionEnd) (left : Option (List (List ℕ))) (before after : Option (List ℕ))
+    → IsStopAfter received how → IfSome left (λ pieces. IsComplete Right pieces how before after)
+complete_of_stop Right received how None before after stop = tt
+complete_of_stop Right received how (Some pieces) before after stop = λ status allow body good. no_answer received how before after status allow body stop

@@ -1,0 +1,5 @@
+mod Fronts
+mod RoutedAnswers
+mod Requests
+mod Answering
+mod Entries

@@ -1,0 +1,6 @@
+pub mod Routes
+pub mod Serving
+pub mod Printed
+pub mod Returning
+pub mod Law
+pub mod Steps

@@ -1,0 +1,117 @@
+-- What a connection is answered: one response to the request that it gives. What a right answer to a request is, is a
+-- parameter: a relation `Right` of a request, a status, the method that a 405 allows, and a body. It may be any relation,
+-- so also one of what a session of the server's own brought.
+use Rattle.std.specs.Prelude.{◌≡◌, ◌↔◌, ℕ, Bool, List, [], Option, Some, None, Result, Ok, Err, ⊤, IsTrue}
+use Rattle.sb_outside.specs.Outside.{appended, next_piece}
+use Rattle.sb_outside.specs.Writing.{HasFront}
+use Rattle.sb_outside.specs.declared.doors.Connection.{Connection}
+use Rattle.http_edge.specs.Requests.{Gives, ReadsAs, ReadsToRequest, RequestOutcome}
+use Rattle.http_edge.specs.Responses.{response_text}
+use Rattle.http_edge.specs.declared.faults.RequestFault.{RequestFault}
+use Rattle.http_edge.specs.declared.faults.RequestFault.TheVariants as fault
+use Rattle.http_edge.specs.declared.messages.Allow.{Allow}
+use Rattle.http_edge.specs.declared.messages.HttpRequest.{HttpRequest}
+use Rattle.http_edge.specs.declared.messages.Status.{Status}
+use Rattle.http_edge.specs.declared.messages.Status.TheVariants.{BadRequest, LengthRequired, ContentTooLarge, FieldsTooLarge}
+use Rattle.http_serving.specs.declared.ends.ConnectionEnd.{ConnectionEnd}
+use Rattle.http_serving.specs.declared.ends.ConnectionEnd.TheVariants as end
+
+-- ---- what received bytes are answered
+
+-- The status of bytes that are no request (RFC 9110, section 15.5; RFC 6585, section 5). A fault of reading and want of
+-- memory have none.
+abbrev pub refusal_status : RequestFault → Option Status
+refusal_status fault.ReadFault = None
+refusal_status fault.Head = Some BadRequest
+refusal_status fault.HeadLimit = Some FieldsTooLarge
+refusal_status fault.NoLength = Some LengthRequired
+refusal_status (fault.BodyLimit length) = Some ContentTooLarge
+refusal_status fault.Cut = Some BadRequest
+refusal_status fault.OutOfMemory = None
+
+-- A right answer to what was received: to a request, or to bytes that are none.
+abbrev pub IsAnswerAfter : (HttpRequest → Status → Allow → List ℕ → Type 0) → Result HttpRequest RequestFault → Status → Allow → List ℕ → Type 0
+IsAnswerAfter Right (Ok request) status allow body = Right request status allow body
+IsAnswerAfter Right (Err refusal) status allow body = (refusal_status refusal ≡ Some status) × (body ≡ [])
+
+-- ---- what is written
+
+-- A right response was written.
+pub record IsAnswered (Right : HttpRequest → Status → Allow → List ℕ → Type 0) (received : Result HttpRequest RequestFault) (status : Status)
+    (before after : Option (List ℕ)) : Type 0 where
+  pub allow : Allow
+  pub body : List ℕ
+  pub answer : IsAnswerAfter Right received status allow body
+  pub written : after ≡ appended before (response_text status allow body)
+
+-- A front of a right response was written, and not the whole.
+pub record IsPartlyAnswered (Right : HttpRequest → Status → Allow → List ℕ → Type 0) (received : Result HttpRequest RequestFault)
+    (before after : Option (List ℕ)) : Type 0 where
+  pub status : Status
+  pub allow : Allow
+  pub body : List ℕ
+  pub answer : IsAnswerAfter Right received status allow body
+  pub written : HasFront before after (response_text status allow body)
+
+-- what was written, by how the connection ended
+abbrev pub HasWritten : (HttpRequest → Status → Allow → List ℕ → Type 0) → Result HttpRequest RequestFault → ConnectionEnd
+    → (before after : Option (List ℕ)) → Type 0
+HasWritten Right received (end.Answered status) before after = IsAnswered Right received status before after
+HasWritten Right received end.WriteFault before after = IsPartlyAnswered Right received before after
+HasWritten Right received end.ReadFault before after = (received ≡ Err fault.ReadFault) × (after ≡ before)
+HasWritten Right received end.OutOfMemory before after = after ≡ before
+
+-- A connection was served: the bytes that it gave, with its end or without, what these come to, and what was written of the
+-- answer. No more was read than decides what they come to.
+pub record Serves (Right : HttpRequest → Status → Allow → List ℕ → Type 0) (how : ConnectionEnd) (left left' : Option (List (List ℕ)))
+    (before after : Option (List ℕ)) : Type 0 where
+  pub bytes : List ℕ
+  pub ended : Bool
+  pub received : Result HttpRequest RequestFault
+  pub gives : Gives bytes ended left left'
+  pub outcome : RequestOutcome bytes ended received
+  pub prompt : ReadsToRequest bytes ended received
+  pub written : HasWritten Right received how before after
+
+-- ---- what has to be answered
+
+-- The bytes begin with a whole request, and this is a right answer to it.
+pub record HasAnswer (Right : HttpRequest → Status → Allow → List ℕ → Type 0) (bytes : List ℕ) (status : Status) (allow : Allow) (body : List ℕ) : Type 0 where
+  pub request : HttpRequest
+  pub reads : ReadsAs bytes request
+  pub right : Right request status allow body
+
+-- Where the connection was answered, this response was written. It is not answered where a read or a write failed, or memory
+-- was refused.
+abbrev pub AnswersAtMost : Status → Allow → List ℕ → ConnectionEnd → (before after : Option (List ℕ)) → Type 0
+AnswersAtMost status allow body (end.Answered told) before after =
+    (told ≡ status) × (after ≡ appended before (response_text status allow body))
+AnswersAtMost status allow body how before after = ⊤
+
+-- Where a whole request was to come, with a right answer, the connection was answered so or not at all.
+abbrev pub IsComplete : (HttpRequest → Status → Allow → List ℕ → Type 0) → List (List ℕ) → ConnectionEnd → (before after : Option (List ℕ)) → Type 0
+IsComplete Right pieces how before after =
+    (status : Status) (allow : Allow) (body : List ℕ) → HasAnswer Right (next_piece pieces) status allow body
+    → AnswersAtMost status allow body how before after
+
+-- ---- what a door's log says of it
+
+-- A connection that had these pieces to give was served, by its entry in the door's log: what was written to it is right for
+-- the bytes that it gave, and the entry says where its end was read. A whole request that it had to give was answered, where no
+-- fault was counted and memory was not refused.
+pub record IsServed (Right : HttpRequest → Status → Allow → List ℕ → Type 0) (how : ConnectionEnd) (pieces : List (List ℕ)) (entry : Connection) : Type 0 where
+  pub rest : List (List ℕ)
+  pub serves : Serves Right how (Some pieces) (Some rest) (Some []) (Some entry.written)
+  pub given : entry.given ≡ serves.bytes
+  pub over : IsTrue serves.ended → IsTrue entry.ended
+  pub complete : IsComplete Right pieces how (Some []) (Some entry.written)
+  pub read_fault : IsTrue entry.read_fault ↔ (how ≡ end.ReadFault)
+  pub write_fault : IsTrue entry.write_fault ↔ (how ≡ end.WriteFault)
+
+-- Nothing was read of a connection, and nothing was written to it, nor was it tried.
+pub record IsUntouched (entry : Connection) : Type 0 where
+  pub given : entry.given ≡ []
+  pub ended : ¬ IsTrue entry.ended
+  pub written : entry.written ≡ []
+  pub read_fault : ¬ IsTrue entry.read_fault
+  pub write_fault : ¬ IsTrue entry.write_fault

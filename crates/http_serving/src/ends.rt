@@ -1,0 +1,80 @@
+ghost use Rattle.std.specs.Prelude.{◌≡◌, ◌≢◌, ◌++◌, Err, IfOk, OnOk, IsErrOf, codes, decimal};
+ghost use Rattle.sb_outside.specs.Outside.{Rose, appended};
+ghost use Rattle.sb_outside.specs.Writing.{HasFront};
+ghost use Rattle.http_serving.specs.Printed.{connection_line, end_text};
+
+use http_edge::{ResponseFault, Status};
+use sb_model::{Bytes, OutOfMemory};
+use sb_outside::{Failed, Sink, write_all};
+use std::alloc::Global;
+
+/// How a connection ended.
+#[derive(Clone, Copy, Debug, PartialEq, Eq, Hash)]
+pub enum ConnectionEnd {
+    /// A whole response with this status was written.
+    Answered(Status),
+    /// The request could not be received. Nothing was written.
+    ReadFault,
+    /// The response could not be sent as a whole.
+    WriteFault,
+    /// Memory was refused. Nothing was written.
+    OutOfMemory,
+}
+
+/// Appends how a connection ended. Want of memory is no end that is told.
+fn push_end(line: &mut Bytes, end: ConnectionEnd) -> Result<(), OutOfMemory>
+    ensures text { OnOk result (line.new ≡ line.old ++ end_text end) }
+    ensures some { OnOk result (end ≢ ConnectionEnd.OutOfMemory) }
+{
+    match end {
+        ConnectionEnd::Answered(status) => {
+            line.append(b"answered ")?;
+            line.append_decimal(u64::from(status.code()))
+        }
+        ConnectionEnd::ReadFault => line.append(b"read-fault"),
+        ConnectionEnd::WriteFault => line.append(b"write-fault"),
+        ConnectionEnd::OutOfMemory => Err(OutOfMemory),
+    }
+}
+
+/// The line of a connection that ended, by its number. Want of memory is no end that is told.
+fn line_of(alloc: Global, number: u32, end: ConnectionEnd) -> Result<Bytes, OutOfMemory>
+    ensures told { IfOk result (λ line. line ≡ connection_line number end) }
+    ensures some { IfOk result (λ _. end ≢ ConnectionEnd.OutOfMemory) }
+{
+    let mut line = Bytes::new(alloc);
+    line.append(b"connection ")?;
+    line.append_decimal(u64::from(number))?;
+    line.append(b" ")?;
+    push_end(&mut line, end)?;
+    line.append(b"\n")?;
+    Ok(line)
+}
+
+/// Prints the line of a connection that ended, by its number, counted from 1: `connection I answered S`,
+/// `connection I read-fault` or `connection I write-fault`. Want of memory is no end that is told: where the connection ended so,
+/// the answer is `OutOfMemory`, and nothing is written.
+pub fn print_connection<O: Sink>(
+    alloc: Global,
+    number: u32,
+    end: ConnectionEnd,
+    out: &mut O,
+) -> Result<(), ResponseFault>
+    ensures told { result ≢ Err ResponseFault.OutOfMemory → end ≢ ConnectionEnd.OutOfMemory }
+    ensures whole { OnOk result (O.contents out.new ≡ appended (O.contents out.old) (connection_line number end)) }
+    ensures cut { IsErrOf result ResponseFault.WriteFault →
+        HasFront (O.contents out.old) (O.contents out.new) (connection_line number end) }
+    ensures memory { IsErrOf result ResponseFault.OutOfMemory → out.new ≡ out.old }
+
+    // A fault is counted, and nothing else is.
+    ensures failed { IsErrOf result ResponseFault.WriteFault → Rose (O.faults out.old) (O.faults out.new) }
+    ensures kept { result ≢ Err ResponseFault.WriteFault → O.faults out.new ≡ O.faults out.old }
+{
+    let Ok(line) = line_of(alloc, number, end) else {
+        return Err(ResponseFault::OutOfMemory);
+    };
+    match write_all(out, line.as_slice()) {
+        Ok(()) => Ok(()),
+        Err(Failed) => Err(ResponseFault::WriteFault),
+    }
+}

@@ -1,0 +1,157 @@
+ghost use Rattle.std.specs.Prelude.{◌≡◌, ◌≢◌, ◌≤◌, ℕ, List, IfOk, IfErr, IfSome};
+ghost use Rattle.sb_outside.specs.Outside.{Rose};
+ghost use Rattle.http_edge.specs.declared.messages.Allow.{Allow};
+ghost use Rattle.http_edge.specs.declared.messages.HttpRequest.{HttpRequest};
+ghost use Rattle.http_edge.specs.declared.messages.Status.{Status};
+ghost use Rattle.http_serving.specs.Law.{HasOneAnswer};
+ghost use Rattle.http_serving.specs.Returning.{IsFresh, IsReturned};
+ghost use Rattle.http_serving.specs.Routes.{AsksAt, IsRouted, Route, RoutedAnswer};
+ghost use Rattle.http_serving.specs.Serving.{IsAnswerAfter, IsComplete, IsServed, IsUntouched, Serves};
+ghost use Rattle.http_serving.specs.Steps.{IsStopAfter};
+
+use crate::ends::ConnectionEnd;
+use crate::responses::{Response, bare, refusal_status, send};
+use crate::routes::Routed;
+use http_edge::{Allow, HttpRequest, RequestFault, Status, read_request};
+use sb_model::{Bytes, OutOfMemory};
+use sb_outside::{Door, Wire};
+use std::alloc::Global;
+
+/// A server of requests, by a table of routes.
+pub trait Answers {
+    // the table
+    ghost routes: { List Route };
+
+    // what a right answer is to a request that asks for the route at a place, of a server that was so before it and is so after
+    // it. It may be any relation, so also one of what a session of the server's own brought.
+    ghost right: { Self → Self → ℕ → HttpRequest → Status → Allow → List ℕ → Type 0 };
+
+    /// What a request asks for.
+    fn find(&self, request: &HttpRequest) -> Routed
+        ensures { IsRouted routes request.now result };
+
+    /// The response to a request that asks for the route at a place.
+    fn answer(
+        &mut self,
+        alloc: Global,
+        place: usize,
+        request: &HttpRequest,
+    ) -> Result<Response, OutOfMemory>
+        requires { AsksAt routes request.now place }
+        ensures { IfOk result (λ response.
+            right self.old self.new place request.now response.status response.allow response.body) };
+
+    /// No two answers of a route are right for one request.
+    fn have_one_answer()
+        ensures { (before after : Self) (place : ℕ) (request : HttpRequest) → HasOneAnswer (right before after place) request };
+}
+
+/// The response to a request.
+fn answer_request<A: Answers>(
+    alloc: Global,
+    answers: &mut A,
+    request: &HttpRequest,
+) -> Result<Response, OutOfMemory>
+    ensures { IfOk result (λ response. RoutedAnswer A.routes (A.right answers.old answers.new) request.now
+        response.status response.allow response.body) }
+{
+    match answers.find(request) {
+        Routed::Asked(place) => answers.answer(alloc, place, request),
+        Routed::OtherMethod(allow) => Ok(bare(alloc, Status::MethodNotAllowed, allow)),
+        Routed::NoPath => Ok(bare(alloc, Status::NotFound, Allow::Post)),
+    }
+}
+
+/// The response to what was received.
+fn respond<A: Answers>(
+    alloc: Global,
+    answers: &mut A,
+    received: Result<HttpRequest, RequestFault>,
+) -> Result<Response, ConnectionEnd>
+    ensures response { IfOk result (λ response. IsAnswerAfter (RoutedAnswer A.routes (A.right answers.old answers.new)) received
+        response.status response.allow response.body) }
+    ensures stop { IfErr result (λ end. IsStopAfter received end) }
+{
+    match received {
+        Ok(request) => match answer_request(alloc, answers, &request) {
+            Ok(response) => Ok(response),
+            Err(OutOfMemory) => Err(ConnectionEnd::OutOfMemory),
+        },
+        Err(RequestFault::ReadFault) => Err(ConnectionEnd::ReadFault),
+        Err(fault) => match refusal_status(fault) {
+            Some(status) => Ok(bare(alloc, status, Allow::Post)),
+            None => Err(ConnectionEnd::OutOfMemory),
+        },
+    }
+}
+
+/// Reads one request and writes one response (RFC 9112).
+///
+/// A request that asks for a route is answered as the server says. Other responses have no body: 400 where the request is
+/// malformed or cut off; 404 where no route has its path; 405 where the route of its path takes another method, which `Allow`
+/// names; 411 where the length of the body is not given; 413 where it is more than 1,048,576 bytes; 431 where the head is too
+/// long. What follows a `?` in the target is not looked at, nor what follows the request.
+pub fn serve_connection<A: Answers, T: Wire>(
+    alloc: Global,
+    answers: &mut A,
+    wire: &mut T,
+) -> ConnectionEnd
+    // What the wire gave, and what was written of the answer.
+    ensures serves { Serves (RoutedAnswer A.routes (A.right answers.old answers.new)) result
+        (T.left wire.old) (T.left wire.new) (T.contents wire.old) (T.contents wire.new) }
+
+    // A whole request that has an answer is answered with that, or not at all.
+    ensures complete { IfSome (T.left wire.old) (λ pieces. IsComplete (RoutedAnswer A.routes (A.right answers.old answers.new)) pieces result
+        (T.contents wire.old) (T.contents wire.new)) }
+
+    // A fault is counted, and nothing else is.
+    ensures read_failed { result ≡ ConnectionEnd.ReadFault → Rose (T.Source.faults wire.old) (T.Source.faults wire.new) }
+    ensures read_kept { result ≢ ConnectionEnd.ReadFault → T.Source.faults wire.new ≡ T.Source.faults wire.old }
+    ensures read_counted { T.Source.faults wire.old ≤ T.Source.faults wire.new }
+    ensures write_failed { result ≡ ConnectionEnd.WriteFault → Rose (T.Sink.faults wire.old) (T.Sink.faults wire.new) }
+    ensures write_kept { result ≢ ConnectionEnd.WriteFault → T.Sink.faults wire.new ≡ T.Sink.faults wire.old }
+    ensures write_counted { T.Sink.faults wire.old ≤ T.Sink.faults wire.new }
+
+    // It is the same connection.
+    ensures number { T.number wire.new ≡ T.number wire.old }
+    ensures start { T.start wire.new ≡ T.start wire.old }
+{
+    A::have_one_answer();
+    let received = read_request(alloc, wire);
+    match respond(alloc, answers, received) {
+        Ok(response) => send(alloc, wire, &response),
+        Err(end) => end,
+    }
+}
+
+/// Serves a connection that a door handed out, and gives it back.
+pub fn serve_wire<A: Answers, D: Door>(
+    alloc: Global,
+    answers: &mut A,
+    door: &mut D,
+    wire: D::Wire,
+) -> ConnectionEnd
+    // The log's entry of this connection says how it was served, and each other entry is as it was.
+    ensures served { (pieces : List (List ℕ))
+        → IsFresh pieces (D.Wire.start wire) (D.Wire.left wire) (D.Wire.contents wire) (D.Wire.Source.faults wire) (D.Wire.Sink.faults wire)
+        → IsReturned (IsServed (RoutedAnswer A.routes (A.right answers.old answers.new)) result pieces) (D.Wire.number wire)
+        (D.log door.old) (D.log door.new) }
+    ensures kept { D.faults door.new ≡ D.faults door.old }
+    ensures coming { D.coming door.new ≡ D.coming door.old }
+{
+    let mut wire = wire;
+    let end = serve_connection(alloc, answers, &mut wire);
+    door.done(wire);
+    end
+}
+
+/// Gives back a connection as the door handed it out: nothing is read of it, and nothing is written to it.
+pub fn give_back<D: Door>(door: &mut D, wire: D::Wire)
+    ensures untouched { (pieces : List (List ℕ))
+        → IsFresh pieces (D.Wire.start wire) (D.Wire.left wire) (D.Wire.contents wire) (D.Wire.Source.faults wire) (D.Wire.Sink.faults wire)
+        → IsReturned IsUntouched (D.Wire.number wire) (D.log door.old) (D.log door.new) }
+    ensures kept { D.faults door.new ≡ D.faults door.old }
+    ensures coming { D.coming door.new ≡ D.coming door.old }
+{
+    door.done(wire)
+}
