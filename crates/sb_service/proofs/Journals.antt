@@ -11,7 +11,7 @@ use Rattle.list_versions.specs.declared.fault.JournalFault.TheVariants as journa
 use Rattle.delta_server.specs.declared.answering.Settings.{Settings}
 use Rattle.sb_service.specs.Answer.{AfterFault, IsSilent}
 use Rattle.sb_service.specs.Serving.{Turn, Gains, Grows, gained_in, AreOfJournal, HasNoBadLine, HasNotGrown, HasRun, IsLined, IsRefusal, IsServeRun, IsTurn, Seen, Stops, HasBegun, AfterLoad}
-use Rattle.sb_service.specs.declared.connection.ConnectionEnd.{ConnectionEnd}
+use Rattle.http_serving.specs.declared.ends.ConnectionEnd.{ConnectionEnd}
 use Rattle.sb_service.proofs.Loads.{told_front, IsLoadedAs, loaded_as}
 use Rattle.sb_outside.specs.declared.doors.Connection.{Connection}
 
@@ -147,46 +147,46 @@ no_last_turn law pieces n times number status before after none at other some (i
     not_lined number grown.told.how status before.held after.held other some grown.told.lined
 no_last_turn law pieces n times number status before after none at other some (inr stop) = not_refused law pieces n status before after none at other stop
 
-ends_with_0 : CutsLaw → (pieces : List (List ℕ)) (n : ℕ) (times : Settings) (connections status : ℕ) (before after : Seen) (coming : Option (List (List (List ℕ)))) → HasNoBadLine pieces → IsAfter pieces n before.left before.kept
-    → IsOther status → Stops times connections n status before after coming → status ≡ 0
-ends_with_0 law pieces n times connections status before after coming none at other (inl done) = done.1.ends
-ends_with_0 law pieces n times connections status before after coming none at other (inr (inl no_more)) = no_more.0.ends
-ends_with_0 law pieces n times connections status before after coming none at other (inr (inr (inl failed))) = absurd (other.no_door failed.ends)
-ends_with_0 law pieces n times connections status before after coming none at other (inr (inr (inr turn))) =
+ends_with_0 : CutsLaw → (pieces : List (List ℕ)) (n : ℕ) (times : Settings) (connections status : ℕ) (before after : Seen) → HasNoBadLine pieces → IsAfter pieces n before.left before.kept
+    → IsOther status → Stops times connections n status before after → status ≡ 0
+ends_with_0 law pieces n times connections status before after none at other (inl done) = done.1.ends
+ends_with_0 law pieces n times connections status before after none at other (inr (inl no_more)) = no_more.0.ends
+ends_with_0 law pieces n times connections status before after none at other (inr (inr (inl failed))) = absurd (other.no_door failed.ends)
+ends_with_0 law pieces n times connections status before after none at other (inr (inr (inr turn))) =
     absurd (no_last_turn law pieces n times (n + 1) status before after none at other turn.0 turn.1)
 
-run_ends : CutsLaw → (pieces : List (List ℕ)) (times : Settings) (connections status : ℕ) (first after : Seen) (coming : Option (List (List (List ℕ)))) → HasNoBadLine pieces → IsAfter pieces 0 first.left first.kept
-    → IsOther status → HasRun times connections status first after coming → status ≡ 0
-run_ends law pieces times connections status first after coming none at other run =
-    ends_with_0 law pieces (length run.turns) times connections status run.last after coming none
+run_ends : CutsLaw → (pieces : List (List ℕ)) (times : Settings) (connections status : ℕ) (first after : Seen) → HasNoBadLine pieces → IsAfter pieces 0 first.left first.kept
+    → IsOther status → HasRun times connections status first after → status ≡ 0
+run_ends law pieces times connections status first after none at other run =
+    ends_with_0 law pieces (length run.turns) times connections status run.last after none
     (after_turns law pieces run.turns first.left run.last.left first.kept run.last.kept at run.turned.gains run.turned.grows) other run.stops
 
 begun_ends : CutsLaw → (pieces : List (List ℕ)) (times : Settings) (connections status : ℕ) (bytes : List ℕ) (kept : Kept) (read left' : Option (List (List ℕ))) (held held' : Option (List ℕ)) (log log' : Option (List Connection))
-    (coming : Option (List (List (List ℕ)))) → HasNoBadLine pieces → IsAfter pieces 0 read kept → IsOther status → HasBegun times connections status bytes kept read left' held held' log log' coming → status ≡ 0
-begun_ends law pieces times connections status bytes kept read left' held held' log log' coming none at other begun =
-    run_ends law pieces times connections status (record { left = read; kept = kept; held = held; log = log }) (record { left = left'; kept = begun.last; held = held'; log = log' }) coming none at other begun.run
+    (coming coming' : Option (List (List (List ℕ)))) → HasNoBadLine pieces → IsAfter pieces 0 read kept → IsOther status → HasBegun times connections status bytes kept read left' held held' log log' coming coming' → status ≡ 0
+begun_ends law pieces times connections status bytes kept read left' held held' log log' coming coming' none at other begun =
+    run_ends law pieces times connections status (record { left = read; kept = kept; held = held; log = log; coming = coming }) (record { left = left'; kept = begun.last; held = held'; log = log'; coming = coming' }) none at other begun.run
 
 load_ends : CutsLaw → (pieces : List (List ℕ)) (times : Settings) (connections status : ℕ) (bytes : List ℕ) (ended : Bool) (read left' : Option (List (List ℕ))) (held held' : Option (List ℕ)) (log log' : Option (List Connection))
-    (coming : Option (List (List (List ℕ)))) (kept : Kept) → HasNoBadLine pieces → kept_of (next_piece pieces) ≡ Ok kept → IsOther status → Gives bytes ended (Some pieces) read
-    → (loaded : Result Kept JournalFault) → JournalOutcome bytes ended loaded → IsLoadedAs kept loaded → AfterLoad times connections bytes loaded status read left' held held' log log' coming → status ≡ 0
-load_ends law pieces times connections status bytes ended read left' held held' log log' coming kept none told other gives (Ok found) outcome (inl is) begun =
+    (coming coming' : Option (List (List (List ℕ)))) (kept : Kept) → HasNoBadLine pieces → kept_of (next_piece pieces) ≡ Ok kept → IsOther status → Gives bytes ended (Some pieces) read
+    → (loaded : Result Kept JournalFault) → JournalOutcome bytes ended loaded → IsLoadedAs kept loaded → AfterLoad times connections bytes loaded status read left' held held' log log' coming coming' → status ≡ 0
+load_ends law pieces times connections status bytes ended read left' held held' log log' coming coming' kept none told other gives (Ok found) outcome (inl is) begun =
     let whole : Gives bytes true (Some pieces) read = subst (λ (e : Bool). Gives bytes e (Some pieces) read) outcome.0 gives in
     let rest = some_left (Some pieces) pieces bytes read refl whole in
     let first : kept_of (next_piece pieces) ≡ Ok found = told ∙ sym is in
-    begun_ends law pieces times connections status bytes found read left' held held' log log' coming none (begins pieces read found rest.1 first) other begun
-load_ends law pieces times connections status bytes ended read left' held held' log log' coming kept none told other gives (Ok found) outcome (inr (inl is)) begun = absurd (cc)
-load_ends law pieces times connections status bytes ended read left' held held' log log' coming kept none told other gives (Ok found) outcome (inr (inr is)) begun = absurd (cc)
-load_ends law pieces times connections status bytes ended read left' held held' log log' coming kept none told other gives (Err fault) outcome (inl is) not = absurd (cc)
-load_ends law pieces times connections status bytes ended read left' held held' log log' coming kept none told other gives (Err fault) outcome (inr (inl is)) not =
+    begun_ends law pieces times connections status bytes found read left' held held' log log' coming coming' none (begins pieces read found rest.1 first) other begun
+load_ends law pieces times connections status bytes ended read left' held held' log log' coming coming' kept none told other gives (Ok found) outcome (inr (inl is)) begun = absurd (cc)
+load_ends law pieces times connections status bytes ended read left' held held' log log' coming coming' kept none told other gives (Ok found) outcome (inr (inr is)) begun = absurd (cc)
+load_ends law pieces times connections status bytes ended read left' held held' log log' coming coming' kept none told other gives (Err fault) outcome (inl is) not = absurd (cc)
+load_ends law pieces times connections status bytes ended read left' held held' log log' coming coming' kept none told other gives (Err fault) outcome (inr (inl is)) not =
     absurd (faultless fault status held held' other (inl (cc)) not.refusal)
-load_ends law pieces times connections status bytes ended read left' held held' log log' coming kept none told other gives (Err fault) outcome (inr (inr is)) not =
+load_ends law pieces times connections status bytes ended read left' held held' log log' coming coming' kept none told other gives (Err fault) outcome (inr (inr is)) not =
     absurd (faultless fault status held held' other (inr (cc)) not.refusal)
 
 pub served_to_the_end : CutsLaw → (times : Settings) (connections status : ℕ) (pieces : List (List ℕ)) (left left' : Option (List (List ℕ))) (held held' : Option (List ℕ)) (log log' : Option (List Connection))
-    (coming : Option (List (List (List ℕ)))) → left ≡ Some pieces → HasNoBadLine pieces → IsServeRun times connections status left left' held held' log log' coming → IsOther status → status ≡ 0
-served_to_the_end law times connections status pieces left left' held held' log log' coming told none run other =
+    (coming coming' : Option (List (List (List ℕ)))) → left ≡ Some pieces → HasNoBadLine pieces → IsServeRun times connections status left left' held held' log log' coming coming' → IsOther status → status ≡ 0
+served_to_the_end law times connections status pieces left left' held held' log log' coming coming' told none run other =
     let first = none 0 in
     let begins : kept_of (next_piece pieces) ≡ Ok first.0 = ap kept_of (sym (one_further 0 pieces)) ∙ first.1 in
     let gives : Gives run.bytes run.ended (Some pieces) run.read = subst (λ (l : Option (List (List ℕ))). Gives run.bytes run.ended l run.read) told run.gives in
-    load_ends law pieces times connections status run.bytes run.ended run.read left' held held' log log' coming first.0 none begins other gives run.loaded run.outcome
+    load_ends law pieces times connections status run.bytes run.ended run.read left' held held' log log' coming coming' first.0 none begins other gives run.loaded run.outcome
     (loaded_as run.bytes run.ended pieces run.read first.0 run.loaded gives begins run.outcome) run.after

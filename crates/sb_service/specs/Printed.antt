@@ -1,6 +1,5 @@
 -- What a run prints, and the status that goes with it.
 use Rattle.std.specs.Prelude.{ℕ, List, [], ◌∷◌, ◌++◌, Option, Some, None, Result, Ok, Err, codes, decimal}
-use Rattle.http_edge.specs.Responses.{status_code}
 use Rattle.sb_json.specs.declared.faults.MessageFault.{MessageFault}
 use Rattle.sb_json.specs.Printed.{cause_text as message_cause}
 use Rattle.sb_model.specs.History.{History}
@@ -14,8 +13,6 @@ use Rattle.delta_server.specs.declared.answering.ServeFault.{ServeFault}
 use Rattle.delta_server.specs.declared.answering.Settings.{Settings}
 use Rattle.delta_server.specs.declared.answering.ServeFault.TheVariants.{UnknownList, OutOfMemory}
 use Rattle.sb_service.specs.Connection.{updates_text, matches_text}
-use Rattle.sb_service.specs.declared.connection.ConnectionEnd.{ConnectionEnd}
-use Rattle.sb_service.specs.declared.connection.ConnectionEnd.TheVariants as end
 
 -- why a journal is refused
 abbrev pub journal_line : JournalFault → List ℕ
@@ -63,14 +60,3 @@ reply_to_fetch versions times (Err fault) = reply_because (message_cause fault)
 abbrev pub reply_to_find : History → Settings → Result AskedHashes MessageFault → Reply
 reply_to_find versions times (Ok request) = reply_with (matches_text versions times request)
 reply_to_find versions times (Err fault) = reply_because (message_cause fault)
-
--- how a connection ended; want of memory is never told
-abbrev pub end_text : ConnectionEnd → List ℕ
-end_text (end.Answered status) = codes "answered " ++ decimal (status_code status)
-end_text end.ReadFault = codes "read-fault"
-end_text end.WriteFault = codes "write-fault"
-end_text end.OutOfMemory = []
-
--- the line of a connection, by its number
-abbrev pub connection_line : ℕ → ConnectionEnd → List ℕ
-connection_line number how = codes "connection " ++ decimal number ++ codes " " ++ end_text how ++ newline ∷ []

@@ -1,6 +1,6 @@
 -- A run of `serve`: what the journal gave before each connection, how each connection ended and what the door's log says of
 -- it, the lines that were printed, and how the run ended.
-use Rattle.std.specs.Prelude.{◌≡◌, ◌≢◌, ◌⊎◌, ◌↔◌, ◌+◌, ◌≤◌, ℕ, suc, Bool, true, List, [], ◌∷◌, ◌++◌, length, take, ⊤, Option, Some, Result, Ok, Err, IfSome, IsTrue}
+use Rattle.std.specs.Prelude.{◌≡◌, ◌≢◌, ◌⊎◌, ◌+◌, ◌≤◌, ℕ, suc, Bool, true, List, [], ◌∷◌, ◌++◌, length, take, ⊤, Option, Some, Result, Ok, Err, IfSome, option_map}
 use Rattle.std.specs.List.{concat}
 use Rattle.sb_outside.specs.Outside.{IfTold, appended, with_entry}
 use Rattle.sb_outside.specs.Writing.{HasFront}
@@ -12,26 +12,13 @@ use Rattle.list_versions.specs.Loaded.{Gives, JournalOutcome, FurtherFault}
 use Rattle.list_versions.specs.declared.fault.JournalFault.{JournalFault}
 use Rattle.delta_server.specs.declared.answering.Settings.{Settings}
 use Rattle.sb_service.specs.Answer.{AfterFault, IsSilent}
-use Rattle.sb_service.specs.Connection.{HasWritten}
-use Rattle.sb_service.specs.Printed.{connection_line}
-use Rattle.sb_service.specs.declared.connection.ConnectionEnd.{ConnectionEnd}
-use Rattle.sb_service.specs.declared.connection.ConnectionEnd.TheVariants as end
+use Rattle.http_serving.specs.Printed.{connection_line}
+use Rattle.http_serving.specs.Serving.{IsServed, IsUntouched}
+use Rattle.http_serving.specs.declared.ends.ConnectionEnd.{ConnectionEnd}
+use Rattle.http_serving.specs.declared.ends.ConnectionEnd.TheVariants as end
+use Rattle.sb_service.specs.Connection.{IsResponseTo}
 
 -- ---- a connection
-
--- What a connection was answered, by its entry in the door's log: what was written to it is right for the bytes that it
--- gave, over the history that was lent. The end of input came where the entry says so, or where nothing was given.
-pub record IsServed (versions : History) (times : Settings) (how : ConnectionEnd) (entry : Connection) : Type 0 where
-  pub ended : Bool
-  pub written : HasWritten versions times entry.given ended how (Some []) (Some entry.written)
-  pub over : IsTrue ended → IsTrue entry.ended ⊎ (entry.given ≡ [])
-  pub read_fault : IsTrue entry.read_fault ↔ (how ≡ end.ReadFault)
-  pub write_fault : IsTrue entry.write_fault ↔ (how ≡ end.WriteFault)
-
--- Nothing was read of a connection, and nothing was written to it.
-pub record IsUntouched (entry : Connection) : Type 0 where
-  pub given : entry.given ≡ []
-  pub written : entry.written ≡ []
 
 -- The log has one more entry than before, where it is told, and the entry is such a one.
 pub record IsLogged (Says : Connection → Type 0) (log log' : Option (List Connection)) : Type 0 where
@@ -46,6 +33,8 @@ pub record Turn : Type 0 where
   pub gained : List ℕ
   -- what the journal tells with these
   pub kept : Kept
+  -- what the connection had to give: the bytes before each of its ends
+  pub pieces : List (List ℕ)
   pub how : ConnectionEnd
   pub entry : Connection
 
@@ -79,6 +68,11 @@ abbrev pub lines_of : List Turn → List ℕ
 lines_of [] = []
 lines_of (turn ∷ before) = lines_of before ++ connection_line (length before + 1) turn.how
 
+-- what each of the connections had to give, in the order in which they came
+abbrev pub pieces_of : List Turn → List (List (List ℕ))
+pieces_of [] = []
+pieces_of (turn ∷ before) = pieces_of before ++ turn.pieces ∷ []
+
 -- the log with an entry for each
 abbrev pub with_entries : Option (List Connection) → List Turn → Option (List Connection)
 with_entries log [] = log
@@ -89,17 +83,21 @@ abbrev pub AreTold : List Turn → Type 0
 AreTold [] = ⊤
 AreTold (turn ∷ before) = (turn.how ≢ end.OutOfMemory) × AreTold before
 
--- Each was served over the history that it was lent.
+-- Each was served over the history that it was lent: what was written is right for the bytes that the connection gave, and a
+-- whole request that it had to give was answered so, where no read and no write failed.
 abbrev pub AreServed : Settings → List Turn → Type 0
 AreServed times [] = ⊤
-AreServed times (turn ∷ before) = IsServed turn.kept.versions times turn.how turn.entry × AreServed times before
+AreServed times (turn ∷ before) =
+    IsServed (IsResponseTo turn.kept.versions times) turn.how turn.pieces turn.entry × AreServed times before
 
--- What a run is seen by at one moment: what the journal has left, what it tells, what the output holds, and the log.
+-- What a run is seen by at one moment: what the journal has left, what it tells, what the output holds, the log, and what the
+-- connections that have not been taken have to give.
 pub record Seen : Type 0 where
   pub left : Option (List (List ℕ))
   pub kept : Kept
   pub held : Option (List ℕ)
   pub log : Option (List Connection)
+  pub coming : Option (List (List (List ℕ)))
 
 -- From one moment to another there were these turns.
 pub record HasTurns (times : Settings) (turns : List Turn) (before after : Seen) : Type 0 where
@@ -107,6 +105,7 @@ pub record HasTurns (times : Settings) (turns : List Turn) (before after : Seen)
   pub grows : Grows before.kept turns after.kept
   pub told : AreTold turns
   pub printed : after.held ≡ appended before.held (lines_of turns)
+  pub came : before.coming ≡ option_map (λ later. pieces_of turns ++ later) after.coming
   pub logged : IfTold after.log (with_entries before.log turns)
   pub served : IfSome after.log (λ _. AreServed times turns)
 
@@ -120,19 +119,25 @@ IsLined number how status held held' =
     ⊎ ((status ≡ 3) × (how ≢ end.OutOfMemory) × HasFront held held' (connection_line number how))
     ⊎ IsSilent 8 status held held'
 
--- A connection was served, and its line printed.
-pub record IsTold (versions : History) (times : Settings) (number status : ℕ) (log log' : Option (List Connection))
+-- A connection that had these pieces to give was served, and its line printed.
+pub record IsTold (versions : History) (times : Settings) (number status : ℕ) (pieces : List (List ℕ)) (log log' : Option (List Connection))
     (held held' : Option (List ℕ)) : Type 0 where
   pub how : ConnectionEnd
-  pub logged : IsLogged (IsServed versions times how) log log'
+  pub logged : IsLogged (IsServed (IsResponseTo versions times) how pieces) log log'
   pub lined : IsLined number how status held held'
+
+-- The first of the connections that were to come, which had these pieces to give, was taken.
+abbrev pub IsTaken : List (List ℕ) → (coming coming' : Option (List (List (List ℕ)))) → Type 0
+IsTaken pieces coming coming' = coming ≡ option_map (λ later. pieces ∷ later) coming'
 
 -- The history grew, and the connection was served over it.
 pub record HasGrown (times : Settings) (number status : ℕ) (before after : Seen) : Type 0 where
   pub gained : List ℕ
   pub gives : Gives gained true before.left after.left
   pub grows : read_on before.kept gained ≡ Ok after.kept
-  pub told : IsTold after.kept.versions times number status before.log after.log before.held after.held
+  pub pieces : List (List ℕ)
+  pub taken : IsTaken pieces before.coming after.coming
+  pub told : IsTold after.kept.versions times number status pieces before.log after.log before.held after.held
 
 -- what a journal that is refused led to: 8 for want of memory, 2 where it failed, and else its cause was told
 abbrev pub IsRefusal : JournalFault → ℕ → (held held' : Option (List ℕ)) → Type 0
@@ -146,6 +151,8 @@ pub record HasNotGrown (status : ℕ) (before after : Seen) : Type 0 where
   pub fault : JournalFault
   pub because : FurtherFault before.kept gained fault
   pub refusal : IsRefusal fault status before.held after.held
+  pub pieces : List (List ℕ)
+  pub taken : IsTaken pieces before.coming after.coming
   pub logged : IsLogged IsUntouched before.log after.log
 
 -- a turn with a connection that the door gave
@@ -160,61 +167,63 @@ pub record EndsWith (wanted status : ℕ) (before after : Seen) : Type 0 where
   pub left : after.left ≡ before.left
   pub held : after.held ≡ before.held
   pub log : after.log ≡ before.log
+  pub coming : after.coming ≡ before.coming
 
 -- How a run ended in place of a further turn: no connection was to come, the door failed, or the turn ended it.
-abbrev pub StopsAt : Settings → ℕ → ℕ → Seen → Seen → Option (List (List (List ℕ))) → Type 0
-StopsAt times number status before after coming =
-    (EndsWith 0 status before after × IfTold coming (Some []))
+abbrev pub StopsAt : Settings → ℕ → ℕ → Seen → Seen → Type 0
+StopsAt times number status before after =
+    (EndsWith 0 status before after × IfTold after.coming (Some []))
     ⊎ EndsWith 9 status before after
     ⊎ ((status ≢ 0) × IsTurn times number status before after)
 
 -- The same after so many turns, or these were all.
-abbrev pub Stops : Settings → ℕ → ℕ → ℕ → Seen → Seen → Option (List (List (List ℕ))) → Type 0
-Stops times connections turns status before after coming =
-    ((turns ≡ connections) × EndsWith 0 status before after) ⊎ StopsAt times (turns + 1) status before after coming
+abbrev pub Stops : Settings → ℕ → ℕ → ℕ → Seen → Seen → Type 0
+Stops times connections turns status before after =
+    ((turns ≡ connections) × EndsWith 0 status before after) ⊎ StopsAt times (turns + 1) status before after
 
 -- The turns with a journal that was loaded, and the end.
-pub record HasRun (times : Settings) (connections status : ℕ) (before after : Seen) (coming : Option (List (List (List ℕ)))) : Type 0 where
+pub record HasRun (times : Settings) (connections status : ℕ) (before after : Seen) : Type 0 where
   pub turns : List Turn
   pub last : Seen
   pub few : length turns ≤ connections
   pub turned : HasTurns times turns before last
-  pub stops : Stops times connections (length turns) status last after coming
+  pub stops : Stops times connections (length turns) status last after
 
 -- A journal that was not loaded ends the run before any connection.
 pub record HasNotBegun (fault : JournalFault) (status : ℕ) (left left' : Option (List (List ℕ)))
-    (held held' : Option (List ℕ)) (log log' : Option (List Connection)) : Type 0 where
+    (held held' : Option (List ℕ)) (log log' : Option (List Connection)) (coming coming' : Option (List (List (List ℕ)))) : Type 0 where
   pub unread : left' ≡ left
   pub refusal : IsRefusal fault status held held'
   pub untouched : log' ≡ log
+  pub untaken : coming' ≡ coming
 
 -- One that was loaded grew from turn to turn, and each history that was lent is the one of its bytes so far.
 pub record HasBegun (times : Settings) (connections status : ℕ) (bytes : List ℕ) (kept : Kept) (left left' : Option (List (List ℕ)))
-    (held held' : Option (List ℕ)) (log log' : Option (List Connection)) (coming : Option (List (List (List ℕ)))) : Type 0 where
+    (held held' : Option (List ℕ)) (log log' : Option (List Connection)) (coming coming' : Option (List (List (List ℕ)))) : Type 0 where
   pub last : Kept
-  pub run : HasRun times connections status (record { left = left; kept = kept; held = held; log = log })
-      (record { left = left'; kept = last; held = held'; log = log' }) coming
+  pub run : HasRun times connections status (record { left = left; kept = kept; held = held; log = log; coming = coming })
+      (record { left = left'; kept = last; held = held'; log = log'; coming = coming' })
   pub journal : AreOfJournal bytes run.turns
 
 -- what the journal led to
 abbrev pub AfterLoad : Settings → ℕ → List ℕ → Result Kept JournalFault → ℕ → (left left' : Option (List (List ℕ)))
-    → (held held' : Option (List ℕ)) → (log log' : Option (List Connection)) → Option (List (List (List ℕ))) → Type 0
-AfterLoad times connections bytes (Ok kept) status left left' held held' log log' coming =
-    HasBegun times connections status bytes kept left left' held held' log log' coming
-AfterLoad times connections bytes (Err fault) status left left' held held' log log' coming =
-    HasNotBegun fault status left left' held held' log log'
+    → (held held' : Option (List ℕ)) → (log log' : Option (List Connection)) → (coming coming' : Option (List (List (List ℕ)))) → Type 0
+AfterLoad times connections bytes (Ok kept) status left left' held held' log log' coming coming' =
+    HasBegun times connections status bytes kept left left' held held' log log' coming coming'
+AfterLoad times connections bytes (Err fault) status left left' held held' log log' coming coming' =
+    HasNotBegun fault status left left' held held' log log' coming coming'
 
 -- A run of `serve`, of a server with these times, for so many connections: the journal gave these bytes,
 -- with its end or without, and what they come to decided what became of the rest.
 pub record IsServeRun (times : Settings) (connections status : ℕ) (left left' : Option (List (List ℕ)))
-    (held held' : Option (List ℕ)) (log log' : Option (List Connection)) (coming : Option (List (List (List ℕ)))) : Type 0 where
+    (held held' : Option (List ℕ)) (log log' : Option (List Connection)) (coming coming' : Option (List (List (List ℕ)))) : Type 0 where
   pub bytes : List ℕ
   pub ended : Bool
   pub read : Option (List (List ℕ))
   pub gives : Gives bytes ended left read
   pub loaded : Result Kept JournalFault
   pub outcome : JournalOutcome bytes ended loaded
-  pub after : AfterLoad times connections bytes loaded status read left' held held' log log' coming
+  pub after : AfterLoad times connections bytes loaded status read left' held held' log log' coming coming'
 
 -- A journal that is told has no bad line up to any of its ends.
 abbrev pub HasNoBadLine : List (List ℕ) → Type 0
@@ -222,14 +231,7 @@ HasNoBadLine pieces = (ends : ℕ) → (kept : Kept) × (kept_of (concat (take (
 
 -- ---- a wire that the door handed out
 
--- The log before it was handed out and since, and the wire with nothing done yet.
-pub record IsFresh (log opened : Option (List Connection)) (number : ℕ) (start left : Option (List (List ℕ)))
-    (contents : Option (List ℕ)) (read_faults write_faults : ℕ) : Type 0 where
+-- The log before it was handed out, and since.
+pub record IsOpened (log opened : Option (List Connection)) (number : ℕ) : Type 0 where
   pub numbered : IfSome log (λ entries. number ≡ length entries)
   pub opens : IfTold opened (with_entry log open_connection)
-  pub pieces : List (List ℕ)
-  pub started : IfTold start (Some pieces)
-  pub remains : IfTold left (Some pieces)
-  pub nothing : IfTold contents (Some [])
-  pub no_reads : read_faults ≡ 0
-  pub no_writes : write_faults ≡ 0

@@ -1,76 +1,32 @@
-ghost use Rattle.std.specs.Prelude.{◌≡◌, ◌≢◌, ◌==◌, ◌≤◌, ℕ, List, [], position, IfOk, IfErr, IfSome, IfNone};
+ghost use Rattle.std.specs.Prelude.{◌≡◌, ◌≢◌, ◌≤◌, ℕ, List, IfOk, IfSome};
 ghost use Rattle.sb_outside.specs.Outside.{Rose, next_piece};
-ghost use Rattle.sb_outside.specs.declared.links.Kind.{Kind as Asked};
 ghost use Rattle.sb_model.specs.History.{History as Versions};
+ghost use Rattle.http_edge.specs.declared.messages.Allow.{Allow};
 ghost use Rattle.http_edge.specs.declared.messages.HttpRequest.{HttpRequest};
 ghost use Rattle.http_edge.specs.declared.messages.Status.{Status};
-ghost use Rattle.http_edge.specs.Exchanges.{path_of};
+ghost use Rattle.http_serving.specs.Law.{HasOneAnswer};
+ghost use Rattle.http_serving.specs.Serving.{AnswersAtMost, Serves};
 ghost use Rattle.delta_server.specs.declared.answering.Settings.{Settings as Times};
-ghost use Rattle.sb_service.specs.Connection.{path_in, IsFor, IsPost, IsResponseTo, matches_text, refusal_status, IsResponseAfter, Serves, HasGoodRequest, AnswersAtMost};
+ghost use Rattle.sb_service.specs.Connection.{list_routes, ListServed, matches_text, IsResponseAt, IsResponseTo, HasGoodRequest};
 ghost use Rattle.sb_service.specs.ConnectionLaws.{HasOneResponse, IsAnsweredAsRead};
-ghost use Rattle.sb_service.specs.ConnectionSteps.{IsResponseToMessage, IsBareRefusal, IsStopAfter, IsSent};
+ghost use Rattle.sb_service.specs.ConnectionSteps.{IsResponseToMessage, IsBareRefusal};
 
 use delta_server::{ServeFault, Settings, answer_fetch, answer_find};
 use hash_messages::{FindRequest, find_values_read_one_way, read_find, write_matches};
-use http_edge::{
-    Allow, HttpRequest, RequestFault, ResponseFault, Status, kind_of, read_request, write_response,
+use http_edge::{Allow, HttpRequest, Status, path_of};
+use http_serving::{
+    Answers, ConnectionEnd, Response, Route, Routed, answers_follow_requests, bare, find_route,
+    requests_have_one_answer,
 };
 use list_versions::History;
 use sb_json::MessageFault;
-use sb_model::{Bytes, OutOfMemory};
-use sb_outside::{Kind, Sink, Wire};
+use sb_model::OutOfMemory;
+use sb_outside::{Kind, Wire};
 use std::alloc::Global;
+use std::marker::Model;
 use update_messages::{
     FetchRequest, read_request as read_message, values_read_one_way, write_response as write_answer,
 };
-
-/// How a connection ended.
-#[derive(Clone, Copy, Debug, PartialEq, Eq, Hash)]
-pub enum ConnectionEnd {
-    /// A whole response with this status was written.
-    Answered(Status),
-    /// The request could not be received. Nothing was written.
-    ReadFault,
-    /// The response could not be sent as a whole.
-    WriteFault,
-    /// Memory was refused. Nothing was written.
-    OutOfMemory,
-}
-
-/// A status and the body that goes with it.
-#[derive(Debug, Drop)]
-struct Response {
-    status: Status,
-    body: Bytes,
-}
-
-/// A response without a body.
-fn bare(alloc: Global, status: Status) -> Response
-    ensures status { result.status ≡ status }
-    ensures body { result.body ≡ [] }
-{
-    Response {
-        status,
-        body: Bytes::new(alloc),
-    }
-}
-
-// The place of the first `?`.
-fn mark_in(target: &[u8]) -> Option<usize>
-    ensures { result ≡ position (λ byte. byte == 63) target.now }
-{
-    target.iter().position(|byte| *byte == b'?')
-}
-
-/// The path of a target.
-fn path_in(target: &[u8]) -> &[u8]
-    ensures { result.now ≡ path_in target.now }
-{
-    match mark_in(target) {
-        Some(mark) => &target[..mark],
-        None => target,
-    }
-}
 
 /// The response to a message that asks for updates.
 fn answer_message(
@@ -85,9 +41,10 @@ fn answer_message(
     match answer_fetch(alloc, history, settings, message) {
         Ok(answer) => Ok(Response {
             status: Status::Success,
+            allow: Allow::Post,
             body: write_answer(alloc, &answer)?,
         }),
-        Err(ServeFault::UnknownList(_)) => Ok(bare(alloc, Status::BadRequest)),
+        Err(ServeFault::UnknownList(_)) => Ok(bare(alloc, Status::BadRequest, Allow::Post)),
         Err(ServeFault::OutOfMemory) => Err(OutOfMemory),
     }
 }
@@ -98,7 +55,7 @@ fn refuse_body(alloc: Global, fault: MessageFault) -> Result<Response, OutOfMemo
 {
     match fault {
         MessageFault::OutOfMemory => Err(OutOfMemory),
-        _ => Ok(bare(alloc, Status::BadRequest)),
+        _ => Ok(bare(alloc, Status::BadRequest, Allow::Post)),
     }
 }
 
@@ -115,21 +72,20 @@ fn answer_hashes(
     let answer = answer_find(alloc, history, settings, message)?;
     Ok(Response {
         status: Status::Success,
+        allow: Allow::Post,
         body: write_matches(alloc, &answer)?,
     })
 }
 
-/// The response to a POST request for updates.
+/// The response to a request for updates.
 fn answer_updates_body(
     alloc: Global,
     history: &History,
     settings: &Settings,
     request: &HttpRequest,
 ) -> Result<Response, OutOfMemory>
-    requires path { IsFor Kind.Update request.now }
-    requires post { IsPost request.now }
-    ensures { IfOk result (λ response. IsResponseTo history.now.versions settings.now request.now
-        response.status response.body) }
+    ensures { IfOk result (λ response. IsResponseAt history.now.versions settings.now 0 request.now
+        response.status response.allow response.body) }
 {
     match read_message(alloc, request.body.as_slice()) {
         Ok(message) => answer_message(alloc, history, settings, &message),
@@ -137,17 +93,15 @@ fn answer_updates_body(
     }
 }
 
-/// The response to a POST request for full hashes.
+/// The response to a request for full hashes.
 fn answer_hashes_body(
     alloc: Global,
     history: &History,
     settings: &Settings,
     request: &HttpRequest,
 ) -> Result<Response, OutOfMemory>
-    requires path { IsFor Kind.Find request.now }
-    requires post { IsPost request.now }
-    ensures { IfOk result (λ response. IsResponseTo history.now.versions settings.now request.now
-        response.status response.body) }
+    ensures { IfOk result (λ response. IsResponseAt history.now.versions settings.now 1 request.now
+        response.status response.allow response.body) }
 {
     match read_find(alloc, request.body.as_slice()) {
         Ok(message) => answer_hashes(alloc, history, settings, &message),
@@ -155,78 +109,72 @@ fn answer_hashes_body(
     }
 }
 
-/// The response to a request.
-fn answer_request(
+/// The response to a request that asks for the route at a place.
+fn answer_at(
     alloc: Global,
     history: &History,
     settings: &Settings,
+    place: usize,
     request: &HttpRequest,
 ) -> Result<Response, OutOfMemory>
-    ensures { IfOk result (λ response. IsResponseTo history.now.versions settings.now request.now
-        response.status response.body) }
+    ensures { IfOk result (λ response. IsResponseAt history.now.versions settings.now place request.now
+        response.status response.allow response.body) }
 {
-    let Some(kind) = kind_of(path_in(request.target.as_slice())) else {
-        return Ok(bare(alloc, Status::NotFound));
-    };
-    if request.method.as_slice() != b"POST".as_slice() {
-        return Ok(bare(alloc, Status::MethodNotAllowed));
-    }
-    match kind {
-        Kind::Update => answer_updates_body(alloc, history, settings, request),
-        Kind::Find => answer_hashes_body(alloc, history, settings, request),
+    match place {
+        0 => answer_updates_body(alloc, history, settings, request),
+        _ => answer_hashes_body(alloc, history, settings, request),
     }
 }
 
-/// The status of a refused request. A fault of reading and want of memory have none.
-fn refusal_status(fault: RequestFault) -> Option<Status>
-    ensures { result ≡ refusal_status fault }
-{
-    match fault {
-        RequestFault::Head | RequestFault::Cut => Some(Status::BadRequest),
-        RequestFault::HeadLimit => Some(Status::FieldsTooLarge),
-        RequestFault::NoLength => Some(Status::LengthRequired),
-        RequestFault::BodyLimit(_) => Some(Status::ContentTooLarge),
-        RequestFault::ReadFault | RequestFault::OutOfMemory => None,
-    }
+/// A list server, as its connections see it.
+#[derive(Drop)]
+pub(crate) struct ListServer<'a> {
+    pub history: &'a History,
+    pub settings: &'a Settings,
 }
 
-/// The response to what was received.
-fn respond(
-    alloc: Global,
-    history: &History,
-    settings: &Settings,
-    received: Result<HttpRequest, RequestFault>,
-) -> Result<Response, ConnectionEnd>
-    ensures response { IfOk result (λ response. IsResponseAfter history.now.versions settings.now received
-        response.status response.body) }
-    ensures stop { IfErr result (λ end. IsStopAfter received end) }
-{
-    match received {
-        Ok(request) => match answer_request(alloc, history, settings, &request) {
-            Ok(response) => Ok(response),
-            Err(OutOfMemory) => Err(ConnectionEnd::OutOfMemory),
-        },
-        Err(RequestFault::ReadFault) => Err(ConnectionEnd::ReadFault),
-        Err(fault) => match refusal_status(fault) {
-            Some(status) => Ok(bare(alloc, status)),
-            None => Err(ConnectionEnd::OutOfMemory),
-        },
-    }
+impl<'a> Model for ListServer<'a> {
+    ghost Value = { ListServed };
+
+    ghost view = { λ s. record { versions = s.history.now.versions; times = s.settings.now } };
 }
 
-/// Writes a response.
-fn send<O: Sink>(alloc: Global, sink: &mut O, response: &Response) -> ConnectionEnd
-    ensures sent { IsSent response.now.status response.now.body result (O.contents sink.old) (O.contents sink.new) }
-    ensures failed { result ≡ ConnectionEnd.WriteFault → Rose (O.faults sink.old) (O.faults sink.new) }
-    ensures kept { result ≢ ConnectionEnd.WriteFault → O.faults sink.new ≡ O.faults sink.old }
-    ensures counted { O.faults sink.old ≤ O.faults sink.new }
-    ensures other { O.front sink.new ≡ O.front sink.old }
-{
-    let Response { status, body } = response;
-    match write_response(alloc, sink, *status, Allow::Post, body.as_slice()) {
-        Ok(()) => ConnectionEnd::Answered(*status),
-        Err(ResponseFault::WriteFault) => ConnectionEnd::WriteFault,
-        Err(ResponseFault::OutOfMemory) => ConnectionEnd::OutOfMemory,
+impl<'a> Answers for ListServer<'a> {
+    ghost routes = { list_routes };
+
+    ghost right = { λ before after place. IsResponseAt before.versions before.times place };
+
+    fn find(&self, request: &HttpRequest) -> Routed {
+        find_route(
+            request,
+            &[
+                Route {
+                    path: path_of(Kind::Update).as_bytes(),
+                    allow: Allow::Post,
+                },
+                Route {
+                    path: path_of(Kind::Find).as_bytes(),
+                    allow: Allow::Post,
+                },
+            ],
+        )
+    }
+
+    fn answer(
+        &mut self,
+        alloc: Global,
+        place: usize,
+        request: &HttpRequest,
+    ) -> Result<Response, OutOfMemory> {
+        answer_at(alloc, self.history, self.settings, place, request)
+    }
+
+    fn have_one_answer()
+        ensures { (before after : ListServed) (place : ℕ) (request : HttpRequest)
+            → HasOneAnswer (IsResponseAt before.versions before.times place) request }
+    {
+        values_read_one_way();
+        find_values_read_one_way();
     }
 }
 
@@ -245,13 +193,13 @@ pub fn serve_connection<T: Wire>(
     wire: &mut T,
 ) -> ConnectionEnd
     // What the wire gave, and what was written of the answer.
-    ensures serves { Serves history.now.versions settings.now result
+    ensures serves { Serves (IsResponseTo history.now.versions settings.now) result
         (T.left wire.old) (T.left wire.new) (T.contents wire.old) (T.contents wire.new) }
 
     // A whole request whose body has an answer is answered with that, or not at all.
     ensures complete { IfSome (T.left wire.old) (λ pieces.
         (text : List ℕ) → HasGoodRequest history.now.versions settings.now (next_piece pieces) text
-        → AnswersAtMost text result (T.contents wire.old) (T.contents wire.new)) }
+        → AnswersAtMost Status.Success Allow.Post text result (T.contents wire.old) (T.contents wire.new)) }
 
     // A fault is counted, and nothing else is.
     ensures read_failed { result ≡ ConnectionEnd.ReadFault → Rose (T.Source.faults wire.old) (T.Source.faults wire.new) }
@@ -265,13 +213,8 @@ pub fn serve_connection<T: Wire>(
     ensures number { T.number wire.new ≡ T.number wire.old }
     ensures start { T.start wire.new ≡ T.start wire.old }
 {
-    values_read_one_way();
-    find_values_read_one_way();
-    let received = read_request(alloc, wire);
-    match respond(alloc, history, settings, received) {
-        Ok(response) => send(alloc, wire, &response),
-        Err(end) => end,
-    }
+    let mut server = ListServer { history, settings };
+    http_serving::serve_connection(alloc, &mut server, wire)
 }
 
 /// A request has one response, and bytes that begin with a whole request are answered as that
@@ -281,6 +224,6 @@ pub fn requests_have_one_response()
     ensures whole { (history : Versions) (times : Times) (bytes : List ℕ) (request : HttpRequest)
         → IsAnsweredAsRead history times bytes request }
 {
-    values_read_one_way();
-    find_values_read_one_way();
+    requests_have_one_answer::<ListServer>();
+    answers_follow_requests::<ListServer>();
 }

@@ -1,9 +1,9 @@
 //! The top call of the list server: `sblistd answer` reads a journal and the body of one fetch request, and prints the
-//! body of the answer; `sblistd serve` answers connections over HTTP, each by `serve_connection`, and reads what is new in
+//! body of the answer; `sblistd serve` answers connections over HTTP, each as `serve_connection` does, and reads what is new in
 //! the journal before each.
 #![tactic(auto)]
 
-pub use connection::{ConnectionEnd, requests_have_one_response, serve_connection};
+pub use connection::{requests_have_one_response, serve_connection};
 pub use service::{USAGE, run_server};
 pub use targets::{ServerTargets, server_targets};
 

@@ -1,12 +1,11 @@
-ghost use Rattle.std.specs.Prelude.{◌≡◌, ◌≢◌, ◌++◌, ◌∷◌, [], IfOk, OnOk, codes, decimal};
+ghost use Rattle.std.specs.Prelude.{◌≡◌, ◌++◌, ◌∷◌, [], IfOk, codes, decimal};
 ghost use Rattle.sb_json.specs.Printed.{cause_text as message_cause};
 ghost use Rattle.list_versions.specs.Lines.{newline};
 ghost use Rattle.update_messages.specs.Writing.{spelling_of_response};
 ghost use Rattle.hash_messages.specs.Writing.{spelling_of_find_response};
 ghost use Rattle.delta_server.specs.declared.answering.ServeFault.{ServeFault};
-ghost use Rattle.sb_service.specs.Printed.{answer_line, connection_line as line_of_connection, end_text, journal_line as line_of_journal, request_line, serve_cause};
+ghost use Rattle.sb_service.specs.Printed.{answer_line, journal_line as line_of_journal, request_line, serve_cause};
 
-use crate::connection::ConnectionEnd;
 use hash_messages::{FindResponse, write_matches};
 use list_versions::{JournalFault, push_journal_cause};
 use sb_json::{MessageFault, push_message_cause};
@@ -62,40 +61,6 @@ pub(crate) fn matches_line(alloc: Global, response: &FindResponse) -> Result<Byt
     ensures { IfOk result (λ line. line ≡ answer_line (spelling_of_find_response response.now)) }
 {
     let mut line = write_matches(alloc, response)?;
-    line.push(b'\n')?;
-    Ok(line)
-}
-
-/// Appends how a connection ended. Want of memory is no end that is told.
-fn push_end(line: &mut Bytes, end: ConnectionEnd) -> Result<(), OutOfMemory>
-    ensures text { OnOk result (line.new ≡ line.old ++ end_text end) }
-    ensures some { OnOk result (end ≢ ConnectionEnd.OutOfMemory) }
-{
-    match end {
-        ConnectionEnd::Answered(status) => {
-            line.append(b"answered ")?;
-            line.append_decimal(u64::from(status.code()))
-        }
-        ConnectionEnd::ReadFault => line.append(b"read-fault"),
-        ConnectionEnd::WriteFault => line.append(b"write-fault"),
-        ConnectionEnd::OutOfMemory => Err(OutOfMemory),
-    }
-}
-
-/// The line of a connection that ended, by its number, counted from 1. Want of memory is no end that is told.
-pub(crate) fn connection_line(
-    alloc: Global,
-    number: u32,
-    end: ConnectionEnd,
-) -> Result<Bytes, OutOfMemory>
-    ensures told { IfOk result (λ line. line ≡ line_of_connection number end) }
-    ensures some { IfOk result (λ _. end ≢ ConnectionEnd.OutOfMemory) }
-{
-    let mut line = Bytes::new(alloc);
-    line.append(b"connection ")?;
-    line.append_decimal(u64::from(number))?;
-    line.push(b' ')?;
-    push_end(&mut line, end)?;
     line.push(b'\n')?;
     Ok(line)
 }

@@ -2,17 +2,19 @@ ghost use Rattle.std.specs.Prelude.{◌≡◌, ◌≢◌, ◌⊎◌, ◌+◌, �
 ghost use Rattle.sb_outside.specs.Outside.{Rose};
 ghost use Rattle.sb_outside.specs.declared.doors.Connection.{Connection};
 ghost use Rattle.list_versions.specs.declared.fault.JournalFault.{JournalFault};
-ghost use Rattle.sb_service.specs.Serving.{HasRun, IsFresh, IsLined, IsRefusal, IsServeRun, IsTold, IsTurn, StopsAt};
+ghost use Rattle.http_serving.specs.Returning.{IsFresh};
+ghost use Rattle.sb_service.specs.Serving.{HasRun, IsLined, IsOpened, IsRefusal, IsServeRun, IsTaken, IsTold, IsTurn, StopsAt};
 ghost use Rattle.sb_service.specs.Stops.{status_of};
 
 use crate::answer::answer_fault;
-use crate::connection::{ConnectionEnd, serve_connection};
-use crate::printing::connection_line;
+use crate::connection::ListServer;
 use crate::stop::Stop;
 use delta_server::Settings;
+use http_edge::ResponseFault;
+use http_serving::{ConnectionEnd, give_back, print_connection, serve_wire};
 use list_versions::{History, JournalFault, cuts_make_no_difference};
 use sb_model::OutOfMemory;
-use sb_outside::{Door, Failed, Sink, Source, write_all};
+use sb_outside::{Door, Failed, Sink, Source};
 use std::alloc::Global;
 
 /// Prints the line of a connection that ended. Answers `Done`, or what ends the run.
@@ -21,17 +23,15 @@ fn print_end<O: Sink>(alloc: Global, number: u32, end: ConnectionEnd, out: &mut 
     ensures failed { result ≡ Stop.WriteFault → Rose (O.faults out.old) (O.faults out.new) }
     ensures kept { result ≢ Stop.WriteFault → O.faults out.new ≡ O.faults out.old }
 {
-    let Ok(line) = connection_line(alloc, number, end) else {
-        return Stop::OutOfMemory;
-    };
-    match write_all(out, line.as_slice()) {
+    match print_connection(alloc, number, end, out) {
         Ok(()) => Stop::Done,
-        Err(Failed) => Stop::WriteFault,
+        Err(ResponseFault::WriteFault) => Stop::WriteFault,
+        Err(ResponseFault::OutOfMemory) => Stop::OutOfMemory,
     }
 }
 
 /// Serves a connection, gives it back, and prints its line. Answers `Done`, or what ends the run.
-fn serve_wire<O: Sink, D: Door>(
+fn serve_taken<O: Sink, D: Door>(
     alloc: Global,
     history: &History,
     settings: &Settings,
@@ -40,10 +40,10 @@ fn serve_wire<O: Sink, D: Door>(
     door: &mut D,
     wire: D::Wire,
 ) -> Stop
-    ensures told { (before : Option (List Connection))
-        → IsFresh before (D.log door.old) (D.Wire.number wire) (D.Wire.start wire) (D.Wire.left wire)
-        (D.Wire.contents wire) (D.Wire.Source.faults wire) (D.Wire.Sink.faults wire)
-        → IsTold history.now.versions settings.now number (status_of result) before (D.log door.new)
+    ensures told { (before : Option (List Connection)) (pieces : List (List ℕ))
+        → IsOpened before (D.log door.old) (D.Wire.number wire)
+        → IsFresh pieces (D.Wire.start wire) (D.Wire.left wire) (D.Wire.contents wire) (D.Wire.Source.faults wire) (D.Wire.Sink.faults wire)
+        → IsTold history.now.versions settings.now number (status_of result) pieces before (D.log door.new)
         (O.contents out.old) (O.contents out.new) }
     ensures ends { (result ≡ Stop.Done) ⊎ (result ≡ Stop.WriteFault) ⊎ (result ≡ Stop.OutOfMemory) }
     ensures failed { result ≡ Stop.WriteFault → Rose (O.faults out.old) (O.faults out.new) }
@@ -51,9 +51,8 @@ fn serve_wire<O: Sink, D: Door>(
     ensures door_kept { D.faults door.new ≡ D.faults door.old }
     ensures coming { D.coming door.new ≡ D.coming door.old }
 {
-    let mut wire = wire;
-    let end = serve_connection(alloc, history, settings, &mut wire);
-    door.done(wire);
+    let mut server = ListServer { history, settings };
+    let end = serve_wire(alloc, &mut server, door, wire);
     print_end(alloc, number, end, out)
 }
 
@@ -84,12 +83,12 @@ fn take_turn<J: Source, O: Sink, D: Door>(
     door: &mut D,
     wire: D::Wire,
 ) -> Stop
-    ensures turn { (before : Option (List Connection))
-        → IsFresh before (D.log door.old) (D.Wire.number wire) (D.Wire.start wire) (D.Wire.left wire)
-        (D.Wire.contents wire) (D.Wire.Source.faults wire) (D.Wire.Sink.faults wire)
+    ensures turn { (before : Option (List Connection)) (coming : Option (List (List (List ℕ)))) (pieces : List (List ℕ))
+        → IsOpened before (D.log door.old) (D.Wire.number wire) → IsTaken pieces coming (D.coming door.old)
+        → IsFresh pieces (D.Wire.start wire) (D.Wire.left wire) (D.Wire.contents wire) (D.Wire.Source.faults wire) (D.Wire.Sink.faults wire)
         → IsTurn settings.now number (status_of result)
-        (record { left = J.left journal.old; kept = history.old; held = O.contents out.old; log = before })
-        (record { left = J.left journal.new; kept = history.new; held = O.contents out.new; log = D.log door.new }) }
+        (record { left = J.left journal.old; kept = history.old; held = O.contents out.old; log = before; coming = coming })
+        (record { left = J.left journal.new; kept = history.new; held = O.contents out.new; log = D.log door.new; coming = D.coming door.new }) }
     ensures ends { (result ≡ Stop.Done) ⊎ (result ≡ Stop.ReadFault) ⊎ (result ≡ Stop.WriteFault) ⊎ (result ≡ Stop.BadJournal) ⊎ (result ≡ Stop.OutOfMemory) }
     ensures read_failed { result ≡ Stop.ReadFault → Rose (J.faults journal.old) (J.faults journal.new) }
     ensures read_kept { result ≢ Stop.ReadFault → J.faults journal.new ≡ J.faults journal.old }
@@ -99,9 +98,9 @@ fn take_turn<J: Source, O: Sink, D: Door>(
     ensures coming { D.coming door.new ≡ D.coming door.old }
 {
     match history.grow(alloc, journal) {
-        Ok(()) => serve_wire(alloc, history, settings, number, out, door, wire),
+        Ok(()) => serve_taken(alloc, history, settings, number, out, door, wire),
         Err(fault) => {
-            door.done(wire);
+            give_back(door, wire);
             refuse(alloc, fault, out)
         }
     }
@@ -118,11 +117,11 @@ fn take_next<J: Source, O: Sink, D: Door>(
     door: &mut D,
 ) -> Option<Stop>
     ensures goes_on { IfNone result (IsTurn settings.now number 0
-        (record { left = J.left journal.old; kept = history.old; held = O.contents out.old; log = D.log door.old })
-        (record { left = J.left journal.new; kept = history.new; held = O.contents out.new; log = D.log door.new })) }
+        (record { left = J.left journal.old; kept = history.old; held = O.contents out.old; log = D.log door.old; coming = D.coming door.old })
+        (record { left = J.left journal.new; kept = history.new; held = O.contents out.new; log = D.log door.new; coming = D.coming door.new })) }
     ensures stops { IfSome result (λ stop. StopsAt settings.now number (status_of stop)
-        (record { left = J.left journal.old; kept = history.old; held = O.contents out.old; log = D.log door.old })
-        (record { left = J.left journal.new; kept = history.new; held = O.contents out.new; log = D.log door.new }) (D.coming door.new)) }
+        (record { left = J.left journal.old; kept = history.old; held = O.contents out.old; log = D.log door.old; coming = D.coming door.old })
+        (record { left = J.left journal.new; kept = history.new; held = O.contents out.new; log = D.log door.new; coming = D.coming door.new })) }
     ensures ends { IfSome result (λ stop.
         (stop ≡ Stop.Done) ⊎ (stop ≡ Stop.ReadFault) ⊎ (stop ≡ Stop.WriteFault) ⊎ (stop ≡ Stop.BadJournal) ⊎ (stop ≡ Stop.OutOfMemory) ⊎ (stop ≡ Stop.DoorFault)) }
     ensures read_failed { result ≡ Some Stop.ReadFault → Rose (J.faults journal.old) (J.faults journal.new) }
@@ -155,8 +154,8 @@ fn serve_connections<J: Source, O: Sink, D: Door>(
     door: &mut D,
 ) -> Stop
     ensures run { HasRun settings.now connections (status_of result)
-        (record { left = J.left journal.old; kept = history.old; held = O.contents out.old; log = D.log door.old })
-        (record { left = J.left journal.new; kept = history.new; held = O.contents out.new; log = D.log door.new }) (D.coming door.new) }
+        (record { left = J.left journal.old; kept = history.old; held = O.contents out.old; log = D.log door.old; coming = D.coming door.old })
+        (record { left = J.left journal.new; kept = history.new; held = O.contents out.new; log = D.log door.new; coming = D.coming door.new }) }
     ensures ends { (result ≡ Stop.Done) ⊎ (result ≡ Stop.ReadFault) ⊎ (result ≡ Stop.WriteFault) ⊎ (result ≡ Stop.BadJournal) ⊎ (result ≡ Stop.OutOfMemory) ⊎ (result ≡ Stop.DoorFault) }
     ensures read_failed { result ≡ Stop.ReadFault → Rose (J.faults journal.old) (J.faults journal.new) }
     ensures read_kept { result ≢ Stop.ReadFault → J.faults journal.new ≡ J.faults journal.old }
@@ -183,7 +182,7 @@ pub(crate) fn serve<J: Source, O: Sink, D: Door>(
     door: &mut D,
 ) -> Stop
     ensures run { IsServeRun settings.now connections (status_of result) (J.left journal.old) (J.left journal.new)
-        (O.contents out.old) (O.contents out.new) (D.log door.old) (D.log door.new) (D.coming door.new) }
+        (O.contents out.old) (O.contents out.new) (D.log door.old) (D.log door.new) (D.coming door.old) (D.coming door.new) }
     ensures ends { (result ≡ Stop.Done) ⊎ (result ≡ Stop.ReadFault) ⊎ (result ≡ Stop.WriteFault) ⊎ (result ≡ Stop.BadJournal) ⊎ (result ≡ Stop.OutOfMemory) ⊎ (result ≡ Stop.DoorFault) }
     ensures read_failed { result ≡ Stop.ReadFault → Rose (J.faults journal.old) (J.faults journal.new) }
     ensures read_kept { result ≢ Stop.ReadFault → J.faults journal.new ≡ J.faults journal.old }

@@ -54,7 +54,7 @@ fn run_command<J: Source, S: Source, O: Sink, D: Door>(
     ensures untouched { (kind : Kind) (settings : Settings) → command ≡ Command.Answer kind settings → door.new ≡ door.old }
     ensures serves { (settings : Settings) (connections : ℕ) → command ≡ Command.Serve settings connections
         → IsServeRun settings connections result (J.left journal.old) (J.left journal.new)
-        (O.contents out.old) (O.contents out.new) (D.log door.old) (D.log door.new) (D.coming door.new) }
+        (O.contents out.old) (O.contents out.new) (D.log door.old) (D.log door.new) (D.coming door.old) (D.coming door.new) }
     ensures unread { (settings : Settings) (connections : ℕ) → command ≡ Command.Serve settings connections
         → input.new ≡ input.old }
     ensures journal_failed { (settings : Settings) (connections : ℕ) → command ≡ Command.Serve settings connections
@@ -83,7 +83,7 @@ fn run_command<J: Source, S: Source, O: Sink, D: Door>(
 /// of the answer and a newline. The door is not used.
 ///
 /// `serve` loads the journal and takes connections from the door. Before each it reads the journal to its next end; each
-/// is answered by `serve_connection` and given back to the door in every case, and then its line is written:
+/// is answered as `serve_connection` says and given back to the door in every case, and then its line is written:
 /// `connection I answered S`, `connection I read-fault` or `connection I write-fault`, with I from 1. The input is not read.
 ///
 /// | Status | Comes |
@@ -126,7 +126,7 @@ pub fn run_server<J: Source, S: Source, O: Sink, D: Door>(
     // `serve`: what became of the journal, the connections and the output.
     ensures serves { (line : ServeWords) → serve_of (map string_bytes words.now) ≡ Some line
         → IsServeRun line.settings line.connections result (J.left journal.old) (J.left journal.new)
-        (O.contents out.old) (O.contents out.new) (D.log door.old) (D.log door.new) (D.coming door.new) }
+        (O.contents out.old) (O.contents out.new) (D.log door.old) (D.log door.new) (D.coming door.old) (D.coming door.new) }
     ensures no_input { (line : ServeWords) → serve_of (map string_bytes words.now) ≡ Some line → input.new ≡ input.old }
 
     // A journal without a bad line is served to the end, where no count rose.

@@ -4,10 +4,11 @@ ghost use Rattle.sb_outside.specs.Outside.{Rose};
 
 use case_texts::{Coming, Harm, Play};
 use delta_server::Settings;
+use http_serving::ConnectionEnd;
 use list_versions::History;
 use sb_model::{Bytes, Moment, OutOfMemory, Row};
 use sb_outside::{Failed, Kind, Link, MemorySource, MemoryWire};
-use sb_service::{ConnectionEnd, serve_connection};
+use sb_service::serve_connection;
 use std::alloc::Global;
 use std::collections::VecDeque;
 

@@ -31,5 +31,5 @@ returns-in-Err-clause-run g c =
       gives = load.2;
       loaded = Err c.in-Err.fault;
       outcome = load.3;
-      after = record { unread = refl; refusal = c.refuse.ensures.refusal; untouched = refl };
+      after = record { unread = refl; refusal = c.refuse.ensures.refusal; untouched = refl; untaken = refl };
     }

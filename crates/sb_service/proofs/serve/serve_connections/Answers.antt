@@ -24,7 +24,7 @@ pub returns-in-Some-clause-run : goal.returns-in-Some-clause-run
 returns-in-Some-clause-run g c =
     let inv = c.loop-taken.invariant in
     let few : c.loop-taken.taken < c.args.connections = c.loop-taken-test.true in
-    stopped c.args.settings.now c.args.connections (c.loop-taken.taken + 1) (status_of c.in-Some.stop) inv.0 _ _ _ _
+    stopped c.args.settings.now c.args.connections (c.loop-taken.taken + 1) (status_of c.in-Some.stop) inv.0 _ _ _
     (omega (arith, inv.1)) (omega (arith, few)) inv.2 c.in-Some.ensures.stops
 
 pub returns-in-Some-clause-read_kept : goal.returns-in-Some-clause-read_kept

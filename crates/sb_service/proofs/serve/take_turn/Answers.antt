@@ -1,15 +1,22 @@
-use Rattle.std.proofs.Common.{inl, inr, refl}
-use Rattle.sb_service.specs.Serving.{IsUntouched}
-use Rattle.sb_service.proofs.Entries.{entry_untouched, logged}
+use Rattle.std.proofs.Common.{inl, inr, ◌∙◌}
+use Rattle.http_serving.specs.Serving.{IsUntouched}
+use Rattle.sb_service.proofs.Entries.{logged}
 use Rattle.sb_service.proofs.serve.take_turn.Goals as goal
 
 pub returns-in-Ok-clause-turn : goal.returns-in-Ok-clause-turn
-returns-in-Ok-clause-turn g c = λ before fresh.
+returns-in-Ok-clause-turn g c = λ before coming pieces opening taken fresh.
     let grown = c.in-Ok.ensures.ok in
-    inl (record { gained = grown.0; gives = grown.1; grows = grown.2; told = c.serve_wire.ensures.told before fresh })
+    inl (record {
+      gained = grown.0;
+      gives = grown.1;
+      grows = grown.2;
+      pieces = pieces;
+      taken = rw c.serve_taken.ensures.coming taken;
+      told = c.serve_taken.ensures.told before pieces opening fresh;
+    })
 
 pub returns-in-Err-clause-turn : goal.returns-in-Err-clause-turn
-returns-in-Err-clause-turn g c = λ before fresh.
+returns-in-Err-clause-turn g c = λ before coming pieces opening taken fresh.
     let stop = c.in-Err.ensures.fault in
     inr (record {
       gained = stop.0;
@@ -18,6 +25,7 @@ returns-in-Err-clause-turn g c = λ before fresh.
       fault = c.in-Err.fault;
       because = stop.3;
       refusal = c.refuse.ensures.refusal;
-      logged = logged IsUntouched before _ _ _ _ _ _ _ _ _ _ _ _ _ _ fresh refl c.done.ensures.entry
-          (λ entry is. entry_untouched entry before _ _ _ _ _ _ _ fresh is);
+      pieces = pieces;
+      taken = rw c.give_back.ensures.coming taken;
+      logged = logged IsUntouched before _ _ _ opening (c.give_back.ensures.untouched pieces fresh);
     })

@@ -58,7 +58,7 @@ returns-in-Err-clause-serves g c line words =
     let held = g.O.Sink.contents c.args.out.now in
     let log = g.D.Door.log c.args.door.now in
     let coming = g.D.Door.coming c.args.door.now in
-    subst (λ (status : ℕ). IsServeRun line.settings line.connections status journal journal held held log log coming) (sym c.status_of.ensures)
+    subst (λ (status : ℕ). IsServeRun line.settings line.connections status journal journal held held log log coming coming) (sym c.status_of.ensures)
     (nothing_done line.settings line.connections journal held log coming)
 
 pub returns-in-Ok-Some-clause-serves_all : goal.returns-in-Ok-Some-clause-serves_all
@@ -66,7 +66,7 @@ returns-in-Ok-Some-clause-serves_all g c line pieces words told none journal out
     let is = is_serve _ _ _ line c.in-Ok-Some.ensures c.in-Ok-Some.field-0-is words in
     let counts = c.run_command.ensures.counts in
     zero_or_memory c.run_command.result c.run_command.ensures.statuses (λ other.
-    served_to_the_end c.cuts_make_no_difference.ensures line.settings line.connections c.run_command.result pieces _ _ _ _ _ _ _ told none
+    served_to_the_end c.cuts_make_no_difference.ensures line.settings line.connections c.run_command.result pieces _ _ _ _ _ _ _ _ told none
     (c.run_command.ensures.serves line.settings line.connections is) (record {
       no_memory = other;
       no_read = λ two. not_risen _ _ journal (c.run_command.ensures.journal_failed line.settings line.connections is two);
