@@ -1,0 +1,90 @@
+-- What a seed makes: numbers, a host of each, the history in which the hashes of the hosts come and go, and two texts.
+use Rattle.std.specs.Prelude.{ℕ, zero, suc, ◌+◌, ◌-◌, ◌*◌, ◌/◌, ◌%◌, ◌^◌, ◌==◌, if◌then◌else◌, List, [], ◌∷◌, ◌++◌, map, codes, decimal}
+use Rattle.std.specs.Int.{w64, to_be_bytes}
+use Rattle.std.specs.List.{flat_map, range_with_len}
+use Rattle.hex.specs.Hex.{encode_lower}
+use Rattle.sha2.specs.Sha256.{sha256}
+use Rattle.sb_model.specs.declared.history.Added.{Added}
+use Rattle.sb_model.specs.declared.history.Change.{Change}
+use Rattle.sb_model.specs.declared.names.EntryType.TheVariants as entry
+use Rattle.sb_model.specs.declared.names.ListName.{ListName}
+use Rattle.sb_model.specs.declared.names.PlatformType.TheVariants as platform
+use Rattle.sb_model.specs.declared.names.ThreatType.TheVariants as threat
+use Rattle.sb_model.specs.History.{History}
+use Rattle.list_versions.specs.Lines.{newline}
+use Rattle.list_versions.specs.Written.{change_line, line_of, list_line, remove_line}
+
+-- ---- numbers and hosts
+
+-- the number after a number, of 64 bits
+unfoldable pub number_after : ℕ → ℕ
+number_after number = (number * 6364136223846793005 + 1442695040888963407) % 2 ^ 64
+
+-- the numbers of a seed, which is itself the one at place 0
+unfoldable pub number_at : ℕ → ℕ → ℕ
+number_at seed zero = seed
+number_at seed (suc place) = number_after (number_at seed place)
+
+-- the host of a number: `h`, the number divided by 2^48 and rounded down, and `.example`
+unfoldable pub host_of : ℕ → List ℕ
+host_of number = codes "h" ++ decimal (number / 2 ^ 48) ++ codes ".example"
+
+-- the full hash of the host's first page
+unfoldable pub hash_of : ℕ → List ℕ
+hash_of number = sha256 (host_of number ++ codes "/")
+
+abbrev pub hash_at : ℕ → ℕ → List ℕ
+hash_at seed place = hash_of (number_at seed place)
+
+-- ---- the history
+
+abbrev pub generated_list : ListName
+generated_list = record { threat = threat.Malware; platform = platform.AnyPlatform; entry = entry.Url }
+
+-- The change at a place adds a hash. Where the place is a multiple of 4, it removes another, that of the host before.
+unfoldable pub change_of : ℕ → List ℕ → List ℕ → Change
+change_of place before hash = record {
+  list = generated_list;
+  adds = record { hash = hash; size = 4 } ∷ [];
+  removes = if place % 4 == 0 then before ∷ [] else [];
+}
+
+abbrev pub change_at : ℕ → ℕ → Change
+change_at seed place = change_of place (hash_at seed (place - 1)) (hash_at seed place)
+
+-- one list with prefixes of 4 bytes, the seed as the epoch, and so many changes, at the places from 1 on
+unfoldable pub generated : ℕ → ℕ → History
+generated count seed = record {
+  epoch = seed;
+  declared = (generated_list, 4) ∷ [];
+  changes = map (change_at seed) (range_with_len 1 count);
+}
+
+-- ---- its journal, of the first form: a line that adds names no size, since the declared one counts
+
+abbrev pub first_line : ℕ → List ℕ
+first_line epoch = line_of (codes "sblist" ∷ codes "1" ∷ encode_lower (to_be_bytes w64 epoch) ∷ [])
+
+-- `+` and a hash
+abbrev pub hash_line : Added → List ℕ
+hash_line added = 43 ∷ line_of (encode_lower added.hash ∷ [])
+
+unfoldable pub change_lines : Change → List ℕ
+change_lines change = change_line change ++ flat_map hash_line change.adds ++ flat_map remove_line change.removes
+
+unfoldable pub plain_journal : History → List ℕ
+plain_journal history = first_line history.epoch ++ flat_map list_line history.declared ++ flat_map change_lines history.changes
+
+-- ---- URLs: a line for each place from 1 on, with a host of the numbers of the seed after this one
+
+abbrev pub url_line : ℕ → ℕ → List ℕ
+url_line number place = codes "http://" ++ host_of number ++ codes "/p" ++ decimal place ++ newline ∷ []
+
+abbrev pub other_seed : ℕ → ℕ
+other_seed seed = (seed + 1) % 2 ^ 64
+
+abbrev pub url_at : ℕ → ℕ → List ℕ
+url_at seed place = url_line (number_at (other_seed seed) place) place
+
+unfoldable pub urls_text : ℕ → ℕ → List ℕ
+urls_text count seed = flat_map (url_at seed) (range_with_len 1 count)

@@ -1,0 +1,2 @@
+pub mod Exercise
+pub mod Generated
