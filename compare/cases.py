@@ -12,6 +12,7 @@ import os
 import re
 import sys
 
+import loads
 import server
 import urls
 import vectors
@@ -133,6 +134,9 @@ def options_of(words, values, flags=()):
             positional.append(word)
             continue
         name, equals, value = word.partition("=")
+        if word in flags and word not in options:
+            options[word] = "true"
+            continue
         if name not in values or name in options:
             return None
         if not equals:
@@ -161,6 +165,14 @@ def answer_words(words):
     return found[0]["--kind"], {name: int(seconds) for name, seconds in times.items()}
 
 
+def load_words(words, flags=()):
+    found = options_of(words, (), flags)
+    if found is None or len(found[1]) != 2 or any(not re.fullmatch("0|[1-9][0-9]{0,19}", word) for word in found[1]):
+        return None
+    count, seed = map(int, found[1])
+    return (found[0], count, seed) if 1 <= count <= 65_536 and seed < loads.BITS else None
+
+
 def lines_of(text):
     lines = text.split(b"\n")
     return lines[:-1] if lines[-1] == b"" else lines
@@ -174,6 +186,12 @@ def answer(words, text, journal):
         return server.answer(journal, text, *found) if found else (None, 1)
     if command not in KNOWN:
         return None, 1
+    if command == ["sblistd", "generate"]:
+        found = load_words(rest, ("--urls",))
+        return ((loads.urls if found[0] else loads.journal)(*found[1:]), 0) if found else (None, 1)
+    if command == ["sblistd", "exercise"]:
+        found = load_words(rest)
+        return (loads.exercise(*found[1:]), 0) if found else (None, 1)
     if command == ["sbcheck", "vectors"]:
         found = options_of(rest, ())
         return (vectors.vectors(), 0) if found and not found[1] else (None, 1)
@@ -187,7 +205,14 @@ def answer(words, text, journal):
 
 # ---- cases
 
-KNOWN = (["sbupdate", "replay"], ["sbcheck", "show"], ["sbcheck", "vectors"], ["sblistd", "answer"])
+KNOWN = (
+    ["sbupdate", "replay"],
+    ["sbcheck", "show"],
+    ["sbcheck", "vectors"],
+    ["sblistd", "answer"],
+    ["sblistd", "generate"],
+    ["sblistd", "exercise"],
+)
 LEFT_OUT = (["sbupdate", "run"], ["sblistd", "serve"])
 
 

@@ -1,16 +1,17 @@
 -- What a command line says.
-use Rattle.std.proofs.Common.{◌≡◌, Bool, true, false, List, [], ◌∷◌, refl, sym, ◌∙◌, subst, Option, Some, None, codes}
-use Rattle.std.specs.Prelude.{option_and_then, ◌&&◌, if◌then◌else◌}
+use Rattle.std.proofs.Common.{◌≡◌, Bool, true, false, List, [], ◌∷◌, refl, sym, ap, ◌∙◌, subst, Option, Some, None, codes, arith}
+use Rattle.std.specs.Prelude.{option_and_then, ◌&&◌, if◌then◌else◌, slice_index}
 use Rattle.std.specs.Str.{bytes_eq}
 use Rattle.std.proofs.lemmas.Slice.Eq.{bytes_eq-Decides}
 use Rattle.sb_words.specs.CommandLine.{Text, Given, CommandShape, given_of}
-use Rattle.sb_outside.specs.declared.links.Kind.{Kind}
 use Rattle.delta_server.specs.declared.answering.Settings.{Settings}
 use Rattle.sb_service.specs.declared.command.Command.{Command}
-use Rattle.sb_service.specs.declared.command.Command.TheVariants.{Answer, Serve}
-use Rattle.sb_service.specs.Command.{AnswerWords, ServeWords, answer_given, answer_of, answer_shape, given_to, serve_given, serve_of, serve_shape, AsksAnswer, IsCommandOf, IsNoCommand}
+use Rattle.sb_service.specs.declared.command.Command.TheVariants.{Answer, Serve, Generate, Exercise}
+use Rattle.sb_service.specs.declared.command.GenerateLine.{GenerateLine}
+use Rattle.sb_service.specs.declared.command.Load.{Load}
+use Rattle.sb_service.specs.Command.{AnswerWords, ServeWords, answer_given, answer_of, answer_shape, exercise_given, exercise_of, exercise_shape, generate_given, generate_of, generate_shape, given_to, serve_given, serve_of, serve_shape, AsksAnswer, IsCommandOf, IsMade, IsNoCommand, IsNoService}
 
--- ---- no words are those of both commands
+-- ---- no words are those of two commands
 
 test_holds : (test : Bool) (given : Option Given) (found : Given) → (if test then given else None) ≡ Some found → test ≡ true
 test_holds true given found is = refl
@@ -32,30 +33,48 @@ second_is command shape read first second words found is =
     let test : (bytes_eq first (codes "sblistd") && bytes_eq second command) ≡ true = test_holds _ (given_of shape words) some.0 some.1 in
     (bytes_eq-Decides second command).0 (second_holds _ _ test)
 
-other_word : codes "answer" ≡ codes "serve" → ⊥
-other_word e = absurd (cc)
+-- Words say something of one command alone.
+one_command : {A B : Type 0} (one other : Text) (shape shape' : CommandShape) (read : Given → Option A) (read' : Given → Option B) (words : List Text) (a : A) (b : B)
+    → (one ≡ other → ⊥) → option_and_then read (given_to one shape words) ≡ Some a → option_and_then read' (given_to other shape' words) ≡ Some b → ⊥
+one_command one other shape shape' read read' [] a b apart e h = cc
+one_command one other shape shape' read read' (first ∷ []) a b apart e h = cc
+one_command one other shape shape' read read' (first ∷ second ∷ words) a b apart e h =
+    apart (sym (second_is one shape read first second words a e) ∙ second_is other shape' read' first second words b h)
 
-both_not : (words : List Text) (answer : AnswerWords) (line : ServeWords) → answer_of words ≡ Some answer → serve_of words ≡ Some line → ⊥
-both_not [] answer line e h = absurd (cc)
-both_not (first ∷ []) answer line e h = absurd (cc)
-both_not (first ∷ second ∷ words) answer line e h =
-    other_word (sym (second_is (codes "answer") answer_shape answer_given first second words answer e)
-    ∙ second_is (codes "serve") serve_shape serve_given first second words line h)
+answer_or_serve : (words : List Text) (a : AnswerWords) (b : ServeWords) → answer_of words ≡ Some a → serve_of words ≡ Some b → ⊥
+answer_or_serve words a b = one_command (codes "answer") (codes "serve") answer_shape serve_shape answer_given serve_given words a b (λ e. cc)
 
-no_serve : (words : List Text) (answer : AnswerWords) (found : Option ServeWords) → answer_of words ≡ Some answer → serve_of words ≡ found → found ≡ None
-no_serve words answer None e h = refl
-no_serve words answer (Some line) e h = absurd (both_not words answer line e h)
+answer_or_generate : (words : List Text) (a : AnswerWords) (b : GenerateLine) → answer_of words ≡ Some a → generate_of words ≡ Some b → ⊥
+answer_or_generate words a b = one_command (codes "answer") (codes "generate") answer_shape generate_shape answer_given generate_given words a b (λ e. cc)
 
--- words of `answer` are none of `serve`
-pub asks_answer : (words : List Text) (line : AnswerWords) → answer_of words ≡ Some line → AsksAnswer words line.kind line.settings
-asks_answer words line is = record { line = line; answer = is; asked = refl; times = refl; serve = no_serve words line (serve_of words) is refl }
+answer_or_exercise : (words : List Text) (a : AnswerWords) (b : Load) → answer_of words ≡ Some a → exercise_of words ≡ Some b → ⊥
+answer_or_exercise words a b = one_command (codes "answer") (codes "exercise") answer_shape exercise_shape answer_given exercise_given words a b (λ e. cc)
+
+serve_or_generate : (words : List Text) (a : ServeWords) (b : GenerateLine) → serve_of words ≡ Some a → generate_of words ≡ Some b → ⊥
+serve_or_generate words a b = one_command (codes "serve") (codes "generate") serve_shape generate_shape serve_given generate_given words a b (λ e. cc)
+
+serve_or_exercise : (words : List Text) (a : ServeWords) (b : Load) → serve_of words ≡ Some a → exercise_of words ≡ Some b → ⊥
+serve_or_exercise words a b = one_command (codes "serve") (codes "exercise") serve_shape exercise_shape serve_given exercise_given words a b (λ e. cc)
+
+other_words : codes "generate" ≡ codes "exercise" → ⊥
+other_words e =
+    let first : slice_index (codes "generate") 0 ≡ slice_index (codes "exercise") 0 = ap (λ (word : Text). slice_index word 0) e in
+    absurd (omega (arith, first))
+
+generate_or_exercise : (words : List Text) (a : GenerateLine) (b : Load) → generate_of words ≡ Some a → exercise_of words ≡ Some b → ⊥
+generate_or_exercise words a b = one_command (codes "generate") (codes "exercise") generate_shape exercise_shape generate_given exercise_given words a b other_words
 
 -- ---- the command
+
+pub asks_answer : (words : List Text) (line : AnswerWords) → answer_of words ≡ Some line → AsksAnswer words line.kind line.settings
+asks_answer words line is = record { line = line; answer = is; asked = refl; times = refl }
 
 -- a command is some command
 pub is_some_command : (words : List Text) (command : Command) → IsCommandOf words (Some command) → IsNoCommand words → ⊥
 is_some_command words (Answer sort settings) asks none = absurd (let h = asks.answer in let k = none.answer in cc)
 is_some_command words (Serve settings connections) asks none = absurd (let h = asks.serve in let k = none.serve in cc)
+is_some_command words (Generate urls load) asks none = absurd (let k = none.generate in cc)
+is_some_command words (Exercise load) asks none = absurd (let k = none.exercise in cc)
 
 by_answer : (words : List Text) (command : Command) (line : AnswerWords) → IsCommandOf words (Some command) → answer_of words ≡ Some line → command ≡ Answer line.kind line.settings
 by_answer words (Answer sort settings) line asks e =
@@ -64,16 +83,41 @@ by_answer words (Answer sort settings) line asks e =
     let asked = asks.asked in
     let times = asks.times in
     cc
-by_answer words (Serve settings connections) line asks e = absurd (let h = asks.answer in cc)
+by_answer words (Serve settings connections) line asks e = absurd (answer_or_serve words line asks.line e asks.serve)
+by_answer words (Generate urls load) line asks e = absurd (answer_or_generate words line _ e asks)
+by_answer words (Exercise load) line asks e = absurd (answer_or_exercise words line load e asks)
 
 by_serve : (words : List Text) (command : Command) (line : ServeWords) → IsCommandOf words (Some command) → serve_of words ≡ Some line → command ≡ Serve line.settings line.connections
-by_serve words (Answer sort settings) line asks e = absurd (let h = asks.serve in cc)
+by_serve words (Answer sort settings) line asks e = absurd (answer_or_serve words asks.line line asks.answer e)
 by_serve words (Serve settings connections) line asks e =
     let same : Some asks.line ≡ Some line = sym asks.serve ∙ e in
     let is : asks.line ≡ line = cc in
     let times = asks.times in
     let count = asks.count in
     cc
+by_serve words (Generate urls load) line asks e = absurd (serve_or_generate words line _ e asks)
+by_serve words (Exercise load) line asks e = absurd (serve_or_exercise words line load e asks)
+
+by_generate : (words : List Text) (command : Command) (line : GenerateLine) → IsCommandOf words (Some command) → generate_of words ≡ Some line → command ≡ Generate line.urls line.load
+by_generate words (Answer sort settings) line asks e = absurd (answer_or_generate words asks.line line asks.answer e)
+by_generate words (Serve settings connections) line asks e = absurd (serve_or_generate words asks.line line asks.serve e)
+by_generate words (Generate urls load) line asks e =
+    let said : GenerateLine = record { urls = urls; load = load } in
+    let same : Some said ≡ Some line = sym asks ∙ e in
+    let is : said ≡ line = cc in
+    ap (λ (l : GenerateLine). Generate l.urls l.load) is
+by_generate words (Exercise load) line asks e = absurd (generate_or_exercise words line load e asks)
+
+by_exercise : (words : List Text) (command : Command) (load : Load) → IsCommandOf words (Some command) → exercise_of words ≡ Some load → command ≡ Exercise load
+by_exercise words (Answer sort settings) load asks e = absurd (answer_or_exercise words asks.line load asks.answer e)
+by_exercise words (Serve settings connections) load asks e = absurd (serve_or_exercise words asks.line load asks.serve e)
+by_exercise words (Generate urls load') load asks e = absurd (generate_or_exercise words _ load asks e)
+by_exercise words (Exercise load') load asks e =
+    let same : Some load' ≡ Some load = sym asks ∙ e in
+    let is : load' ≡ load = cc in
+    ap Exercise is
+
+-- ---- the command that was read
 
 pub is_answer : (words : List Text) (found : Option Command) (command : Command) (answer : AnswerWords) → IsCommandOf words found → found ≡ Some command → answer_of words ≡ Some answer
     → command ≡ Answer answer.kind answer.settings
@@ -83,11 +127,26 @@ pub is_serve : (words : List Text) (found : Option Command) (command : Command) 
     → command ≡ Serve line.settings line.connections
 is_serve words found command line asks is e = by_serve words command line (subst (IsCommandOf words) is asks) e
 
-by_no_serve : (words : List Text) (command : Command) → IsCommandOf words (Some command) → serve_of words ≡ None → (sort : Kind) × (settings : Settings) × (command ≡ Answer sort settings)
-by_no_serve words (Answer sort settings) asks none = (sort, settings, refl)
+pub is_generate : (words : List Text) (found : Option Command) (command : Command) (line : GenerateLine) → IsCommandOf words found → found ≡ Some command → generate_of words ≡ Some line
+    → command ≡ Generate line.urls line.load
+is_generate words found command line asks is e = by_generate words command line (subst (IsCommandOf words) is asks) e
+
+pub is_exercise : (words : List Text) (found : Option Command) (command : Command) (load : Load) → IsCommandOf words found → found ≡ Some command → exercise_of words ≡ Some load
+    → command ≡ Exercise load
+is_exercise words found command load asks is e = by_exercise words command load (subst (IsCommandOf words) is asks) e
+
+pub made_generate : (command : Command) (urls : Bool) (load : Load) → command ≡ Generate urls load → IsMade command
+made_generate command urls load is = subst IsMade (sym is) tt
+
+pub made_exercise : (command : Command) (load : Load) → command ≡ Exercise load → IsMade command
+made_exercise command load is = subst IsMade (sym is) tt
+
+by_no_serve : (words : List Text) (command : Command) → IsCommandOf words (Some command) → serve_of words ≡ None → IsNoService command
+by_no_serve words (Answer sort settings) asks none = tt
 by_no_serve words (Serve settings connections) asks none = absurd (let h = asks.serve in cc)
+by_no_serve words (Generate urls load) asks none = tt
+by_no_serve words (Exercise load) asks none = tt
 
 -- a command that is not `serve`
-pub is_other : (words : List Text) (found : Option Command) (command : Command) → IsCommandOf words found → found ≡ Some command → serve_of words ≡ None
-    → (sort : Kind) × (settings : Settings) × (command ≡ Answer sort settings)
+pub is_other : (words : List Text) (found : Option Command) (command : Command) → IsCommandOf words found → found ≡ Some command → serve_of words ≡ None → IsNoService command
 is_other words found command asks is none = by_no_serve words command (subst (IsCommandOf words) is asks) none

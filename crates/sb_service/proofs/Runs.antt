@@ -17,12 +17,11 @@ use Rattle.update_messages.specs.Faults.{fault_of_request, fault_of_text}
 use Rattle.hash_messages.specs.Faults.{fault_of_find_request}
 use Rattle.hash_messages.specs.Messages.{AskedHashes}
 use Rattle.hash_messages.specs.Reading.{ReadsFindRequest}
-use Rattle.sb_outside.specs.declared.links.Kind.{Kind}
-use Rattle.sb_outside.specs.declared.links.Kind.TheVariants.{Update, Find}
+use Rattle.sb_service.specs.declared.command.MessageKind.{MessageKind}
+use Rattle.sb_service.specs.declared.command.MessageKind.TheVariants.{Fetch, Find}
 use Rattle.delta_server.specs.declared.answering.Settings.{Settings}
-use Rattle.sb_service.specs.Connection.{IsAnswerText}
 use Rattle.sb_service.specs.Printed.{Reply, answer_line, reply_to_fetch, reply_to_find, reply_unless, reply_with}
-use Rattle.sb_service.specs.Answer.{AfterInput, AfterJournal, InputOutcome, IsAnswerRun, IsFetchOf, IsFindOf, IsInputRun, IsReplied, IsReplyTo, IsWritten, HasNoFault, IsStatus, most_body}
+use Rattle.sb_service.specs.Answer.{IsAnswerOf, AfterInput, AfterJournal, InputOutcome, IsAnswerRun, IsFetchOf, IsFindOf, IsInputRun, IsReplied, IsReplyTo, IsWritten, HasNoFault, IsStatus, most_body}
 use Rattle.sb_service.proofs.ConnectionFacts.{ReadsOneWay, one_message}
 use Rattle.sb_service.proofs.Loads.{IsLoadedAs, loaded_as}
 
@@ -50,9 +49,9 @@ one_find law body request (Ok other) reads h = ap Ok (one_message ReadsFindReque
 one_find law body request (Err fault) reads h = absurd (no_fault ReadsFindRequest fault_of_find_request law.find body request fault reads h)
 
 -- the reply to a body that has an answer
-reply_is : ReadsOrFails → (versions : History) (times : Settings) (asked : Kind) (body text : List ℕ) (reply : Reply) → IsAnswerText versions times asked body text → IsReplyTo versions times asked body reply
+reply_is : ReadsOrFails → (versions : History) (times : Settings) (asked : MessageKind) (body text : List ℕ) (reply : Reply) → IsAnswerOf versions times asked body text → IsReplyTo versions times asked body reply
     → reply ≡ reply_with text
-reply_is law versions times Update body text reply (message, asks, is) (reading, read, same) =
+reply_is law versions times Fetch body text reply (message, asks, is) (reading, read, same) =
     same ∙ ap (reply_to_fetch versions times) (one_fetch law body message reading asks.reads read) ∙ ap (reply_unless versions times message) asks.declared ∙ ap reply_with (sym is)
 reply_is law versions times Find body text reply (message, reads, is) (reading, read, same) =
     same ∙ ap (reply_to_find versions times) (one_find law body message reading reads read) ∙ ap reply_with (sym is)
@@ -63,24 +62,24 @@ text_served : (text : List ℕ) (status : ℕ) (held held' : Option (List ℕ)) 
 text_served text status held held' (inl whole) e = whole.whole
 text_served text status held held' (inr cut) e = absurd (omega (arith, cut.ends, e))
 
-replied : ReadsOrFails → (versions : History) (times : Settings) (asked : Kind) (status : ℕ) (body text : List ℕ) (held held' : Option (List ℕ)) → IsAnswerText versions times asked body text
+replied : ReadsOrFails → (versions : History) (times : Settings) (asked : MessageKind) (status : ℕ) (body text : List ℕ) (held held' : Option (List ℕ)) → IsAnswerOf versions times asked body text
     → IsReplied versions times asked body status held held' → IsWritten (reply_with text) status held held'
 replied law versions times asked status body text held held' answer after =
     subst (λ (reply : Reply). IsWritten reply status held held') (reply_is law versions times asked body text after.reply answer after.right) after.written
 
 -- a body that the input tells
-told_body : ReadsOrFails → (versions : History) (times : Settings) (asked : Kind) (status : ℕ) (bodies : List (List ℕ)) (left' : Option (List (List ℕ))) (held held' : Option (List ℕ)) (text : List ℕ)
-    → IsAnswerText versions times asked (next_piece bodies) text → (given : Result (List ℕ) InputFault) → InputOutcome given (Some bodies) left'
+told_body : ReadsOrFails → (versions : History) (times : Settings) (asked : MessageKind) (status : ℕ) (bodies : List (List ℕ)) (left' : Option (List (List ℕ))) (held held' : Option (List ℕ)) (text : List ℕ)
+    → IsAnswerOf versions times asked (next_piece bodies) text → (given : Result (List ℕ) InputFault) → InputOutcome given (Some bodies) left'
     → AfterInput versions times asked given status held held' → status ≡ 0 → held' ≡ appended held (answer_line text)
 told_body law versions times asked status bodies left' held held' text answer (Ok body) outcome after e =
     let whole : next_piece bodies ≡ body = outcome.0.whole in
-    text_served text status held held' (replied law versions times asked status body text held held' (subst (λ (b : List ℕ). IsAnswerText versions times asked b text) whole answer) after) e
+    text_served text status held held' (replied law versions times asked status body text held held' (subst (λ (b : List ℕ). IsAnswerOf versions times asked b text) whole answer) after) e
 told_body law versions times asked status bodies left' held held' text answer (Err input.Failed) outcome after e = absurd (omega (arith, after.ends, e))
 told_body law versions times asked status bodies left' held held' text answer (Err input.PastLimit) outcome after e = absurd (omega (arith, after.ends, e))
 told_body law versions times asked status bodies left' held held' text answer (Err input.OutOfMemory) outcome after e = absurd after
 
-by_loaded : ReadsOrFails → (times : Settings) (asked : Kind) (status : ℕ) (bodies : List (List ℕ)) (left' : Option (List (List ℕ))) (held held' : Option (List ℕ)) (kept : Kept) (text : List ℕ)
-    → IsAnswerText kept.versions times asked (next_piece bodies) text → (loaded : Result Kept JournalFault) → IsLoadedAs kept loaded
+by_loaded : ReadsOrFails → (times : Settings) (asked : MessageKind) (status : ℕ) (bodies : List (List ℕ)) (left' : Option (List (List ℕ))) (held held' : Option (List ℕ)) (kept : Kept) (text : List ℕ)
+    → IsAnswerOf kept.versions times asked (next_piece bodies) text → (loaded : Result Kept JournalFault) → IsLoadedAs kept loaded
     → AfterJournal times asked loaded status (Some bodies) left' held held' → status ≡ 0 → held' ≡ appended held (answer_line text)
 by_loaded law times asked status bodies left' held held' kept text answer loaded (inl is) after e =
     let run : IsInputRun kept.versions times asked status (Some bodies) left' held held' = subst (λ (l : Result Kept JournalFault). AfterJournal times asked l status (Some bodies) left' held held') is after in
@@ -92,8 +91,8 @@ by_loaded law times asked status bodies left' held held' kept text answer loaded
     let run = subst (λ (l : Result Kept JournalFault). AfterJournal times asked l status (Some bodies) left' held held') is after in
     absurd run.after
 
-pub served : ReadsOrFails → (times : Settings) (asked : Kind) (status : ℕ) (pieces bodies : List (List ℕ)) (journal journal' left left' : Option (List (List ℕ))) (held held' : Option (List ℕ)) (kept : Kept) (text : List ℕ)
-    → journal ≡ Some pieces → kept_of (next_piece pieces) ≡ Ok kept → left ≡ Some bodies → IsAnswerText kept.versions times asked (next_piece bodies) text
+pub served : ReadsOrFails → (times : Settings) (asked : MessageKind) (status : ℕ) (pieces bodies : List (List ℕ)) (journal journal' left left' : Option (List (List ℕ))) (held held' : Option (List ℕ)) (kept : Kept) (text : List ℕ)
+    → journal ≡ Some pieces → kept_of (next_piece pieces) ≡ Ok kept → left ≡ Some bodies → IsAnswerOf kept.versions times asked (next_piece bodies) text
     → IsAnswerRun times asked status journal journal' left left' held held' → status ≡ 0 → held' ≡ appended held (answer_line text)
 served law times asked status pieces bodies journal journal' left left' held held' kept text told is given answer run e =
     let run : IsAnswerRun times asked status (Some pieces) journal' (Some bodies) left' held held' =
@@ -118,19 +117,19 @@ by_left given piece (Some left) e short long =
 short_input : (bodies : List (List ℕ)) (after : Option (List (List ℕ))) → length (next_piece bodies) ≤ most_body → GivesMoreThan most_body (Some bodies) after → ⊥
 short_input bodies after short more = by_left more.given (next_piece bodies) after more.gives.front short more.past
 
-whole_body : ReadsOrFails → (versions : History) (times : Settings) (asked : Kind) (status : ℕ) (bodies : List (List ℕ)) (left' : Option (List (List ℕ))) (held held' : Option (List ℕ)) (text : List ℕ)
-    → IsAnswerText versions times asked (next_piece bodies) text → length (next_piece bodies) ≤ most_body
+whole_body : ReadsOrFails → (versions : History) (times : Settings) (asked : MessageKind) (status : ℕ) (bodies : List (List ℕ)) (left' : Option (List (List ℕ))) (held held' : Option (List ℕ)) (text : List ℕ)
+    → IsAnswerOf versions times asked (next_piece bodies) text → length (next_piece bodies) ≤ most_body
     → (given : Result (List ℕ) InputFault) → InputOutcome given (Some bodies) left' → AfterInput versions times asked given status held held'
     → status ≢ 2 → status ≢ 3 → status ≡ 0
 whole_body law versions times asked status bodies left' held held' text answer short (Ok body) outcome after two three =
     let whole : next_piece bodies ≡ body = outcome.0.whole in
-    text_whole text status held held' (replied law versions times asked status body text held held' (subst (λ (b : List ℕ). IsAnswerText versions times asked b text) whole answer) after) three
+    text_whole text status held held' (replied law versions times asked status body text held held' (subst (λ (b : List ℕ). IsAnswerOf versions times asked b text) whole answer) after) three
 whole_body law versions times asked status bodies left' held held' text answer short (Err input.Failed) outcome after two three = absurd (two after.ends)
 whole_body law versions times asked status bodies left' held held' text answer short (Err input.PastLimit) outcome after two three = absurd (short_input bodies left' short outcome)
 whole_body law versions times asked status bodies left' held held' text answer short (Err input.OutOfMemory) outcome after two three = absurd after
 
-whole_loaded : ReadsOrFails → (times : Settings) (asked : Kind) (status : ℕ) (bodies : List (List ℕ)) (left' : Option (List (List ℕ))) (held held' : Option (List ℕ)) (kept : Kept) (text : List ℕ)
-    → IsAnswerText kept.versions times asked (next_piece bodies) text → length (next_piece bodies) ≤ most_body
+whole_loaded : ReadsOrFails → (times : Settings) (asked : MessageKind) (status : ℕ) (bodies : List (List ℕ)) (left' : Option (List (List ℕ))) (held held' : Option (List ℕ)) (kept : Kept) (text : List ℕ)
+    → IsAnswerOf kept.versions times asked (next_piece bodies) text → length (next_piece bodies) ≤ most_body
     → (loaded : Result Kept JournalFault) → IsLoadedAs kept loaded → AfterJournal times asked loaded status (Some bodies) left' held held'
     → status ≢ 2 → status ≢ 3 → status ≡ 0
 whole_loaded law times asked status bodies left' held held' kept text answer short loaded (inl is) after two three =
@@ -143,9 +142,9 @@ whole_loaded law times asked status bodies left' held held' kept text answer sho
     let run = subst (λ (l : Result Kept JournalFault). AfterJournal times asked l status (Some bodies) left' held held') is after in
     absurd run.after
 
-pub answered : ReadsOrFails → (times : Settings) (asked : Kind) (status : ℕ) (pieces bodies : List (List ℕ)) (journal journal' left left' : Option (List (List ℕ))) (held held' : Option (List ℕ)) (kept : Kept) (text : List ℕ)
+pub answered : ReadsOrFails → (times : Settings) (asked : MessageKind) (status : ℕ) (pieces bodies : List (List ℕ)) (journal journal' left left' : Option (List (List ℕ))) (held held' : Option (List ℕ)) (kept : Kept) (text : List ℕ)
     → journal ≡ Some pieces → kept_of (next_piece pieces) ≡ Ok kept → left ≡ Some bodies → length (next_piece bodies) ≤ most_body
-    → IsAnswerText kept.versions times asked (next_piece bodies) text
+    → IsAnswerOf kept.versions times asked (next_piece bodies) text
     → IsAnswerRun times asked status journal journal' left left' held held' → status ≢ 2 → status ≢ 3 → status ≡ 0
 answered law times asked status pieces bodies journal journal' left left' held held' kept text told is given short answer run two three =
     let run : IsAnswerRun times asked status (Some pieces) journal' (Some bodies) left' held held' =

@@ -19,9 +19,11 @@ use Rattle.hash_messages.specs.Faults.{fault_of_find_request}
 use Rattle.hash_messages.specs.Messages.{AskedHashes}
 use Rattle.hash_messages.specs.Reading.{ReadsFindRequest}
 use Rattle.sb_json.specs.declared.faults.MessageFault.{MessageFault}
-use Rattle.sb_outside.specs.declared.links.Kind.{Kind}
-use Rattle.sb_outside.specs.declared.links.Kind.TheVariants.{Update, Find}
+use Rattle.sb_service.specs.declared.command.MessageKind.{MessageKind}
+use Rattle.sb_service.specs.declared.command.MessageKind.TheVariants.{Fetch, Find}
+use Rattle.sb_outside.specs.declared.links.Kind.TheVariants as session
 use Rattle.delta_server.specs.declared.answering.Settings.{Settings}
+use Rattle.sb_service.specs.Connection.{IsAnswerText}
 use Rattle.sb_service.specs.Printed.{Reply, refusal_of, reply_to_fetch, reply_to_find}
 
 -- each exit status that a run of the server can have
@@ -79,22 +81,27 @@ abbrev pub IsFindOf : List ℕ → Result AskedHashes MessageFault → Type 0
 IsFindOf body (Ok request) = IsTextOf ReadsFindRequest body request
 IsFindOf body (Err fault) = fault_of_text fault_of_find_request (value_of body) ≡ Some fault
 
+-- The answer to the body of a message is the one that a connection gives.
+abbrev pub IsAnswerOf : History → Settings → MessageKind → List ℕ → List ℕ → Type 0
+IsAnswerOf versions times Fetch body text = IsAnswerText versions times session.Update body text
+IsAnswerOf versions times Find body text = IsAnswerText versions times session.Find body text
+
 -- the reply to a body that asks for this, by a server that has this history and these times
-abbrev pub IsReplyTo : History → Settings → Kind → List ℕ → Reply → Type 0
-IsReplyTo versions times Update body reply =
+abbrev pub IsReplyTo : History → Settings → MessageKind → List ℕ → Reply → Type 0
+IsReplyTo versions times Fetch body reply =
     (reading : Result Request MessageFault) × IsFetchOf body reading × (reply ≡ reply_to_fetch versions times reading)
 IsReplyTo versions times Find body reply =
     (reading : Result AskedHashes MessageFault) × IsFindOf body reading × (reply ≡ reply_to_find versions times reading)
 
 -- A body was replied to.
-pub record IsReplied (versions : History) (times : Settings) (asked : Kind) (body : List ℕ) (status : ℕ)
+pub record IsReplied (versions : History) (times : Settings) (asked : MessageKind) (body : List ℕ) (status : ℕ)
     (held held' : Option (List ℕ)) : Type 0 where
   pub reply : Reply
   pub right : IsReplyTo versions times asked body reply
   pub written : IsWritten reply status held held'
 
 -- what the input led to: a reply, 2 where it failed, 6 where it is too long
-abbrev pub AfterInput : History → Settings → Kind → Result (List ℕ) InputFault → ℕ
+abbrev pub AfterInput : History → Settings → MessageKind → Result (List ℕ) InputFault → ℕ
     → (held held' : Option (List ℕ)) → Type 0
 AfterInput versions times asked (Ok body) status held held' = IsReplied versions times asked body status held held'
 AfterInput versions times asked (Err input.Failed) status held held' = IsSilent 2 status held held'
@@ -102,7 +109,7 @@ AfterInput versions times asked (Err input.PastLimit) status held held' = IsSile
 AfterInput versions times asked (Err input.OutOfMemory) status held held' = ⊥
 
 -- The input was read, and decided.
-pub record IsInputRun (versions : History) (times : Settings) (asked : Kind) (status : ℕ) (left left' : Option (List (List ℕ)))
+pub record IsInputRun (versions : History) (times : Settings) (asked : MessageKind) (status : ℕ) (left left' : Option (List (List ℕ)))
     (held held' : Option (List ℕ)) : Type 0 where
   pub given : Result (List ℕ) InputFault
   pub outcome : InputOutcome given left left'
@@ -123,14 +130,14 @@ pub record IsFaultRun (fault : JournalFault) (status : ℕ) (left left' : Option
   pub after : AfterFault fault status held held'
 
 -- what the journal led to
-abbrev pub AfterJournal : Settings → Kind → Result Kept JournalFault → ℕ → (left left' : Option (List (List ℕ)))
+abbrev pub AfterJournal : Settings → MessageKind → Result Kept JournalFault → ℕ → (left left' : Option (List (List ℕ)))
     → (held held' : Option (List ℕ)) → Type 0
 AfterJournal times asked (Ok kept) status left left' held held' = IsInputRun kept.versions times asked status left left' held held'
 AfterJournal times asked (Err fault) status left left' held held' = IsFaultRun fault status left left' held held'
 
 -- A run of `answer`, for a body that asks for this, of a server with these times: the journal gave these bytes, with its end or without,
 -- and what they come to decided what became of the input and of the output.
-pub record IsAnswerRun (times : Settings) (asked : Kind) (status : ℕ) (journal journal' left left' : Option (List (List ℕ)))
+pub record IsAnswerRun (times : Settings) (asked : MessageKind) (status : ℕ) (journal journal' left left' : Option (List (List ℕ)))
     (held held' : Option (List ℕ)) : Type 0 where
   pub bytes : List ℕ
   pub ended : Bool

@@ -1,20 +1,25 @@
 -- The command lines that the server takes.
-use Rattle.std.specs.Prelude.{◌≡◌, ℕ, false, ◌&&◌, if◌then◌else◌, List, [], ◌∷◌, Option, Some, None, option_map, option_and_then, codes}
+use Rattle.std.specs.Prelude.{◌≡◌, ⊤, ℕ, Bool, true, false, ◌&&◌, if◌then◌else◌, List, [], ◌∷◌, Option, Some, None, is_some, option_map, option_and_then, codes}
 use Rattle.std.specs.Str.{bytes_eq}
-use Rattle.sb_words.specs.declared.shape.OptionKind.TheVariants.{Needed, Optional}
+use Rattle.sb_words.specs.declared.shape.OptionKind.TheVariants.{Needed, Optional, Flag}
 use Rattle.sb_words.specs.CommandLine.{Text, CommandOption, CommandShape, Given, given_of, value_among}
 use Rattle.sb_words.specs.Values.{number_of, listen_address_of}
-use Rattle.sb_outside.specs.declared.links.Kind.{Kind}
-use Rattle.sb_outside.specs.declared.links.Kind.TheVariants.{Update, Find}
 use Rattle.delta_server.specs.declared.answering.Settings.{Settings}
 use Rattle.sb_service.specs.declared.command.Command.{Command}
-use Rattle.sb_service.specs.declared.command.Command.TheVariants.{Answer, Serve}
+use Rattle.sb_service.specs.declared.command.Command.TheVariants.{Answer, Serve, Generate, Exercise}
+use Rattle.sb_service.specs.declared.command.GenerateLine.{GenerateLine}
+use Rattle.sb_service.specs.declared.command.Load.{Load}
+use Rattle.sb_service.specs.declared.command.MessageKind.{MessageKind}
+use Rattle.sb_service.specs.declared.command.MessageKind.TheVariants.{Fetch, Find}
 
 abbrev pub needed : Text → CommandOption
 needed name = record { name = name; kind = Needed }
 
 abbrev pub optional : Text → CommandOption
 optional name = record { name = name; kind = Optional }
+
+abbrev pub flag : Text → CommandOption
+flag name = record { name = name; kind = Flag }
 
 -- `answer` needs a journal and a kind of message, may have four durations, and takes no positional words.
 abbrev pub answer_shape : CommandShape
@@ -33,6 +38,13 @@ serve_shape = record {
       ∷ optional (codes "wait") ∷ optional (codes "find-wait") ∷ optional (codes "cache") ∷ optional (codes "negative") ∷ [];
   takes_positionals = false;
 }
+
+-- `generate` takes positional words, and may have a flag. `exercise` takes positional words alone.
+abbrev pub generate_shape : CommandShape
+generate_shape = record { options = flag (codes "urls") ∷ []; takes_positionals = true }
+
+abbrev pub exercise_shape : CommandShape
+exercise_shape = record { options = []; takes_positionals = true }
 
 -- what the words after a command give, where the first words are the program's name and the command's
 abbrev pub given_to : Text → CommandShape → List Text → Option Given
@@ -59,20 +71,20 @@ settings_given named =
     (seconds_given (codes "find-wait") wait named))
     (seconds_given (codes "wait") 1800 named)
 
--- the kind of the request: `fetch` for updates, or `find` for full hashes
-abbrev pub kind_of : Text → Option Kind
-kind_of text = if bytes_eq text (codes "fetch") then Some Update else if bytes_eq text (codes "find") then Some Find else None
+-- the kind of the message: `fetch` for updates, or `find` for full hashes
+abbrev pub kind_of : Text → Option MessageKind
+kind_of text = if bytes_eq text (codes "fetch") then Some Fetch else if bytes_eq text (codes "find") then Some Find else None
 
-abbrev pub kind_given : List (Text × Text) → Option Kind
+abbrev pub kind_given : List (Text × Text) → Option MessageKind
 kind_given named = option_and_then kind_of (value_among (codes "kind") named)
 
--- What a command line of `answer` says: the path of the journal, the kind of the request, and times.
+-- What a command line of `answer` says: the path of the journal, the kind of the message, and times.
 pub record AnswerWords : Type 0 where
   pub journal : Text
-  pub kind : Kind
+  pub kind : MessageKind
   pub settings : Settings
 
-abbrev pub answer_with : Option Text → Option Kind → Option Settings → Option AnswerWords
+abbrev pub answer_with : Option Text → Option MessageKind → Option Settings → Option AnswerWords
 answer_with journal kind settings =
     option_and_then (λ path. option_and_then (λ asked. option_map
     (λ times. record { journal = path; kind = asked; settings = times })
@@ -121,6 +133,29 @@ serve_given given =
 abbrev pub serve_of : List Text → Option ServeWords
 serve_of words = option_and_then serve_given (given_to (codes "serve") serve_shape words)
 
+-- the load that two positional words say: how many changes or URLs, 1 to 65,536, and a seed of 64 bits
+abbrev pub load_given : List Text → Option Load
+load_given (count ∷ seed ∷ []) =
+    option_and_then (λ many. option_map (λ number. record { count = many; seed = number }) (number_of 0 18446744073709551615 seed))
+    (number_of 1 65536 count)
+load_given words = None
+
+-- whether URLs are asked for, or a journal
+abbrev pub generate_given : Given → Option GenerateLine
+generate_given given =
+    option_map (λ load. record { urls = is_some (value_among (codes "urls") given.named); load = load }) (load_given given.positionals)
+
+abbrev pub exercise_given : Given → Option Load
+exercise_given given = load_given given.positionals
+
+-- what the words of `sblistd generate [--urls] N SEED` say, where they are such words
+abbrev pub generate_of : List Text → Option GenerateLine
+generate_of words = option_and_then generate_given (given_to (codes "generate") generate_shape words)
+
+-- and what those of `sblistd exercise N SEED` say
+abbrev pub exercise_of : List Text → Option Load
+exercise_of words = option_and_then exercise_given (given_to (codes "exercise") exercise_shape words)
+
 -- where the words have a journal: those of `answer`, or else those of `serve`
 abbrev pub path_of : Option AnswerWords → Option ServeWords → Option Text
 path_of (Some answer) serve = Some answer.journal
@@ -137,18 +172,18 @@ listen_of words = option_map (λ (serve : ServeWords). serve.listen) (serve_of w
 pub record IsNoCommand (words : List Text) : Type 0 where
   pub answer : answer_of words ≡ None
   pub serve : serve_of words ≡ None
+  pub generate : generate_of words ≡ None
+  pub exercise : exercise_of words ≡ None
 
--- The words are those of `answer`, for a request of this kind, with these settings.
-pub record AsksAnswer (words : List Text) (kind : Kind) (settings : Settings) : Type 0 where
+-- The words are those of `answer`, for a message of this kind, with these settings.
+pub record AsksAnswer (words : List Text) (kind : MessageKind) (settings : Settings) : Type 0 where
   pub line : AnswerWords
   pub answer : answer_of words ≡ Some line
   pub asked : line.kind ≡ kind
   pub times : line.settings ≡ settings
-  pub serve : serve_of words ≡ None
 
 -- The words are those of `serve`, with these settings and so many connections.
 pub record AsksServe (words : List Text) (settings : Settings) (connections : ℕ) : Type 0 where
-  pub answer : answer_of words ≡ None
   pub line : ServeWords
   pub serve : serve_of words ≡ Some line
   pub times : line.settings ≡ settings
@@ -159,3 +194,15 @@ abbrev pub IsCommandOf : List Text → Option Command → Type 0
 IsCommandOf words None = IsNoCommand words
 IsCommandOf words (Some (Answer kind settings)) = AsksAnswer words kind settings
 IsCommandOf words (Some (Serve settings connections)) = AsksServe words settings connections
+IsCommandOf words (Some (Generate urls load)) = generate_of words ≡ Some (record { urls = urls; load = load })
+IsCommandOf words (Some (Exercise load)) = exercise_of words ≡ Some load
+
+-- a command that serves no connection, and one that makes what it prints from its words alone
+abbrev pub IsNoService : Command → Type 0
+IsNoService (Serve settings connections) = ⊥
+IsNoService command = ⊤
+
+abbrev pub IsMade : Command → Type 0
+IsMade (Generate urls load) = ⊤
+IsMade (Exercise load) = ⊤
+IsMade command = ⊥

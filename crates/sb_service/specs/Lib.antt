@@ -1,4 +1,5 @@
 pub mod Command
+pub mod Made
 pub mod Printed
 pub mod Answer
 pub mod Connection

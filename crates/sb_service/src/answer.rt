@@ -4,19 +4,20 @@ ghost use Rattle.list_versions.specs.declared.fault.JournalFault.{JournalFault};
 ghost use Rattle.sb_service.specs.Answer.{AfterFault, IsAnswerRun, IsInputRun, IsReplied, IsWritten};
 ghost use Rattle.sb_service.specs.Stops.{status_of};
 
+use crate::command::MessageKind;
 use crate::reply::{Reply, refuse_journal, reply_to_body};
 use crate::stop::Stop;
 use delta_server::Settings;
 use list_versions::{History, JournalFault};
 use sb_model::OutOfMemory;
-use sb_outside::{Failed, InputFault, Kind, Sink, Source, read_to_end, write_all};
+use sb_outside::{Failed, InputFault, Sink, Source, read_to_end, write_all};
 use std::alloc::Global;
 
 /// The most bytes of the body of a request.
 const MOST_BODY: usize = 1_048_576;
 
 /// Writes a reply, and answers what ends the run: what the reply says, or a fault of the output.
-fn print<O: Sink>(out: &mut O, reply: &Reply) -> Stop
+pub(crate) fn print<O: Sink>(out: &mut O, reply: &Reply) -> Stop
     requires { reply.now.status ≢ 3 }
     ensures written { IsWritten reply.now (status_of result) (O.contents out.old) (O.contents out.new) }
     ensures ends { (status_of result ≡ reply.now.status) ⊎ (result ≡ Stop.WriteFault) }
@@ -34,7 +35,7 @@ fn answer_body<O: Sink>(
     alloc: Global,
     history: &History,
     settings: &Settings,
-    kind: Kind,
+    kind: MessageKind,
     body: &[u8],
     out: &mut O,
 ) -> Result<Stop, OutOfMemory>
@@ -54,7 +55,7 @@ fn answer_input<S: Source, O: Sink>(
     alloc: Global,
     history: &History,
     settings: &Settings,
-    kind: Kind,
+    kind: MessageKind,
     input: &mut S,
     out: &mut O,
 ) -> Result<Stop, OutOfMemory>
@@ -105,7 +106,7 @@ pub(crate) fn answer_fault<O: Sink>(
 pub(crate) fn answer<J: Source, S: Source, O: Sink>(
     alloc: Global,
     settings: &Settings,
-    kind: Kind,
+    kind: MessageKind,
     journal: &mut J,
     input: &mut S,
     out: &mut O,

@@ -1,11 +1,10 @@
 ghost use Rattle.std.specs.Prelude.{◌≡◌, ◌≤◌, ◌&&◌, IfOk, IfSome, map, option_map, option_and_then, None, codes, string_bytes};
 ghost use Rattle.std.specs.Str.{bytes_eq};
 ghost use Rattle.sb_words.specs.CommandLine.{given_of};
-ghost use Rattle.sb_service.specs.Command.{answer_given, answer_of, answer_shape, connections_given, kind_given, kind_of, listen_given, seconds_given, serve_given, serve_of, serve_shape, settings_given, AnswerWords, IsCommandOf, ServeWords};
+ghost use Rattle.sb_service.specs.Command.{answer_given, answer_of, answer_shape, connections_given, exercise_given, exercise_of, exercise_shape, generate_given, generate_of, generate_shape, kind_given, kind_of, listen_given, load_given, seconds_given, serve_given, serve_of, serve_shape, settings_given, AnswerWords, IsCommandOf, ServeWords};
 
 use delta_server::Settings;
 use sb_model::OutOfMemory;
-use sb_outside::Kind;
 use sb_words::{OptionKind, OptionShape, Shape, Words, listen_address, number, read_words};
 use std::alloc::Global;
 
@@ -75,6 +74,24 @@ const SERVE: Shape = Shape {
     takes_positionals: false,
 };
 
+/// The words of `generate`.
+const GENERATE: Shape = Shape {
+    options: &[OptionShape {
+        name: "urls",
+        kind: OptionKind::Flag,
+    }],
+    takes_positionals: true,
+};
+
+/// The words of `exercise`.
+const EXERCISE: Shape = Shape {
+    options: &[],
+    takes_positionals: true,
+};
+
+/// The most changes or URLs of a load.
+const MOST_MADE: u64 = 65_536;
+
 /// The most connections that the words can say.
 const MOST_CONNECTIONS: u64 = 1_000_000;
 
@@ -84,12 +101,29 @@ const CONNECTIONS_UNSAID: u32 = 4_294_967_295;
 /// The most seconds of a duration: a day.
 const MOST_SECONDS: u64 = 86_400;
 
+/// The message that a body is taken as.
+#[derive(Clone, Copy, Debug)]
+pub(crate) enum MessageKind {
+    /// A request for updates (`threatListUpdates:fetch`).
+    Fetch,
+    /// A request for full hashes (`fullHashes:find`).
+    Find,
+}
+
+/// How large a load is, and what it is made from.
+#[derive(Clone, Copy, Debug)]
+pub(crate) struct Load {
+    /// How many changes or URLs, from 1 to 65,536.
+    pub count: u32,
+    pub seed: u64,
+}
+
 /// What the words ask for.
 #[derive(Clone, Copy, Debug)]
 pub(crate) enum Command {
-    /// An answer to one request of a kind, by a server with these settings.
+    /// An answer to one message of a kind, by a server with these settings.
     Answer {
-        kind: Kind,
+        kind: MessageKind,
         settings: Settings,
     },
     /// Updates to so many connections, by a server with these settings.
@@ -97,6 +131,13 @@ pub(crate) enum Command {
         settings: Settings,
         connections: u32,
     },
+    /// The URLs of a load, or its journal.
+    Generate {
+        urls: bool,
+        load: Load,
+    },
+    /// The line of an exercise with a load.
+    Exercise(Load),
 }
 
 /// What a command line of `answer` says.
@@ -104,8 +145,7 @@ pub(crate) enum Command {
 pub(crate) struct AnswerLine<'a> {
     /// The path of the journal.
     pub journal: &'a str,
-    /// The kind of the request.
-    pub kind: Kind,
+    pub kind: MessageKind,
     pub settings: Settings,
 }
 
@@ -148,19 +188,26 @@ fn settings_in(given: &Words<'_>) -> Option<Settings>
     })
 }
 
-/// The kind of requests that a word names.
-fn kind_of(word: &str) -> Option<Kind>
+/// What a command line of `generate` says.
+#[derive(Clone, Copy, Debug)]
+pub(crate) struct GenerateLine {
+    pub urls: bool,
+    pub load: Load,
+}
+
+/// The kind of messages that a word names.
+fn kind_of(word: &str) -> Option<MessageKind>
     ensures { result ≡ kind_of word.now }
 {
     match word {
-        "fetch" => Some(Kind::Update),
-        "find" => Some(Kind::Find),
+        "fetch" => Some(MessageKind::Fetch),
+        "find" => Some(MessageKind::Find),
         _ => None,
     }
 }
 
-/// The kind of the request.
-fn kind_in(given: &Words<'_>) -> Option<Kind>
+/// The kind of the message.
+fn kind_in(given: &Words<'_>) -> Option<MessageKind>
     ensures { result ≡ kind_given given.now.named }
 {
     let word = given.value("kind")?;
@@ -300,6 +347,112 @@ pub(crate) fn serve_line<'a>(
     Ok(None)
 }
 
+/// The load that positional words say: how much, and the seed.
+fn load_in(words: &[&str]) -> Option<Load>
+    ensures { result ≡ load_given (map (λ s. s.now) words.now) }
+{
+    let [count, seed] = words else {
+        return None;
+    };
+    let count = number(count, 1, MOST_MADE)?;
+    let seed = number(seed, 0, u64::MAX)?;
+    Some(Load {
+        count: count as u32,
+        seed,
+    })
+}
+
+/// What the words after `generate` say, by what they give.
+fn generate_line_in(given: &Words<'_>) -> Option<GenerateLine>
+    ensures { result ≡ generate_given given.now }
+{
+    let load = load_in(given.positionals())?;
+    let urls = given.has("urls");
+    Some(GenerateLine { urls, load })
+}
+
+/// What the words after `generate` say.
+fn generate_line_of(alloc: Global, words: &[String]) -> Result<Option<GenerateLine>, OutOfMemory>
+    ensures { IfOk result (λ line. line
+        ≡ option_and_then generate_given (given_of generate_shape (map string_bytes words.now))) }
+{
+    match read_words(alloc, &GENERATE, words) {
+        Ok(Some(given)) => Ok(generate_line_in(&given)),
+        Ok(None) => Ok(None),
+        Err(OutOfMemory) => Err(OutOfMemory),
+    }
+}
+
+/// Whether the first two words are those of `generate`.
+fn are_generate(program: &String, command: &String) -> bool
+    ensures { result ≡ (bytes_eq (string_bytes program.now) (codes "sblistd")
+        && bytes_eq (string_bytes command.now) (codes "generate")) }
+{
+    program.as_str() == "sblistd" && command.as_str() == "generate"
+}
+
+/// What the words of `sblistd generate` say; `None` where they are no such words.
+fn generate_line(alloc: Global, words: &[String]) -> Result<Option<GenerateLine>, OutOfMemory>
+    ensures { IfOk result (λ line. line ≡ generate_of (map string_bytes words.now)) }
+{
+    let [program, command, rest @ ..] = words else {
+        return Ok(None);
+    };
+    if are_generate(program, command) {
+        return generate_line_of(alloc, rest);
+    }
+    Ok(None)
+}
+
+/// What the words after `exercise` say.
+fn exercise_line_of(alloc: Global, words: &[String]) -> Result<Option<Load>, OutOfMemory>
+    ensures { IfOk result (λ load. load
+        ≡ option_and_then exercise_given (given_of exercise_shape (map string_bytes words.now))) }
+{
+    match read_words(alloc, &EXERCISE, words) {
+        Ok(Some(given)) => Ok(load_in(given.positionals())),
+        Ok(None) => Ok(None),
+        Err(OutOfMemory) => Err(OutOfMemory),
+    }
+}
+
+/// Whether the first two words are those of `exercise`.
+fn are_exercise(program: &String, command: &String) -> bool
+    ensures { result ≡ (bytes_eq (string_bytes program.now) (codes "sblistd")
+        && bytes_eq (string_bytes command.now) (codes "exercise")) }
+{
+    program.as_str() == "sblistd" && command.as_str() == "exercise"
+}
+
+/// What the words of `sblistd exercise` say; `None` where they are no such words.
+fn exercise_line(alloc: Global, words: &[String]) -> Result<Option<Load>, OutOfMemory>
+    ensures { IfOk result (λ load. load ≡ exercise_of (map string_bytes words.now)) }
+{
+    let [program, command, rest @ ..] = words else {
+        return Ok(None);
+    };
+    if are_exercise(program, command) {
+        return exercise_line_of(alloc, rest);
+    }
+    Ok(None)
+}
+
+/// The command that words are which have no journal; `None` where they are none.
+fn load_command(alloc: Global, words: &[String]) -> Result<Option<Command>, OutOfMemory>
+    requires answer { answer_of (map string_bytes words.now) ≡ None }
+    requires serve { serve_of (map string_bytes words.now) ≡ None }
+    ensures { IfOk result (λ command. IsCommandOf (map string_bytes words.now) command) }
+{
+    if let Some(line) = generate_line(alloc, words)? {
+        let GenerateLine { urls, load } = line;
+        return Ok(Some(Command::Generate { urls, load }));
+    }
+    match exercise_line(alloc, words)? {
+        Some(load) => Ok(Some(Command::Exercise(load))),
+        None => Ok(None),
+    }
+}
+
 /// The command that words are which are none of `answer`; `None` where they are none.
 fn serve_command(alloc: Global, words: &[String]) -> Result<Option<Command>, OutOfMemory>
     requires { answer_of (map string_bytes words.now) ≡ None }
@@ -310,7 +463,7 @@ fn serve_command(alloc: Global, words: &[String]) -> Result<Option<Command>, Out
             settings: line.settings,
             connections: line.connections,
         })),
-        Ok(None) => Ok(None),
+        Ok(None) => load_command(alloc, words),
         Err(OutOfMemory) => Err(OutOfMemory),
     }
 }

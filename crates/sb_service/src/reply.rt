@@ -5,6 +5,7 @@ ghost use Rattle.sb_service.specs.Printed.{refusal_of, reply_because, reply_unle
 ghost use Rattle.sb_service.specs.Answer.{IsReplyTo};
 ghost use Rattle.sb_service.specs.Connection.{matches_text};
 
+use crate::command::MessageKind;
 use crate::printing::{journal_line, matches_line, message_line, response_line, unknown_line};
 use crate::stop::Stop;
 use delta_server::{ServeFault, Settings, answer_fetch, answer_find};
@@ -12,7 +13,6 @@ use hash_messages::{FindRequest, read_find};
 use list_versions::{History, JournalFault};
 use sb_json::MessageFault;
 use sb_model::{Bytes, OutOfMemory};
-use sb_outside::Kind;
 use std::alloc::Global;
 use std::marker::Model;
 use update_messages::{FetchRequest, read_request};
@@ -95,7 +95,7 @@ fn reply_to_fetch(
     settings: &Settings,
     body: &[u8],
 ) -> Result<Reply, OutOfMemory>
-    ensures { IfOk result (λ reply. IsReplyTo history.now.versions settings.now Kind.Update body.now reply) }
+    ensures { IfOk result (λ reply. IsReplyTo history.now.versions settings.now MessageKind.Fetch body.now reply) }
 {
     match read_request(alloc, body) {
         Ok(request) => reply_to_request(alloc, history, settings, &request),
@@ -127,7 +127,7 @@ fn reply_to_find(
     settings: &Settings,
     body: &[u8],
 ) -> Result<Reply, OutOfMemory>
-    ensures { IfOk result (λ reply. IsReplyTo history.now.versions settings.now Kind.Find body.now reply) }
+    ensures { IfOk result (λ reply. IsReplyTo history.now.versions settings.now MessageKind.Find body.now reply) }
 {
     match read_find(alloc, body) {
         Ok(request) => reply_with_matches(alloc, history, settings, &request),
@@ -140,13 +140,13 @@ pub(crate) fn reply_to_body(
     alloc: Global,
     history: &History,
     settings: &Settings,
-    kind: Kind,
+    kind: MessageKind,
     body: &[u8],
 ) -> Result<Reply, OutOfMemory>
     ensures { IfOk result (λ reply. IsReplyTo history.now.versions settings.now kind body.now reply) }
 {
     match kind {
-        Kind::Update => reply_to_fetch(alloc, history, settings, body),
-        Kind::Find => reply_to_find(alloc, history, settings, body),
+        MessageKind::Fetch => reply_to_fetch(alloc, history, settings, body),
+        MessageKind::Find => reply_to_find(alloc, history, settings, body),
     }
 }

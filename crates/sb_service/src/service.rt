@@ -1,16 +1,20 @@
-ghost use Rattle.std.specs.Prelude.{◌≡◌, ◌≢◌, ◌⊎◌, ◌++◌, ◌∷◌, ◌≤◌, ℕ, List, [], length, map, string_bytes, None, Some, Ok};
+ghost use Rattle.std.specs.Prelude.{◌≡◌, ◌≢◌, ◌⊎◌, ◌++◌, ◌∷◌, ◌≤◌, Bool, ℕ, List, [], length, map, string_bytes, None, Some, Ok};
 ghost use Rattle.sb_outside.specs.Outside.{Rose, appended, next_piece};
 ghost use Rattle.list_versions.specs.Journal.{Kept, kept_of};
-ghost use Rattle.sb_outside.specs.declared.links.Kind.{Kind};
+ghost use Rattle.generated_load.specs.Exercise.{HasRoom, exercise_line};
 ghost use Rattle.delta_server.specs.declared.answering.Settings.{Settings};
-ghost use Rattle.sb_service.specs.Command.{AnswerWords, IsNoCommand, ServeWords, answer_of, serve_of};
+ghost use Rattle.sb_service.specs.declared.command.GenerateLine.{GenerateLine};
+ghost use Rattle.sb_service.specs.declared.command.Load.{Load};
+ghost use Rattle.sb_service.specs.declared.command.MessageKind.{MessageKind};
+ghost use Rattle.sb_service.specs.Command.{AnswerWords, IsMade, IsNoCommand, IsNoService, ServeWords, answer_of, exercise_of, generate_of, serve_of};
+ghost use Rattle.sb_service.specs.Made.{generated_text, printed_whole};
 ghost use Rattle.sb_service.specs.Printed.{answer_line};
-ghost use Rattle.sb_service.specs.Connection.{IsAnswerText};
-ghost use Rattle.sb_service.specs.Answer.{AreCounted, HasNoFault, IsAnswerRun, IsStatus, TellsUsage, most_body};
+ghost use Rattle.sb_service.specs.Answer.{AreCounted, HasNoFault, IsAnswerOf, IsAnswerRun, IsStatus, IsWritten, TellsUsage, most_body};
 ghost use Rattle.sb_service.specs.Serving.{HasNoBadLine, IsServeRun};
 
 use crate::answer::answer;
-use crate::command::{Command, command_of};
+use crate::command::{Command, GenerateLine, command_of};
+use crate::making::{exercise, generate};
 use crate::serve::serve;
 use crate::stop::{Stop, status_of};
 use hash_messages::{find_values_read_one_way, find_values_read_or_have_a_fault};
@@ -23,7 +27,9 @@ use update_messages::{values_read_one_way, values_read_or_have_a_fault};
 /// What is printed where the words are no command line.
 pub const USAGE: &str =
     "usage: sblistd answer --journal PATH --kind fetch|find [--wait S] [--find-wait S] [--cache S] [--negative S]\n       \
-    sblistd serve --journal PATH --listen HOST:PORT [--connections N] [--wait S] [--find-wait S] [--cache S] [--negative S]\n";
+    sblistd serve --journal PATH --listen HOST:PORT [--connections N] [--wait S] [--find-wait S] [--cache S] [--negative S]\n       \
+    sblistd generate [--urls] N SEED\n       \
+    sblistd exercise N SEED\n";
 
 /// Tells how the program is used.
 fn tell_usage<O: Sink>(out: &mut O) -> u8
@@ -47,11 +53,11 @@ fn run_command<J: Source, S: Source, O: Sink, D: Door>(
 ) -> u8
     ensures statuses { IsStatus result }
     ensures some { result ≢ 1 }
-    ensures answers { (kind : Kind) (settings : Settings) → command ≡ Command.Answer kind settings → result ≢ 8
+    ensures answers { (kind : MessageKind) (settings : Settings) → command ≡ Command.Answer kind settings → result ≢ 8
         → IsAnswerRun settings kind result (J.left journal.old) (J.left journal.new)
         (S.left input.old) (S.left input.new) (O.contents out.old) (O.contents out.new) }
-    ensures memory { (kind : Kind) (settings : Settings) → command ≡ Command.Answer kind settings → result ≡ 8 → out.new ≡ out.old }
-    ensures untouched { (kind : Kind) (settings : Settings) → command ≡ Command.Answer kind settings → door.new ≡ door.old }
+    ensures memory { IsNoService command → result ≡ 8 → out.new ≡ out.old }
+    ensures untouched { IsNoService command → door.new ≡ door.old }
     ensures serves { (settings : Settings) (connections : ℕ) → command ≡ Command.Serve settings connections
         → IsServeRun settings connections result (J.left journal.old) (J.left journal.new)
         (O.contents out.old) (O.contents out.new) (D.log door.old) (D.log door.new) (D.coming door.old) (D.coming door.new) }
@@ -59,6 +65,11 @@ fn run_command<J: Source, S: Source, O: Sink, D: Door>(
         → input.new ≡ input.old }
     ensures journal_failed { (settings : Settings) (connections : ℕ) → command ≡ Command.Serve settings connections
         → result ≡ 2 → Rose (J.faults journal.old) (J.faults journal.new) }
+    ensures generates { (urls : Bool) (load : Load) → command ≡ Command.Generate urls load → result ≢ 8
+        → IsWritten (printed_whole (generated_text (record { urls = urls; load = load }))) result (O.contents out.old) (O.contents out.new) }
+    ensures exercises { (load : Load) → command ≡ Command.Exercise load → HasRoom load.count load.seed → result ≢ 8
+        → IsWritten (printed_whole (exercise_line load.count load.seed)) result (O.contents out.old) (O.contents out.new) }
+    ensures nothing_read { IsMade command → (journal.new ≡ journal.old) × (input.new ≡ input.old) }
     ensures counts { AreCounted result (J.faults journal.old) (J.faults journal.new) (S.faults input.old) (S.faults input.new)
         (O.faults out.old) (O.faults out.new) (D.faults door.old) (D.faults door.new) }
 {
@@ -73,6 +84,10 @@ fn run_command<J: Source, S: Source, O: Sink, D: Door>(
             settings,
             connections,
         } => status_of(serve(alloc, &settings, connections, journal, out, door)),
+        Command::Generate { urls, load } => {
+            status_of(generate(alloc, GenerateLine { urls, load }, out))
+        }
+        Command::Exercise(load) => status_of(exercise(alloc, load, out)),
     }
 }
 
@@ -86,6 +101,10 @@ fn run_command<J: Source, S: Source, O: Sink, D: Door>(
 /// is answered as `serve_connection` says and given back to the door in every case, and then its line is written:
 /// `connection I answered S`, `connection I read-fault` or `connection I write-fault`, with I from 1. The input is not read.
 ///
+/// `generate` writes the journal of a seed, or with `--urls` URLs of it. `exercise` makes such a journal in memory, loads
+/// it, answers two requests for its list, and writes how many entries these answers have. Nothing is read, and the door is
+/// not used.
+///
 /// | Status | Comes |
 /// |---|---|
 /// | 0 | where no other stands; of `serve` after as many connections as were asked for, or where none is to come |
@@ -94,7 +113,7 @@ fn run_command<J: Source, S: Source, O: Sink, D: Door>(
 /// | 3 | only where the output's count of faults rose |
 /// | 5 | exactly where the body has no reading or names a list that is not declared: `request CAUSE` is written |
 /// | 6 | exactly where the input passes 1,048,576 bytes |
-/// | 7 | exactly where the journal has a bad line: `journal CAUSE` is written |
+/// | 7 | exactly where the journal has a bad line: `journal CAUSE` is written. Of `exercise`, only where the made journal passes a limit: nothing is written |
 /// | 8 | where memory was refused, by a connection too |
 /// | 9 | only where the door's count of faults rose |
 ///
@@ -129,6 +148,19 @@ pub fn run_server<J: Source, S: Source, O: Sink, D: Door>(
         (O.contents out.old) (O.contents out.new) (D.log door.old) (D.log door.new) (D.coming door.old) (D.coming door.new) }
     ensures no_input { (line : ServeWords) → serve_of (map string_bytes words.now) ≡ Some line → input.new ≡ input.old }
 
+    // `generate`: the text of the load alone is written, whole or, with status 3, a front of it that lacks something.
+    ensures generates { (line : GenerateLine) → generate_of (map string_bytes words.now) ≡ Some line → result ≢ 8
+        → IsWritten (printed_whole (generated_text line)) result (O.contents out.old) (O.contents out.new) }
+    ensures none_read { (line : GenerateLine) → generate_of (map string_bytes words.now) ≡ Some line
+        → (journal.new ≡ journal.old) × (input.new ≡ input.old) }
+
+    // `exercise`: so is its line, where a journal can tell so much.
+    ensures exercises { (load : Load) → exercise_of (map string_bytes words.now) ≡ Some load
+        → HasRoom load.count load.seed → result ≢ 8
+        → IsWritten (printed_whole (exercise_line load.count load.seed)) result (O.contents out.old) (O.contents out.new) }
+    ensures not_read { (load : Load) → exercise_of (map string_bytes words.now) ≡ Some load
+        → (journal.new ≡ journal.old) × (input.new ≡ input.old) }
+
     // A journal without a bad line is served to the end, where no count rose.
     ensures serves_all { (line : ServeWords) (pieces : List (List ℕ))
         → serve_of (map string_bytes words.now) ≡ Some line
@@ -147,7 +179,7 @@ pub fn run_server<J: Source, S: Source, O: Sink, D: Door>(
         → answer_of (map string_bytes words.now) ≡ Some answer
         → J.left journal.old ≡ Some pieces → kept_of (next_piece pieces) ≡ Ok kept
         → S.left input.old ≡ Some bodies → length (next_piece bodies) ≤ most_body
-        → IsAnswerText kept.versions answer.settings answer.kind (next_piece bodies) text
+        → IsAnswerOf kept.versions answer.settings answer.kind (next_piece bodies) text
         → HasNoFault (J.faults journal.old) (J.faults journal.new)
         → HasNoFault (S.faults input.old) (S.faults input.new)
         → HasNoFault (O.faults out.old) (O.faults out.new)
@@ -158,7 +190,7 @@ pub fn run_server<J: Source, S: Source, O: Sink, D: Door>(
         → answer_of (map string_bytes words.now) ≡ Some answer
         → J.left journal.old ≡ Some pieces → kept_of (next_piece pieces) ≡ Ok kept
         → S.left input.old ≡ Some bodies
-        → IsAnswerText kept.versions answer.settings answer.kind (next_piece bodies) text
+        → IsAnswerOf kept.versions answer.settings answer.kind (next_piece bodies) text
         → result ≡ 0
         → O.contents out.new ≡ appended (O.contents out.old) (answer_line text) }
 {

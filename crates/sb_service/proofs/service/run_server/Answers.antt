@@ -1,7 +1,7 @@
 use Rattle.std.proofs.Common.{ℕ, sym, subst}
 use Rattle.sb_service.specs.Serving.{IsServeRun}
 use Rattle.sb_service.proofs.Runs.{ReadsOrFails, answered, served, none_risen, not_risen, not_8, zero_or_memory}
-use Rattle.sb_service.proofs.Commands.{is_answer, is_other, is_serve}
+use Rattle.sb_service.proofs.Commands.{is_answer, is_exercise, is_generate, is_other, is_serve, made_exercise, made_generate}
 use Rattle.sb_service.proofs.Turns.{nothing_done}
 use Rattle.sb_service.proofs.Journals.{served_to_the_end}
 use Rattle.sb_service.proofs.service.run_server.Goals as goal
@@ -36,13 +36,11 @@ returns-in-Ok-Some-clause-served g c answer pieces bodies kept text words told i
 
 pub returns-in-Ok-Some-clause-memory : goal.returns-in-Ok-Some-clause-memory
 returns-in-Ok-Some-clause-memory g c none eight =
-    let other = is_other _ _ _ c.in-Ok-Some.ensures c.in-Ok-Some.field-0-is none in
-    c.run_command.ensures.memory other.0 other.1 other.2 eight
+    c.run_command.ensures.memory (is_other _ _ _ c.in-Ok-Some.ensures c.in-Ok-Some.field-0-is none) eight
 
 pub returns-in-Ok-Some-clause-door : goal.returns-in-Ok-Some-clause-door
 returns-in-Ok-Some-clause-door g c none =
-    let other = is_other _ _ _ c.in-Ok-Some.ensures c.in-Ok-Some.field-0-is none in
-    c.run_command.ensures.untouched other.0 other.1 other.2
+    c.run_command.ensures.untouched (is_other _ _ _ c.in-Ok-Some.ensures c.in-Ok-Some.field-0-is none)
 
 pub returns-in-Ok-Some-clause-serves : goal.returns-in-Ok-Some-clause-serves
 returns-in-Ok-Some-clause-serves g c line words =
@@ -73,3 +71,19 @@ returns-in-Ok-Some-clause-serves_all g c line pieces words told none journal out
       no_write = λ three. not_risen _ _ out (counts.written three);
       no_door = λ nine. not_risen _ _ door (counts.door_failed nine);
     }))
+
+pub returns-in-Ok-Some-clause-generates : goal.returns-in-Ok-Some-clause-generates
+returns-in-Ok-Some-clause-generates g c line words =
+    c.run_command.ensures.generates line.urls line.load (is_generate _ _ _ line c.in-Ok-Some.ensures c.in-Ok-Some.field-0-is words)
+
+pub returns-in-Ok-Some-clause-none_read : goal.returns-in-Ok-Some-clause-none_read
+returns-in-Ok-Some-clause-none_read g c line words =
+    c.run_command.ensures.nothing_read (made_generate _ line.urls line.load (is_generate _ _ _ line c.in-Ok-Some.ensures c.in-Ok-Some.field-0-is words))
+
+pub returns-in-Ok-Some-clause-exercises : goal.returns-in-Ok-Some-clause-exercises
+returns-in-Ok-Some-clause-exercises g c load words =
+    c.run_command.ensures.exercises load (is_exercise _ _ _ load c.in-Ok-Some.ensures c.in-Ok-Some.field-0-is words)
+
+pub returns-in-Ok-Some-clause-not_read : goal.returns-in-Ok-Some-clause-not_read
+returns-in-Ok-Some-clause-not_read g c load words =
+    c.run_command.ensures.nothing_read (made_exercise _ load (is_exercise _ _ _ load c.in-Ok-Some.ensures c.in-Ok-Some.field-0-is words))
