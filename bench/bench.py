@@ -38,6 +38,7 @@ SET_LOOK_UPS = 1_000_000
 JOURNAL_CHANGES = 65_536
 LONG_CHANGES = 2_048
 LONG_HASHES = 1_024
+GENERATED = 65_536
 SERVED_CHANGES = 1_023
 CACHE_ANSWERS = 1_000_000
 FOUND_HASHES = 1_048_576
@@ -250,6 +251,15 @@ def bench_answers(folder, runs):
     tell("to one who has the newest", f"{took:.2f} s", f"{peak / MIB:.1f} MiB at most")
 
 
+def bench_generated(runs):
+    """A generated load, which is the same at each run."""
+    print(f"sblistd, a generated load of {GENERATED:,} changes")
+    for name, *words in (("its journal", "generate"), ("its URLs", "generate", "--urls"), ("made, loaded and answered", "exercise")):
+        words = [SBLISTD, *words, str(GENERATED), "0"]
+        took = min(run(words)[1] for _ in range(runs))
+        tell(name, f"{took * 1e3:.1f} ms", f"{peak_memory(words, os.devnull) / MIB:.1f} MiB at most")
+
+
 def ask(port, request):
     """One connection: sends a request, and reads to the end of the response."""
     with socket.create_connection(("127.0.0.1", port)) as wire:
@@ -402,6 +412,7 @@ def main():
         bench_replay(f"one update of {MANY_PREFIXES:,} prefixes", large, words.runs)
         bench_replay(f"{MANY_LINES:,} updates of 64 to 256 prefixes", small, words.runs)
         bench_answers(folder, words.runs)
+        bench_generated(words.runs)
         bench_serve(folder)
     bench_sets(words.kernel_runs)
     bench_cache(words.kernel_runs)

@@ -57,6 +57,29 @@ printf 'sblist 1 0000000000000001\nlist %s 4\nchange %s 2 0\n+%s\n+%s\n' \
   "$LIST" "$LIST" "$(hash 31323334)" "$(hash 35363738)" > "$folder/journal"
 request='{"listUpdateRequests":[{"threatType":"MALWARE","platformType":"ANY_PLATFORM","threatEntryType":"URL"}]}'
 
+# ---- a generated load
+
+bin/sblistd generate 300 7 > "$folder/generated" || fail "no journal was generated"
+[ "$(bin/sblistd exercise 65536 0)" = "$(bin/sblistd exercise 65536 0)" ] || fail "an exercise prints another line at a second run"
+told=$(bin/sblistd exercise 300 7)
+kept=$folder/kept
+mv "$folder/journal" "$kept"
+mv "$folder/generated" "$folder/journal"
+serve 1
+expect "a fetch of a generated list" 200 --data "$request" "$url"
+ended
+mv "$kept" "$folder/journal"
+python3 - "$folder/body" "$told" << 'END' || fail "an exercise tells another set than a server of the same journal: $told"
+import base64, json, sys
+with open(sys.argv[1], encoding="ascii") as body:
+    update = json.load(body)["listUpdateResponses"][0]
+raw = base64.b64decode(update["additions"][0]["rawHashes"]["rawHashes"])
+digest = base64.b64decode(update["checksum"]["sha256"]).hex()
+told = sys.argv[2]
+sys.exit(f" {len(raw) // 4} entries," not in told or not told.endswith(f"checksum {digest}"))
+END
+echo "$told"
+
 # ---- one of each answer
 
 serve 9
