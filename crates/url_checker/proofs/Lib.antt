@@ -1,0 +1,3 @@
+pub mod HitFacts
+pub mod FewPrefixes
+pub mod Steps

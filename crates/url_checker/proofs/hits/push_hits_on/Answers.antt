@@ -1,0 +1,7 @@
+use Rattle.url_checker.specs.Hits.{hits_with}
+use Rattle.url_checker.proofs.Steps.{appended_more}
+use Rattle.url_checker.proofs.hits.push_hits_on.Goals as goal
+
+pub loop-hash-preserved : goal.loop-hash-preserved
+loop-hash-preserved c =
+    appended_more (hits_with c.args.held.now) c.args.hashes.now c.loop-hash.hash-index _ c.args.hits.now c.loop-hash.hits c.push_hits.new.hits c.loop-hash-test.true c.loop-hash.invariant c.in_ok-push_hits.ensures
