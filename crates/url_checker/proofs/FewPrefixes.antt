@@ -152,3 +152,25 @@ pub begins_each : (hashes : List FullHash) (lists : List Held) → All BeginsHas
 begins_each hashes [] = All-nil BeginsHash
 begins_each hashes (held ∷ lists) =
     All-append BeginsHash (hits_on hashes held) (flat_map (hits_on hashes) lists) (begins_hashes held hashes) (begins_each hashes lists)
+
+-- ---- some of the hits
+
+some_more : (p : Hit → Bool) (hit : Hit) (hits : List Hit) (q : List ℕ) (b : Bool) → (is_member bytes_eq (prefixes_in (filter p hits)) q ≡ true → is_member bytes_eq (prefixes_in hits) q ≡ true)
+    → is_member bytes_eq (prefixes_in (cond b (hit ∷ filter p hits) (filter p hits))) q ≡ true → (bytes_eq q hit.prefix || is_member bytes_eq (prefixes_in hits) q) ≡ true
+some_more p hit hits q true more h =
+    either (bytes_eq q hit.prefix) (is_member bytes_eq (prefixes_in (filter p hits)) q) (bytes_eq q hit.prefix) (is_member bytes_eq (prefixes_in hits) q) (λ e. e) more h
+some_more p hit hits q false more h = right (bytes_eq q hit.prefix) (is_member bytes_eq (prefixes_in hits) q) (more h)
+
+within_some : (p : Hit → Bool) (hits : List Hit) → Within (prefixes_in (filter p hits)) (prefixes_in hits)
+unfolding Within
+within_some p [] q h = h
+within_some p (hit ∷ hits) q h = some_more p hit hits q (p hit) (within_some p hits q) h
+
+within_set : ((xs : List (List ℕ)) (x : List ℕ) → Contains (set_of xs) x ↔ Contains xs x) → (xs ys : List (List ℕ)) → Within xs ys → Within xs (set_of ys)
+unfolding Within
+within_set members xs ys within q h = list_any-from_Contains nat_list_eq_equiv q (set_of ys) ((members ys q).1 (Contains-from_any same_by_bytes q ys (within q h)))
+
+pub fewer_prefixes : ((xs : List (List ℕ)) → IsRising (set_of xs)) → ((xs : List (List ℕ)) (x : List ℕ) → Contains (set_of xs) x ↔ Contains xs x)
+    → (p : Hit → Bool) (hits : List Hit) → length (prefixes_hit (filter p hits)) ≤ length (prefixes_hit hits)
+fewer_prefixes rising members p hits =
+    no_longer rising members (prefixes_in (filter p hits)) (set_of (prefixes_in hits)) (within_set members (prefixes_in (filter p hits)) (prefixes_in hits) (within_some p hits))

@@ -1,3 +1,8 @@
 pub mod HitFacts
 pub mod FewPrefixes
 pub mod Steps
+pub mod LookFacts
+pub mod FindFacts
+pub mod ResolveFacts
+pub mod TypeFacts
+pub mod RunOfFindings

@@ -1,12 +1,22 @@
 //! The check of a URL against the lists that a client holds: its hits, and the verdict on them.
 //!
-//! `specs/Hits.antt` has the hits of a URL on some lists.
+//! `specs/Hits.antt` has the hits of a URL on some lists, `Checking` a look at the lists for a URL, `Resolving` the resolution of one finding
+//! from any kept answers and any state of waiting, `Resolved` what it does to them and to the objects outside, and `Findings` any number of
+//! findings.
 #![tactic(auto)]
 
 pub use fault::CheckFault;
 pub use findings::{Checked, Finding, Hit};
 pub use hits::local_check_on;
+pub use laws::{findings_go_on, findings_keep_to_waits};
+pub use resolving::resolve;
 
+mod asking;
 mod fault;
 mod findings;
 mod hits;
+mod laws;
+mod looking;
+mod naming;
+mod request;
+mod resolving;

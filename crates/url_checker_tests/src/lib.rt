@@ -5,3 +5,5 @@
 mod hits;
 #[cfg(test)]
 mod lists;
+#[cfg(test)]
+mod resolving;

@@ -1,0 +1,9 @@
+use Rattle.std.proofs.Common.{◌≡◌, take}
+use Rattle.std.specs.Prelude.{◌==◌, filter}
+use Rattle.std.specs.List.{list_any}
+use Rattle.sb_model.specs.Names.{threat_code}
+use Rattle.url_checker.specs.declared.findings.Hit.{Hit}
+use Rattle.url_checker.proofs.request.threats_of.Given as goal
+
+abbrev pub invariant-loop-one : goal.invariant-loop-one
+invariant-loop-one l = l.row ≡ filter (λ one. list_any (λ (hit : Hit). threat_code hit.list.threat == threat_code one) l.hits) (take l.one-index l.one-items)

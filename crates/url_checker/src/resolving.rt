@@ -1,0 +1,222 @@
+ghost use Rattle.std.specs.Prelude.{◌≡◌, ◌≢◌, ◌≤◌, length, Some, None, Err, IfOk, OnOk, OnErr};
+ghost use Rattle.hash_messages.specs.Messages.{most_prefixes};
+ghost use Rattle.full_hash_cache.specs.Cache.{taken};
+ghost use Rattle.http_edge.specs.Exchanges.{IsTarget};
+ghost use Rattle.timed_sessions.specs.Told.{outside};
+ghost use Rattle.timed_sessions.specs.Waiting.{HasSettled};
+ghost use Rattle.url_checker.specs.Hits.{AreAskable, prefixes_hit};
+ghost use Rattle.url_checker.specs.Resolving.{verdict_from, lists_hit, bids_of, kept_by, cause_of, body_asked, makes_find};
+ghost use Rattle.url_checker.specs.Looking.{unsafe_in, verdict_after, MakesFind, StopsAsking};
+ghost use Rattle.url_checker.specs.Resolved.{Resolves, StopsResolving};
+
+use crate::asking::{Answered, ask};
+use crate::looking::{Looked, Looks, look, unsafe_names};
+use crate::naming::lists_of;
+use crate::request::find_for;
+use crate::{Finding, Hit};
+use full_hash_cache::FullHashCache;
+use hash_messages::{FindRequest, FindResponse};
+use http_edge::{ExchangeFault, Target};
+use sb_model::{Bytes, ListName, Moment, OutOfMemory, Row, later};
+use sb_outside::{Clock, Dice, Link};
+use std::alloc::Global;
+use timed_sessions::settle;
+use verdict_report::{Cause, Verdict};
+use wait_rules::WaitState;
+
+// The verdict where these lists are unsafe, and hits are open for this cause.
+fn verdict_with(names: Row<ListName>, cause: Option<Cause>) -> Verdict
+    ensures { result ≡ verdict_from names cause }
+{
+    if !names.is_empty() {
+        return Verdict::Unsafe(names);
+    }
+    match cause {
+        Some(cause) => Verdict::Undecided(cause),
+        None => Verdict::Safe,
+    }
+}
+
+// The verdict by a message, which is then kept for the lists of the hits that were asked. The message decides them whatever its times of
+// keeping.
+fn take_message(
+    alloc: Global,
+    looked: &[Looked],
+    asked: &[Hit],
+    request: &FindRequest,
+    message: &FindResponse,
+    closed: Moment,
+    cache: &mut FullHashCache,
+) -> Result<Verdict, OutOfMemory>
+    ensures verdict { IfOk result (λ verdict.
+        verdict ≡ verdict_from (lists_hit (unsafe_in (Some message.now) looked.now)) None) }
+    ensures pairs { OnOk result (cache.new
+        ≡ taken closed (lists_hit asked.now) request.now message.now cache.old) }
+{
+    let names = unsafe_names(alloc, looked, Some(message))?;
+    let lists = lists_of(alloc, asked)?;
+    cache.take(alloc, closed, lists.as_slice(), request, message)?;
+    Ok(verdict_with(names, None))
+}
+
+// Ends a find after its session.
+fn conclude<D: Dice>(
+    alloc: Global,
+    looks: Looks,
+    request: &FindRequest,
+    answered: Answered,
+    cache: &mut FullHashCache,
+    waits: &mut WaitState,
+    dice: &mut D,
+) -> Result<Verdict, OutOfMemory>
+    ensures verdict { IfOk result (λ verdict.
+        verdict ≡ verdict_after looks.told looks.looked answered.answer) }
+    ensures pairs { OnOk result (cache.new ≡ kept_by answered.closed (lists_hit looks.asked) request.now
+        answered.answer cache.old) }
+    ensures settled { OnOk result (HasSettled waits.old waits.new answered.closed (bids_of answered.answer)
+        (D.given dice.old) (D.given dice.new)) }
+    ensures waits_kept { OnErr result (waits.new ≡ waits.old) }
+    ensures undrawn { OnErr result (D.given dice.new ≡ D.given dice.old) }
+    ensures had_message { OnErr result (answered.answer ≢ Err (Cause.Exchange ExchangeFault.Link)) }
+{
+    let Looks {
+        looked,
+        asked,
+        told,
+    } = looks;
+    let Answered { closed, answer } = answered;
+    match answer {
+        Ok(message) => {
+            let verdict = take_message(
+                alloc,
+                looked.as_slice(),
+                asked.as_slice(),
+                request,
+                &message,
+                closed,
+                cache,
+            )?;
+            settle(waits, closed, Some(message.wait), dice);
+            Ok(verdict)
+        }
+        Err(cause) => {
+            settle(waits, closed, None, dice);
+            Ok(verdict_with(told, Some(cause)))
+        }
+    }
+}
+
+// Makes a find for the hits of which the server has to be asked, and ends it.
+fn find<L: Link, C: Clock, D: Dice>(
+    alloc: Global,
+    now: Moment,
+    looks: Looks,
+    states: &Row<Bytes>,
+    cache: &mut FullHashCache,
+    waits: &mut WaitState,
+    target: &Target,
+    need_digest: bool,
+    link: &mut L,
+    clock: &mut C,
+    dice: &mut D,
+) -> Result<Verdict, OutOfMemory>
+    requires read { C.last clock.old ≡ now.0 }
+    requires target { IsTarget target.now }
+    requires few { length (prefixes_hit looks.asked) ≤ most_prefixes }
+    ensures made { IfOk result (MakesFind states.now target.now need_digest now looks.asked looks.told looks.looked
+        cache.old cache.new waits.old waits.new (L.log link.old) (L.log link.new)
+        (C.answers clock.old) (C.answers clock.new) (C.waits clock.old) (C.waits clock.new)
+        (D.given dice.old) (D.given dice.new) (L.faults link.old) (L.faults link.new)) }
+    ensures stopped { OnErr result (StopsAsking waits.old now target.now (body_asked states.now looks.asked)
+        (L.log link.old) (L.log link.new) (C.answers clock.old) (C.answers clock.new) (C.waits clock.old) (C.waits clock.new)) }
+    ensures waits_kept { OnErr result (waits.new ≡ waits.old) }
+    ensures undrawn { OnErr result (D.given dice.new ≡ D.given dice.old) }
+    ensures unmoved { OnErr result (L.faults link.new ≡ L.faults link.old) }
+    ensures counted { L.faults link.old ≤ L.faults link.new }
+{
+    let request = find_for(alloc, states, looks.asked.as_slice())?;
+    let answered = ask(
+        alloc,
+        *waits,
+        now,
+        target,
+        &request,
+        need_digest,
+        link,
+        clock,
+    )?;
+    conclude(alloc, looks, &request, answered, cache, waits, dice)
+}
+
+// Whether a find is made for these hits.
+fn is_made(waits: WaitState, patience: u64, now: Moment, asked: &[Hit]) -> bool
+    ensures { result ≡ makes_find waits patience now asked.now }
+{
+    !asked.is_empty() && waits.allowed_at.0 <= later(now, patience).0
+}
+
+// The verdict where no find is made. Hits of which the server has to be asked are open until the moment at which one is allowed.
+fn unasked(looks: Looks, allowed_at: Moment) -> Verdict
+    ensures { result ≡ verdict_from looks.told (cause_of (Err (Cause.NotBefore allowed_at)) looks.asked) }
+{
+    if looks.asked.is_empty() {
+        return verdict_with(looks.told, None);
+    }
+    verdict_with(looks.told, Some(Cause::NotBefore(allowed_at)))
+}
+
+/// Resolves the hits of a finding: by the kept answers where they suffice, and else by one find for the others, where the moment at
+/// which a find is allowed is at most `patience` milliseconds away.
+///
+/// The clock is read once, before anything. An answer got here decides the hits that it was asked for, whatever its times of keeping, and is
+/// then kept. After an `Err` the state of waiting is as before; the kept answers may have moved on.
+pub fn resolve<L: Link, C: Clock, D: Dice>(
+    alloc: Global,
+    finding: &Finding,
+    states: &Row<Bytes>,
+    cache: &mut FullHashCache,
+    waits: &mut WaitState,
+    patience: u64,
+    target: &Target,
+    need_digest: bool,
+    link: &mut L,
+    clock: &mut C,
+    dice: &mut D,
+) -> Result<Verdict, OutOfMemory>
+    requires askable { AreAskable finding.now.hits }
+    requires target { IsTarget target.now }
+
+    // The hits were resolved, and this is what it left and came to.
+    ensures resolves { IfOk result (Resolves states.now patience target.now need_digest finding.now.hits
+        cache.old cache.new waits.old waits.new
+        (outside (L.log link.old) (C.answers clock.old) (C.waits clock.old) (D.given dice.old))
+        (outside (L.log link.new) (C.answers clock.new) (C.waits clock.new) (D.given dice.new))
+        (L.faults link.old) (L.faults link.new)) }
+
+    // Want of memory breaks it off.
+    ensures stopped { OnErr result (StopsResolving states.now target.now finding.now.hits cache.old waits.old
+        (outside (L.log link.old) (C.answers clock.old) (C.waits clock.old) (D.given dice.old))
+        (outside (L.log link.new) (C.answers clock.new) (C.waits clock.new) (D.given dice.new))) }
+    ensures waits_kept { OnErr result (waits.new ≡ waits.old) }
+    ensures unmoved { OnErr result (L.faults link.new ≡ L.faults link.old) }
+    ensures counted { L.faults link.old ≤ L.faults link.new }
+{
+    let now = clock.now();
+    let looks = look(alloc, now, finding.hits.as_slice(), cache)?;
+    if is_made(*waits, patience, now, looks.asked.as_slice()) {
+        return find(
+            alloc,
+            now,
+            looks,
+            states,
+            cache,
+            waits,
+            target,
+            need_digest,
+            link,
+            clock,
+            dice,
+        );
+    }
+    Ok(unasked(looks, waits.allowed_at))
+}
