@@ -1,0 +1,12 @@
+pub mod Members
+pub mod Sizes
+pub mod Origins
+pub mod Lookups
+pub mod Answers
+pub mod NameOrder
+pub mod Resolved
+pub mod Verdicts
+pub mod Steps
+pub mod Finds
+pub mod ExampleHits
+pub mod ExamplePremises

@@ -1,0 +1,5 @@
+pub mod Full
+pub mod Rulings
+pub mod Faithful
+pub mod Resolved
+pub mod Example
