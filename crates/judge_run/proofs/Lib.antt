@@ -1,0 +1,4 @@
+pub mod Cases
+pub mod Sessions
+pub mod Endings
+pub mod Reports

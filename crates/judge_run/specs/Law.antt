@@ -1,0 +1,30 @@
+-- The sessions of URLs that were judged: finds alone, at most one for each, none of them before its allowed moment.
+use Rattle.std.specs.Prelude.{◌≡◌, ℕ, ◌≤◌, List, [], length, map, Ok, Err}
+use Rattle.std.specs.List.{flat_map}
+use Rattle.sb_outside.specs.declared.links.Session.{Session}
+use Rattle.update_client.specs.Held.{Held}
+use Rattle.timed_sessions.specs.Waiting.{ClosedSession, KeepToWaits}
+use Rattle.url_checker.specs.Resolving.{closed_in}
+use Rattle.judge_run.specs.Judging.{Case, FindState, AreCases, trace_of_cases}
+use Rattle.judge_run.specs.declared.plan.JudgePlan.{JudgePlan}
+
+-- the session of a URL, if one was held for it
+abbrev pub sessions_of : Case → List ClosedSession
+sessions_of (Ok answered) = closed_in answered.resolution.talk
+sessions_of (Err fault) = []
+
+abbrev pub sessions_of_all : List Case → List ClosedSession
+sessions_of_all cases = flat_map sessions_of cases
+
+abbrev pub entry_of : ClosedSession → Session
+entry_of closed = closed.session.entry
+
+-- What the log of the link has more are these sessions, and each keeps to its wait.
+pub record KeepToTheirWaits (finds : FindState) (lists : List Held) (cases : List Case) : Type 0 where
+  pub keep : KeepToWaits finds.waits (sessions_of_all cases)
+  pub are : (trace_of_cases lists finds cases).sessions ≡ map entry_of (sessions_of_all cases)
+  pub few : length (sessions_of_all cases) ≤ length cases
+
+abbrev pub CasesKeepToWaits : Type 0
+CasesKeepToWaits = (plan : JudgePlan) (lists : List Held) (finds : FindState) (lines : List (List ℕ)) (cases : List Case)
+    → AreCases plan lists finds lines cases → KeepToTheirWaits finds lists cases

@@ -1,0 +1,6 @@
+pub mod Judging
+pub mod Opening
+pub mod Printed
+pub mod Run
+pub mod Law
+pub mod Stops

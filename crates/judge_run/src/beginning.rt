@@ -1,0 +1,80 @@
+ghost use Rattle.std.specs.Prelude.{◌≡◌, ◌≢◌, ◌≤◌, length, None, IfOk, IfErr, OnErr, IsErrOf, Err};
+ghost use Rattle.sb_outside.specs.Outside.{Rose};
+ghost use Rattle.timed_sessions.specs.Told.{outside};
+ghost use Rattle.update_client.specs.Held.{most_lists};
+ghost use Rattle.judge_run.specs.Opening.{OpensFinds, Begins, StopsBeginning};
+
+use crate::JudgeStop;
+use crate::loading::load_lists;
+use input_lines::read_input;
+use sb_model::{Bytes, ListName};
+use sb_outside::{Clock, Dice, Keeper, Source};
+use std::alloc::Global;
+use update_client::ClientLists;
+use wait_rules::WaitState;
+
+/// A run before its first URL.
+#[derive(Drop)]
+pub(crate) struct Begun {
+    /// Its input.
+    pub(crate) text: Bytes,
+    pub(crate) lists: ClientLists,
+    /// When the first find may be sent.
+    pub(crate) waits: WaitState,
+    /// The text that waits to be written.
+    pub(crate) page: Bytes,
+}
+
+// Reads the clock, and draws the word of the updates' first wait and then that of the finds'.
+fn open_finds<C: Clock, D: Dice>(clock: &mut C, dice: &mut D) -> WaitState
+    ensures opened { OpensFinds result
+        (outside None (C.answers clock.old) (C.waits clock.old) (D.given dice.old))
+        (outside None (C.answers clock.new) (C.waits clock.new) (D.given dice.new)) }
+    ensures no_wait { C.waits clock.new ≡ C.waits clock.old }
+{
+    let start = clock.now();
+    let _ = dice.word();
+    WaitState::first(start, dice.word())
+}
+
+/// Begins a run: reads its input whole, loads what the keeper keeps, and then reads the clock once and draws two words. After an `Err` the
+/// clock was not read and no word was drawn.
+pub(crate) fn begin<S: Source, K: Keeper, C: Clock, D: Dice>(
+    alloc: Global,
+    names: &[ListName],
+    input: &mut S,
+    keep: &mut K,
+    clock: &mut C,
+    dice: &mut D,
+) -> Result<Begun, JudgeStop>
+    requires { length names.now ≤ most_lists }
+
+    // No link is asked, so that none tells of it.
+    ensures begun { IfOk result (λ begun. Begins names.now begun (S.left input.old) (S.left input.new) (K.kept keep.old)
+        (outside None (C.answers clock.old) (C.waits clock.old) (D.given dice.old))
+        (outside None (C.answers clock.new) (C.waits clock.new) (D.given dice.new))) }
+    ensures stopped { IfErr result (λ stop. StopsBeginning stop (S.left input.old) (S.left input.new)) }
+    ensures unread { OnErr result (C.answers clock.new ≡ C.answers clock.old) }
+    ensures no_wait { C.waits clock.new ≡ C.waits clock.old }
+    ensures undrawn { OnErr result (D.given dice.new ≡ D.given dice.old) }
+    ensures kept { K.kept keep.new ≡ K.kept keep.old }
+    ensures handed { K.handed keep.new ≡ K.handed keep.old }
+    ensures input_failed { IsErrOf result JudgeStop.ReadFault → Rose (S.faults input.old) (S.faults input.new) }
+    ensures input_kept { result ≢ Err JudgeStop.ReadFault → S.faults input.new ≡ S.faults input.old }
+    ensures keeper_failed { IsErrOf result JudgeStop.KeepFault → Rose (K.faults keep.old) (K.faults keep.new) }
+    ensures keeper_kept { result ≢ Err JudgeStop.KeepFault → K.faults keep.new ≡ K.faults keep.old }
+{
+    let text = read_input(alloc, input)?;
+    let mut page = Bytes::new(alloc);
+    let lists = match load_lists(alloc, names, keep, &mut page) {
+        Ok(lists) => lists,
+        Err(stop) => return Err(stop),
+    };
+    let waits = open_finds(clock, dice);
+    Ok(Begun {
+        text,
+        lists,
+        waits,
+        page,
+    })
+}

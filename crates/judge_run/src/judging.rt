@@ -1,0 +1,173 @@
+ghost use Rattle.std.specs.Prelude.{◌≡◌, ◌≤◌, ℕ, List, ◌∷◌, IfOk, OnErr};
+ghost use Rattle.http_edge.specs.Exchanges.{IsTarget};
+ghost use Rattle.timed_sessions.specs.Told.{outside};
+ghost use Rattle.input_lines.specs.Lines.{lines_of};
+ghost use Rattle.update_client.specs.Held.{Held, tokens_of};
+ghost use Rattle.url_checker.specs.Checking.{IsFindingOf};
+ghost use Rattle.url_checker.specs.Hits.{AreAskable};
+ghost use Rattle.url_checker.specs.Resolved.{StopsResolving};
+ghost use Rattle.judge_run.specs.Judging.{find_state, first_finds, JudgesLine, JudgesLines, HasJudged, BreaksOff, StopsJudging};
+
+use crate::JudgePlan;
+use full_hash_cache::FullHashCache;
+use input_lines::first_line;
+use sb_model::{Bytes, OutOfMemory, Row};
+use sb_outside::{Clock, Dice, Link};
+use std::alloc::Global;
+use timed_sessions::traces_go_on;
+use update_client::ClientLists;
+use url_checker::{CheckFault, Finding, local_check_on, resolve};
+use verdict_report::Judged;
+use wait_rules::WaitState;
+
+// Resolves what was found of a line.
+fn judge_finding<L: Link, C: Clock, D: Dice>(
+    alloc: Global,
+    plan: &JudgePlan,
+    finding: Finding,
+    states: &Row<Bytes>,
+    cache: &mut FullHashCache,
+    waits: &mut WaitState,
+    link: &mut L,
+    clock: &mut C,
+    dice: &mut D,
+) -> Result<Judged, OutOfMemory>
+    requires askable { AreAskable finding.hits }
+    requires target { IsTarget plan.now.target }
+    ensures judged { (lists : List Held) (line : List ℕ) → states.now ≡ tokens_of lists → IsFindingOf lists 0 line finding
+        → IfOk result (λ one. JudgesLine plan.now lists (find_state cache.old waits.old) (find_state cache.new waits.new)
+        (outside (L.log link.old) (C.answers clock.old) (C.waits clock.old) (D.given dice.old))
+        (outside (L.log link.new) (C.answers clock.new) (C.waits clock.new) (D.given dice.new))
+        (L.faults link.old) (L.faults link.new) line one) }
+    ensures stopped { OnErr result (StopsResolving states.now plan.now.target finding.hits cache.old waits.old
+        (outside (L.log link.old) (C.answers clock.old) (C.waits clock.old) (D.given dice.old))
+        (outside (L.log link.new) (C.answers clock.new) (C.waits clock.new) (D.given dice.new))) }
+    ensures unmoved { OnErr result (L.faults link.new ≡ L.faults link.old) }
+    ensures counted { L.faults link.old ≤ L.faults link.new }
+{
+    let verdict = resolve(
+        alloc,
+        &finding,
+        states,
+        cache,
+        waits,
+        plan.patience,
+        &plan.target,
+        plan.need_digest,
+        link,
+        clock,
+        dice,
+    )?;
+    let Finding {
+        number,
+        text,
+        hits: _,
+    } = finding;
+    Ok(Judged::Verdict {
+        number,
+        text,
+        verdict,
+    })
+}
+
+// Judges the URL of a line.
+fn judge_line<L: Link, C: Clock, D: Dice>(
+    alloc: Global,
+    plan: &JudgePlan,
+    lists: &ClientLists,
+    states: &Row<Bytes>,
+    line: &[u8],
+    cache: &mut FullHashCache,
+    waits: &mut WaitState,
+    link: &mut L,
+    clock: &mut C,
+    dice: &mut D,
+) -> Result<Judged, OutOfMemory>
+    requires states { states.now ≡ tokens_of lists.now }
+    requires target { IsTarget plan.now.target }
+    ensures judged { IfOk result (λ one. JudgesLine plan.now lists.now (find_state cache.old waits.old) (find_state cache.new waits.new)
+        (outside (L.log link.old) (C.answers clock.old) (C.waits clock.old) (D.given dice.old))
+        (outside (L.log link.new) (C.answers clock.new) (C.waits clock.new) (D.given dice.new))
+        (L.faults link.old) (L.faults link.new) line.now one) }
+    ensures stopped { (more : List (List ℕ)) → OnErr result (BreaksOff plan.now lists.now (find_state cache.old waits.old)
+        (outside (L.log link.old) (C.answers clock.old) (C.waits clock.old) (D.given dice.old))
+        (outside (L.log link.new) (C.answers clock.new) (C.waits clock.new) (D.given dice.new)) (line.now ∷ more)) }
+    ensures unmoved { OnErr result (L.faults link.new ≡ L.faults link.old) }
+    ensures counted { L.faults link.old ≤ L.faults link.new }
+{
+    match local_check_on(alloc, lists, 0, line) {
+        Ok(finding) => judge_finding(
+            alloc, plan, finding, states, cache, waits, link, clock, dice,
+        ),
+        Err(CheckFault::Url(fault)) => Ok(Judged::Refused(fault)),
+        Err(CheckFault::OutOfMemory) => Err(OutOfMemory),
+    }
+}
+
+// Judges the lines of an input in order.
+fn judge_lines<L: Link, C: Clock, D: Dice>(
+    alloc: Global,
+    plan: &JudgePlan,
+    lists: &ClientLists,
+    states: &Row<Bytes>,
+    input: &[u8],
+    cache: &mut FullHashCache,
+    waits: &mut WaitState,
+    link: &mut L,
+    clock: &mut C,
+    dice: &mut D,
+) -> Result<Row<Judged>, OutOfMemory>
+    requires states { states.now ≡ tokens_of lists.now }
+    requires target { IsTarget plan.now.target }
+    ensures judged { IfOk result (λ all. JudgesLines plan.now lists.now (find_state cache.old waits.old) (find_state cache.new waits.new)
+        (outside (L.log link.old) (C.answers clock.old) (C.waits clock.old) (D.given dice.old))
+        (outside (L.log link.new) (C.answers clock.new) (C.waits clock.new) (D.given dice.new))
+        (L.faults link.old) (L.faults link.new) (lines_of input.now) all) }
+    ensures stopped { OnErr result (StopsJudging plan.now lists.now (find_state cache.old waits.old)
+        (outside (L.log link.old) (C.answers clock.old) (C.waits clock.old) (D.given dice.old))
+        (outside (L.log link.new) (C.answers clock.new) (C.waits clock.new) (D.given dice.new))
+        (L.faults link.old) (L.faults link.new) (lines_of input.now)) }
+{
+    traces_go_on();
+    let mut all = Row::new(alloc);
+    let mut rest = input;
+    while !rest.is_empty() {
+        let (line, tail) = first_line(rest);
+        match judge_line(
+            alloc, plan, lists, states, line, cache, waits, link, clock, dice,
+        ) {
+            Ok(one) => all.push(one)?,
+            Err(OutOfMemory) => return Err(OutOfMemory),
+        }
+        rest = tail;
+    }
+    Ok(all)
+}
+
+/// Judges the lines of an input in order, from no kept answer.
+pub(crate) fn judge_all<L: Link, C: Clock, D: Dice>(
+    alloc: Global,
+    plan: &JudgePlan,
+    lists: &ClientLists,
+    input: &[u8],
+    waits: &mut WaitState,
+    link: &mut L,
+    clock: &mut C,
+    dice: &mut D,
+) -> Result<Row<Judged>, OutOfMemory>
+    requires { IsTarget plan.now.target }
+    ensures judged { IfOk result (λ all. HasJudged plan.now lists.now waits.old
+        (outside (L.log link.old) (C.answers clock.old) (C.waits clock.old) (D.given dice.old))
+        (outside (L.log link.new) (C.answers clock.new) (C.waits clock.new) (D.given dice.new))
+        (L.faults link.old) (L.faults link.new) (lines_of input.now) all) }
+    ensures stopped { OnErr result (StopsJudging plan.now lists.now (first_finds waits.old)
+        (outside (L.log link.old) (C.answers clock.old) (C.waits clock.old) (D.given dice.old))
+        (outside (L.log link.new) (C.answers clock.new) (C.waits clock.new) (D.given dice.new))
+        (L.faults link.old) (L.faults link.new) (lines_of input.now)) }
+{
+    let states = lists.states(alloc)?;
+    let mut cache = FullHashCache::new(alloc)?;
+    judge_lines(
+        alloc, plan, lists, &states, input, &mut cache, waits, link, clock, dice,
+    )
+}

@@ -1,0 +1,111 @@
+ghost use Rattle.std.specs.Prelude.{◌≡◌, ◌≢◌, ◌≤◌, length, IsErrOf, Err};
+ghost use Rattle.http_edge.specs.Exchanges.{IsTarget};
+ghost use Rattle.input_lines.specs.Lines.{lines_of};
+ghost use Rattle.sb_outside.specs.Outside.{Rose};
+ghost use Rattle.timed_sessions.specs.Told.{outside};
+ghost use Rattle.update_client.specs.Held.{most_lists};
+ghost use Rattle.update_run.specs.Saved.{keeping};
+ghost use Rattle.judge_run.specs.Run.{seen, EndsFrom, EndsJudging};
+
+use crate::beginning::{Begun, begin};
+use crate::judgement::judgement_of;
+use crate::judging::judge_all;
+use crate::reporting::print_report;
+use crate::{JudgePlan, JudgeStop, Judgement};
+use sb_model::{Bytes, OutOfMemory};
+use sb_outside::{Clock, Dice, Keeper, Link, Sink, Source, flush};
+use std::alloc::Global;
+use update_client::ClientLists;
+use wait_rules::WaitState;
+
+// Writes what waits, judges the lines of an input, and prints the report.
+fn judge_input<O: Sink, L: Link, C: Clock, D: Dice>(
+    alloc: Global,
+    plan: &JudgePlan,
+    lists: &ClientLists,
+    input: &[u8],
+    waits: &mut WaitState,
+    page: &mut Bytes,
+    out: &mut O,
+    link: &mut L,
+    clock: &mut C,
+    dice: &mut D,
+) -> Result<Judgement, JudgeStop>
+    requires { IsTarget plan.now.target }
+    ensures ends { EndsFrom plan.now result lists.now waits.old page.old (lines_of input.now)
+        (outside (L.log link.old) (C.answers clock.old) (C.waits clock.old) (D.given dice.old))
+        (outside (L.log link.new) (C.answers clock.new) (C.waits clock.new) (D.given dice.new))
+        (L.faults link.old) (L.faults link.new) (O.contents out.old) (O.contents out.new) }
+    ensures output_failed { IsErrOf result JudgeStop.WriteFault → Rose (O.faults out.old) (O.faults out.new) }
+    ensures output_kept { result ≢ Err JudgeStop.WriteFault → O.faults out.new ≡ O.faults out.old }
+{
+    flush(out, page)?;
+    match judge_all(alloc, plan, lists, input, waits, link, clock, dice) {
+        Ok(all) => match print_report(all.as_slice(), out, page) {
+            Ok(()) => Ok(judgement_of(all.as_slice())),
+            Err(stop) => Err(stop),
+        },
+        Err(OutOfMemory) => Err(JudgeStop::OutOfMemory),
+    }
+}
+
+/// Judges the URLs of an input, one a line: reads it whole, loads the lists that the keeper keeps, looks each URL up in order, asks
+/// the server where a hit has to be asked for, and then prints a line for each URL and a summary. Answers what the URLs come to together.
+///
+/// A text that is kept and is no store is told before anything is waited for, and the URLs are looked up on empty lists. The keeper is
+/// handed nothing. A find that the link or the server fails leaves its URL undecided, and the run goes on.
+///
+/// # Errors
+///
+/// `ReadFault` and `PastLimits` where the input is not read to its end, and `KeepFault` where the keeper fails: then nothing is written, and
+/// neither the clock nor the dice are asked. `WriteFault` where the output fails, and `OutOfMemory`.
+pub fn judge<S: Source, O: Sink, K: Keeper, L: Link, C: Clock, D: Dice>(
+    alloc: Global,
+    plan: &JudgePlan,
+    input: &mut S,
+    out: &mut O,
+    keep: &mut K,
+    link: &mut L,
+    clock: &mut C,
+    dice: &mut D,
+) -> Result<Judgement, JudgeStop>
+    requires few { length plan.now.names ≤ most_lists }
+    requires target { IsTarget plan.now.target }
+
+    // It came to its end, or stopped for its reason.
+    ensures ends { EndsJudging plan.now result
+        (seen (S.left input.old) (outside (L.log link.old) (C.answers clock.old) (C.waits clock.old) (D.given dice.old))
+        (L.faults link.old) (keeping (K.handed keep.old) (K.kept keep.old)) (O.contents out.old))
+        (seen (S.left input.new) (outside (L.log link.new) (C.answers clock.new) (C.waits clock.new) (D.given dice.new))
+        (L.faults link.new) (keeping (K.handed keep.new) (K.kept keep.new)) (O.contents out.new)) }
+
+    // A fault is counted, and nothing else is.
+    ensures input_failed { IsErrOf result JudgeStop.ReadFault → Rose (S.faults input.old) (S.faults input.new) }
+    ensures input_kept { result ≢ Err JudgeStop.ReadFault → S.faults input.new ≡ S.faults input.old }
+    ensures output_failed { IsErrOf result JudgeStop.WriteFault → Rose (O.faults out.old) (O.faults out.new) }
+    ensures output_kept { result ≢ Err JudgeStop.WriteFault → O.faults out.new ≡ O.faults out.old }
+    ensures keeper_failed { IsErrOf result JudgeStop.KeepFault → Rose (K.faults keep.old) (K.faults keep.new) }
+    ensures keeper_kept { result ≢ Err JudgeStop.KeepFault → K.faults keep.new ≡ K.faults keep.old }
+{
+    let Begun {
+        text,
+        lists,
+        mut waits,
+        mut page,
+    } = match begin(alloc, plan.names.as_slice(), input, keep, clock, dice) {
+        Ok(begun) => begun,
+        Err(stop) => return Err(stop),
+    };
+    judge_input(
+        alloc,
+        plan,
+        &lists,
+        text.as_slice(),
+        &mut waits,
+        &mut page,
+        out,
+        link,
+        clock,
+        dice,
+    )
+}
