@@ -30,7 +30,7 @@ struct Checker {
 }
 
 // A checker that may make a find at this moment, over a link with one session. The clock stands still.
-fn checker(alloc: Global, allowed_at: Moment) -> Result<Checker, OutOfMemory> {
+fn checker_at(alloc: Global, allowed_at: Moment) -> Result<Checker, OutOfMemory> {
     let text = Bytes::from_slice(alloc, RESPONSE)?;
     let mut coming = Row::new(alloc);
     coming.push(Play::new(alloc, text, 1_000, Row::new(alloc))?)?;
@@ -95,7 +95,7 @@ fn is_phishing(verdict: &Verdict) -> bool {
 #[test]
 fn a_find_decides_each_hit(rt: HostRuntime) -> Result<(), Fail> {
     let finding = found(rt.alloc())?;
-    let mut own = checker(rt.alloc(), Moment(1_000_400))?;
+    let mut own = checker_at(rt.alloc(), Moment(1_000_400))?;
     let verdict = resolved(rt.alloc(), &mut own, &finding)?;
     assert!(rt; is_phishing(&verdict) && own.waits.allowed_at == Moment(1_001_400));
     assert!(rt; own.clock.waits().expect(&rt, "moments") == [Moment(1_000_400)].as_slice());
@@ -105,7 +105,7 @@ fn a_find_decides_each_hit(rt: HostRuntime) -> Result<(), Fail> {
 #[test]
 fn a_kept_answer_needs_no_session(rt: HostRuntime) -> Result<(), Fail> {
     let finding = found(rt.alloc())?;
-    let mut own = checker(rt.alloc(), NOW)?;
+    let mut own = checker_at(rt.alloc(), NOW)?;
     resolved(rt.alloc(), &mut own, &finding)?;
     let verdict = resolved(rt.alloc(), &mut own, &finding)?;
     assert!(rt; is_phishing(&verdict) && own.dice.given().is_some_and(|words| words.is_empty()));
@@ -116,7 +116,7 @@ fn a_kept_answer_needs_no_session(rt: HostRuntime) -> Result<(), Fail> {
 #[test]
 fn a_find_that_is_far_away_is_not_made(rt: HostRuntime) -> Result<(), Fail> {
     let finding = found(rt.alloc())?;
-    let mut own = checker(rt.alloc(), Moment(1_000_501))?;
+    let mut own = checker_at(rt.alloc(), Moment(1_000_501))?;
     match resolved(rt.alloc(), &mut own, &finding)? {
         Verdict::Undecided(Cause::NotBefore(at)) => assert!(rt; at == Moment(1_000_501)),
         _ => assert!(rt; false),
