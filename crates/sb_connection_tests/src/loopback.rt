@@ -1,12 +1,14 @@
 //! Runs of `sblistd serve` at a port of this machine, with the server on a thread of its own.
+use gathering::DoorLimits;
+use gathering_door::GatheringDoor;
 use sb_model::{Bytes, Moment, OutOfMemory, Row};
-use sb_outside::{Failed, Kind, Link, MemorySink, MemorySource, TcpDoor, TcpLimits, TcpLink};
+use sb_outside::{Failed, Kind, Link, MemorySink, MemorySource, TcpLimits, TcpLink};
 use sb_service::run_server;
 use std::alloc::{AllocError, Global};
 use std::process::Abort;
 use std::thread::{self, Threads};
 
-type LocalDoor<'a> = TcpDoor<&'a HostRuntime>;
+type LocalDoor<'a> = GatheringDoor<&'a HostRuntime>;
 
 type LocalLink<'a> = TcpLink<&'a HostRuntime>;
 
@@ -41,8 +43,8 @@ fn journal(alloc: Global, text: &str) -> Result<MemorySource, OutOfMemory> {
     Ok(MemorySource::new(pieces, Row::new(alloc)))
 }
 
-/// What a server at a door answers and prints.
-fn serve(alloc: Global, door: &mut LocalDoor<'_>) -> Option<(u8, MemorySink)> {
+/// What a server at a door answers and prints. What is left of its answers is sent.
+fn serve(alloc: Global, mut door: LocalDoor<'_>) -> Option<(u8, MemorySink)> {
     let words = words(alloc, ONE).ok()?;
     let mut journal = journal(alloc, "sblist 1 0000000000000001\n").ok()?;
     let mut input = MemorySource::new(Row::new(alloc), Row::new(alloc));
@@ -53,8 +55,9 @@ fn serve(alloc: Global, door: &mut LocalDoor<'_>) -> Option<(u8, MemorySink)> {
         &mut journal,
         &mut input,
         &mut out,
-        door,
+        &mut door,
     );
+    door.finish();
     Some((status, out))
 }
 
@@ -89,7 +92,7 @@ fn ask(alloc: Global, link: &mut LocalLink<'_>, text: &str, step: usize) -> Opti
 
 /// A door at some port, and a link to it.
 fn ends(rt: &HostRuntime) -> Option<(LocalDoor<'_>, LocalLink<'_>)> {
-    let door = TcpDoor::bind(rt, "127.0.0.1:0", TcpLimits::STANDARD);
+    let door = GatheringDoor::bind(rt, rt.alloc(), "127.0.0.1:0", DoorLimits::STANDARD);
     let address = door.local_addr()?;
     let address = format!(in rt.alloc(); "{address}").ok()?;
     let link = TcpLink::new(rt, rt.alloc(), address.as_str(), TcpLimits::STANDARD).ok()?;
@@ -100,13 +103,13 @@ fn ends(rt: &HostRuntime) -> Option<(LocalDoor<'_>, LocalLink<'_>)> {
 fn is_answered<H: Abort + Threads + Sync>(
     handle: &H,
     alloc: Global,
-    mut door: LocalDoor<'_>,
+    door: LocalDoor<'_>,
     mut link: LocalLink<'_>,
     step: usize,
 ) {
     let (served, heard) = thread::join(
         handle,
-        || serve(alloc, &mut door),
+        || serve(alloc, door),
         || ask(alloc, &mut link, EMPTY, step),
     );
     let (status, out) = served.expect(handle, "no run");

@@ -6,4 +6,3 @@ pub mod Torn
 pub mod WirePieces
 pub mod PlayedSteps
 pub mod Tails
-pub mod Untold

@@ -4,31 +4,20 @@ ghost use Rattle.std.specs.Duration.{as_nanos};
 use std::time;
 use std::time::{Duration, Instant};
 
-/// How long and how much a connection may take. Times are in milliseconds. A peer that is silent past a
-/// limit is a fault.
+/// How long a connection may take. Times are in milliseconds. A peer that is silent past a limit is a fault.
 #[derive(Clone, Copy, Debug, PartialEq, Eq, Hash)]
 pub struct TcpLimits {
     /// The longest time of one call: of connecting, of a read, and of a write.
     pub call: u64,
     /// The longest time of a whole connection.
     pub connection: u64,
-    /// At a door, the longest time in which the other side may send: later reads fail.
-    pub request: u64,
-    /// At a door, how long and how many bytes are read past what was asked for when a connection is given
-    /// back, so that its peer still gets what was written.
-    pub drain: u64,
-    pub drained_bytes: usize,
 }
 
 impl TcpLimits {
-    /// 30 seconds for a call, 60 for a request, 600 for a connection; 5 seconds and 1,048,576 bytes past
-    /// its end.
+    /// 30 seconds for a call, 600 for a connection.
     pub const STANDARD: TcpLimits = TcpLimits {
         call: 30_000,
         connection: 600_000,
-        request: 60_000,
-        drain: 5_000,
-        drained_bytes: 1_048_576,
     };
 }
 

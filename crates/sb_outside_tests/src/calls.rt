@@ -1,7 +1,7 @@
 //! The calls of each trait, of whose answers a test knows only what it asserts. So a test is proved quickly.
 use sb_model::{Bytes, Moment};
 use sb_outside::{
-    Arrival, Clock, Dice, Door, Failed, KeepFault, Keeper, Kind, Link, Sink, Source, Why, write_all,
+    Clock, Dice, Failed, KeepFault, Keeper, Kind, Link, Sink, Source, Why, write_all,
 };
 use std::alloc::Global;
 
@@ -31,14 +31,6 @@ pub(crate) fn recv<L: Link>(link: &mut L, buffer: &mut [u8]) -> Result<usize, Fa
 
 pub(crate) fn close<L: Link>(link: &mut L, at: u64) {
     link.close(Moment(at));
-}
-
-pub(crate) fn next<D: Door>(door: &mut D) -> Result<Option<D::Wire>, Failed> {
-    door.next()
-}
-
-pub(crate) fn done<D: Door>(door: &mut D, wire: D::Wire) {
-    door.done(wire);
 }
 
 pub(crate) fn load<K: Keeper>(keeper: &mut K, alloc: Global) -> Result<Option<Bytes>, KeepFault> {
@@ -78,8 +70,4 @@ pub(crate) fn says(rt: &HostRuntime, why: Option<Why>, text: &str) -> bool {
         Ok(said) => said.as_str() == text,
         Err(_) => false,
     }
-}
-
-pub(crate) fn next_before<D: Door>(door: &mut D, moment: u64) -> Result<Arrival<D::Wire>, Failed> {
-    door.next_before(Moment(moment))
 }

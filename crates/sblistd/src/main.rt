@@ -1,10 +1,13 @@
 //! Answers list clients from a journal: one request from its input, or connections at an address.
 #![tactic(auto)]
 
+use gathering::DoorLimits;
+use gathering_door::GatheringDoor;
 use sb_model::{OutOfMemory, Text};
-use sb_outside::{JournalFile, StdSink, StdSource, TcpDoor, TcpLimits, Why, hold_descriptors};
-use sb_service::{run_server, server_targets};
+use sb_outside::{JournalFile, StdSink, StdSource, hold_descriptors};
+use sb_service::{ServerTargets, run_server, server_targets};
 use std::alloc::Global;
+use std::fmt::Display;
 use std::io::ErrorKind;
 use std::process::ExitCode;
 use std::{env, io};
@@ -28,7 +31,7 @@ fn text_of(text: &Option<Text>) -> &str {
 }
 
 /// Says why an object failed, where that is known.
-fn tell(rt: &HostRuntime, object: &str, target: &Option<Text>, why: Option<Why>) {
+fn tell<W: Display + Drop>(rt: &HostRuntime, object: &str, target: &Option<Text>, why: Option<W>) {
     if let Some(why) = why {
         let _ = eprintln!(rt; "sblistd: {object}{} {why}", text_of(target));
     }
@@ -47,25 +50,46 @@ fn journal_at<'a>(
 }
 
 /// The door at an address. Without one, and where it cannot be had, each call fails.
-fn door_at<'a>(rt: &'a HostRuntime, address: &Option<Text>) -> TcpDoor<&'a HostRuntime> {
+fn door_at<'a>(
+    rt: &'a HostRuntime,
+    alloc: Global,
+    address: &Option<Text>,
+) -> GatheringDoor<&'a HostRuntime> {
     match address {
-        Some(address) => TcpDoor::bind(rt, address.as_str(), TcpLimits::STANDARD),
-        None => TcpDoor::unusable(rt),
+        Some(address) => GatheringDoor::bind(rt, alloc, address.as_str(), DoorLimits::STANDARD),
+        None => GatheringDoor::unusable(rt),
     }
 }
 
-/// Runs the command that the words are. An address that cannot be had is told before the journal is looked at.
-fn run(rt: &HostRuntime, alloc: Global, words: &[String]) -> Result<u8, OutOfMemory> {
-    let targets = server_targets(alloc, words)?;
-    let mut door = door_at(rt, &targets.listen);
-    if targets.listen.is_some() && !door.is_usable() {
-        tell(rt, "the address ", &targets.listen, door.why());
-        return Ok(9);
+/// Whether an address leaves its port to the system.
+fn has_free_port(address: &str) -> bool {
+    match address.rsplit_once(':') {
+        Some((_, port)) => port.parse::<u16>() == Ok(0),
+        None => false,
     }
+}
+
+/// Says which port the system chose, where it was left to it.
+fn tell_port(rt: &HostRuntime, address: &Option<Text>, door: &GatheringDoor<&HostRuntime>) {
+    if has_free_port(text_of(address))
+        && let Some(chosen) = door.local_addr()
+    {
+        let _ = eprintln!(rt; "sblistd: the address {} is {chosen}", text_of(address));
+    }
+}
+
+/// Runs the command that the words are, with this door.
+fn run_with(
+    rt: &HostRuntime,
+    alloc: Global,
+    words: &[String],
+    targets: &ServerTargets,
+    door: &mut GatheringDoor<&HostRuntime>,
+) -> Result<u8, OutOfMemory> {
     let mut journal = journal_at(rt, alloc, &targets.journal)?;
     let mut input = StdSource::new(rt.stdin());
     let mut out = StdSink::new(rt.stdout());
-    let status = run_server(alloc, words, &mut journal, &mut input, &mut out, &mut door);
+    let status = run_server(alloc, words, &mut journal, &mut input, &mut out, door);
     match status {
         2 => {
             tell(rt, "the journal ", &targets.journal, journal.why());
@@ -76,6 +100,21 @@ fn run(rt: &HostRuntime, alloc: Global, words: &[String]) -> Result<u8, OutOfMem
         _ => {}
     }
     Ok(status)
+}
+
+/// Runs the command that the words are. An address that cannot be had is told before the journal is looked at. What is left of
+/// answers is sent before it ends, whatever its status is.
+fn run(rt: &HostRuntime, alloc: Global, words: &[String]) -> Result<u8, OutOfMemory> {
+    let targets = server_targets(alloc, words)?;
+    let mut door = door_at(rt, alloc, &targets.listen);
+    if targets.listen.is_some() && !door.is_usable() {
+        tell(rt, "the address ", &targets.listen, door.why());
+        return Ok(9);
+    }
+    tell_port(rt, &targets.listen, &door);
+    let status = run_with(rt, alloc, words, &targets, &mut door);
+    door.finish();
+    status
 }
 
 fn main(rt: HostRuntime) -> ExitCode {

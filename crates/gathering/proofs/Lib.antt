@@ -1,0 +1,2 @@
+pub mod WireReads
+pub mod Pieces

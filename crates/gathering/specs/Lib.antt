@@ -1,0 +1,5 @@
+pub mod Connections
+pub mod Deadlines
+pub mod Giving
+pub mod Accepting
+pub mod Wires

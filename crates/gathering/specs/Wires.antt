@@ -1,0 +1,57 @@
+-- What waits to be sent, and the wire that is handed out, as contracts see them.
+use Rattle.std.specs.Prelude.{◌≡◌, ℕ, ◌<◌, ◌⊎◌, List, [], ◌∷◌, ◌++◌, length, drop}
+use Rattle.std.specs.List.{All, concat}
+use Rattle.sb_outside.specs.Wires.{pieces_of}
+use Rattle.gathering.specs.declared.phases.Ending.{Ending}
+
+-- What of an answer waits to be sent: what is left of its first piece, and the bytes after that piece.
+pub record Waiting : Type 0 where
+  pub front : List ℕ
+  pub rest : List ℕ
+
+-- all these bytes, in order
+abbrev pub bytes_of : Waiting → List ℕ
+bytes_of waiting = waiting.front ++ waiting.rest
+
+-- nothing waits
+abbrev pub nothing : Waiting
+nothing = record { front = []; rest = [] }
+
+-- the first of the pieces, of which the last is kept apart, and the bytes after it
+abbrev pub first_piece : List (List ℕ) → List ℕ → List ℕ
+first_piece [] last = last
+first_piece (piece ∷ pieces) last = piece
+
+abbrev pub after_first : List (List ℕ) → List ℕ → List ℕ
+after_first [] last = []
+after_first (piece ∷ pieces) last = concat pieces ++ last
+
+-- Some of the first piece is not sent, unless nothing waits, each other piece has a byte, and so many bytes wait.
+pub record IsOutgoing (full : List (List ℕ)) (last : List ℕ) (sent left : ℕ) : Type 0 where
+  pub going : (sent ≡ 0) ⊎ (sent < length (first_piece full last))
+  pub filled : All (λ piece. 0 < length piece) full
+  pub count : left ≡ length (drop sent (first_piece full last) ++ after_first full last)
+
+-- a connection that is handed out
+pub record WireInHand : Type 0 where
+  pub number : ℕ
+  -- the place of its connection in the house, and the number of the connection there
+  pub slot : ℕ
+  pub serial : ℕ
+  -- the bytes that were gathered
+  pub sends : List ℕ
+  -- what is left of them: they and the end, or nothing after the end was answered
+  pub left : List (List ℕ)
+  -- what a read answers after them
+  pub ending : Ending
+  pub written : List ℕ
+  pub read_faults : ℕ
+  pub write_faults : ℕ
+
+-- A wire of this number as the door hands it out: all its bytes are to come, and nothing is written or counted.
+pub record IsFreshWire (number : ℕ) (wire : WireInHand) : Type 0 where
+  pub numbered : wire.number ≡ number
+  pub whole : wire.left ≡ pieces_of wire.sends
+  pub unwritten : wire.written ≡ []
+  pub read_faults : wire.read_faults ≡ 0
+  pub write_faults : wire.write_faults ≡ 0

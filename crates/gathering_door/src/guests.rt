@@ -1,0 +1,128 @@
+use gathering::{Ending, Gathered, Heard, Outgoing, Phase, Sent};
+use mio::net::TcpStream;
+use sb_model::OutOfMemory;
+use std::io::{ErrorKind, Read, Write};
+
+/// How many pieces of an answer are written in one turn.
+const PIECES_A_TURN: usize = 16;
+
+/// One connection.
+#[derive(Drop)]
+pub(crate) struct Guest {
+    pub(crate) stream: TcpStream,
+    pub(crate) serial: u64,
+    pub(crate) phase: Phase,
+    // what its peer has sent so far, while its request is gathered, and until it is handed out
+    pub(crate) gathered: Option<Gathered>,
+    // how many of these bytes count among all that are gathered
+    pub(crate) held: u64,
+    // what a read answers after them
+    pub(crate) ending: Ending,
+    // what of its answer is not yet sent
+    pub(crate) answer: Option<Outgoing>,
+    // whether its peer sends no more
+    pub(crate) has_ended: bool,
+    // whether a read, or a write, may bring something
+    pub(crate) can_read: bool,
+    pub(crate) can_write: bool,
+    // whether it stands in the row of those that are ready
+    pub(crate) is_in_row: bool,
+}
+
+impl Guest {
+    pub(crate) fn new(stream: TcpStream, serial: u64, gathered: Gathered, now: u64) -> Guest {
+        Guest {
+            stream,
+            serial,
+            phase: Phase::Gathering { since: now },
+            gathered: Some(gathered),
+            held: 0,
+            ending: Ending::End,
+            answer: None,
+            has_ended: false,
+            can_read: true,
+            can_write: true,
+            is_in_row: false,
+        }
+    }
+
+    /// Whether a try of its socket may bring something.
+    pub(crate) fn may_work(&self) -> bool {
+        match self.phase {
+            Phase::Gathering { .. } | Phase::Past { .. } => self.can_read,
+            Phase::Sending { .. } => self.can_read || self.can_write,
+            Phase::Decided => false,
+        }
+    }
+
+    /// One read of the socket into the buffer.
+    pub(crate) fn hear(&mut self, buffer: &mut [u8]) -> Heard {
+        if self.has_ended {
+            self.can_read = false;
+            return Heard::Nothing;
+        }
+        match self.stream.read(buffer) {
+            Ok(0) => {
+                self.has_ended = true;
+                self.can_read = false;
+                Heard::End
+            }
+            Ok(count) => Heard::Bytes(count as u64),
+            Err(e) if e.kind() == ErrorKind::Interrupted => Heard::Nothing,
+            Err(e) if e.kind() == ErrorKind::WouldBlock => {
+                self.can_read = false;
+                Heard::Nothing
+            }
+            Err(_) => {
+                self.can_read = false;
+                Heard::Fault
+            }
+        }
+    }
+
+    /// Takes what a read brought to what is gathered, and says whether it decides the request.
+    pub(crate) fn gather(&mut self, piece: &[u8]) -> Result<bool, OutOfMemory> {
+        match &mut self.gathered {
+            Some(gathered) => {
+                gathered.take(piece)?;
+                Ok(gathered.is_decided())
+            }
+            None => Ok(false),
+        }
+    }
+
+    /// How many bytes of its answer are left to send.
+    pub(crate) fn left(&self) -> u64 {
+        match &self.answer {
+            Some(answer) => answer.len() as u64,
+            None => 0,
+        }
+    }
+
+    /// Writes what the system takes of the answer, at most some pieces.
+    pub(crate) fn send(&mut self) -> Sent {
+        let mut taken = 0u64;
+        let Some(answer) = &mut self.answer else {
+            return Sent::Taken(0);
+        };
+        for _ in 0..PIECES_A_TURN {
+            let front = answer.front();
+            if front.is_empty() {
+                break;
+            }
+            match self.stream.write(front) {
+                Ok(count) => {
+                    answer.advance(count);
+                    taken = taken.saturating_add(count as u64);
+                }
+                Err(e) if e.kind() == ErrorKind::Interrupted => break,
+                Err(e) if e.kind() == ErrorKind::WouldBlock => {
+                    self.can_write = false;
+                    break;
+                }
+                Err(_) => return Sent::Fault,
+            }
+        }
+        Sent::Taken(taken)
+    }
+}

@@ -1,0 +1,15 @@
+//! A door at a TCP port that waits for all its peers at once, on one thread: it gathers requests, hands out connections whose
+//! request is decided, and sends answers while others are served. What it does with a connection is the values of
+//! `gathering`; this is the loop that carries them out.
+#![tactic(auto)]
+
+pub use door::GatheringDoor;
+pub use why::DoorFault;
+
+mod asked_time;
+mod door;
+mod guests;
+mod house;
+mod open;
+mod port;
+mod why;

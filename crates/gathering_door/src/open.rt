@@ -1,0 +1,254 @@
+ghost use Rattle.std.specs.Prelude.{IfSome, IfOk};
+ghost use Rattle.gathering.specs.Wires.{IsFreshWire};
+
+use crate::DoorFault;
+use crate::asked_time::{AskedTime, system_millis};
+use crate::house::House;
+use crate::port::{PORT, Port};
+use gathering::{AcceptFault, DoorLimits, GatheredWire, accept_fault};
+use mio::{Events, Poll};
+use sb_model::Moment;
+use std::alloc::Global;
+use std::net::{Net, SocketAddr};
+use std::time::Duration;
+use std::{io, time};
+
+/// How many connections are taken in one turn.
+const TAKEN_A_TURN: usize = 64;
+
+/// For how long the port rests where there was no room for a connection, in milliseconds.
+const PORT_REST: u64 = 100;
+
+/// A port, and the connections that came in there.
+#[derive(Drop)]
+pub(crate) struct OpenDoor {
+    port: Port,
+    house: House,
+    time: AskedTime,
+    // whether a connection may wait at the port, and until when the port rests
+    may_accept: bool,
+    rests_until: Option<u64>,
+}
+
+/// Waits for what the system reports, at most so many milliseconds, and notes it. It says whether some of it was at the port.
+fn wait_for_events(
+    poll: &mut Poll,
+    events: &mut Events,
+    house: &mut House,
+    wait: Option<u64>,
+) -> io::Result<bool> {
+    let wait = match wait {
+        Some(millis) => Some(Duration::from_millis(millis)),
+        None => None,
+    };
+    poll.poll(events, wait)?;
+    let mut at_port = false;
+    for event in &*events {
+        let token = event.token();
+        if token == PORT {
+            at_port = true;
+        } else {
+            house.mark(token.0.saturating_sub(1), event);
+        }
+    }
+    Ok(at_port)
+}
+
+/// The number of an error of the system, where it has one.
+fn number_of(fault: io::Error) -> Option<u32> {
+    u32::try_from(fault.raw_os_error()?).ok()
+}
+
+/// The shorter of two waits. `None` has no end.
+fn shorter(a: Option<u64>, b: Option<u64>) -> Option<u64> {
+    match (a, b) {
+        (Some(a), Some(b)) => Some(a.min(b)),
+        (Some(a), None) => Some(a),
+        (None, b) => b,
+    }
+}
+
+/// How long it is from a moment to another, where there is one.
+fn until(moment: Option<u64>, now: u64) -> Option<u64> {
+    match moment {
+        Some(moment) => Some(moment.saturating_sub(now)),
+        None => None,
+    }
+}
+
+/// How long it is until a moment of the system's clock, where there is one.
+fn left_until(rt: &impl time::Clock, moment: Option<Moment>) -> Result<Option<u64>, DoorFault> {
+    let Some(moment) = moment else {
+        return Ok(None);
+    };
+    match system_millis(rt) {
+        Ok(now) => Ok(Some(moment.0.saturating_sub(now))),
+        Err(e) => Err(DoorFault::system("cannot read the time", e)),
+    }
+}
+
+impl OpenDoor {
+    /// A port at an address, and no connection.
+    pub(crate) fn open<N: Net>(
+        net: &N,
+        alloc: Global,
+        address: &str,
+        limits: DoorLimits,
+    ) -> Result<OpenDoor, DoorFault> {
+        let port = match Port::open(net, alloc, address) {
+            Ok(port) => port,
+            Err(e) => return Err(DoorFault::system("cannot be had", e)),
+        };
+        let Ok(house) = House::new(alloc, limits) else {
+            return Err(DoorFault::refusal("cannot be had: out of memory"));
+        };
+        Ok(OpenDoor {
+            port,
+            house,
+            time: AskedTime::new(),
+            may_accept: true,
+            rests_until: None,
+        })
+    }
+
+    pub(crate) fn local_addr(&self) -> Option<SocketAddr> {
+        self.port.local_addr()
+    }
+
+    /// Takes one connection that waits at the port.
+    fn accept_one(&mut self, now: u64) -> Result<(), DoorFault> {
+        let fault = match self.port.listener.accept() {
+            Ok((stream, _)) => {
+                self.house.admit(stream, self.port.poll.registry(), now);
+                return Ok(());
+            }
+            Err(e) => e,
+        };
+        match accept_fault(number_of(fault)) {
+            AcceptFault::NoneWaits => self.may_accept = false,
+            AcceptFault::OfOne => {}
+            AcceptFault::NoRoom => {
+                self.house.give_way();
+                self.may_accept = false;
+                self.rests_until = Some(now.saturating_add(PORT_REST));
+            }
+            AcceptFault::OfTheDoor => {
+                return Err(DoorFault::system("takes no connections", fault));
+            }
+        }
+        Ok(())
+    }
+
+    /// Whether a connection that waits at the port could be taken.
+    fn can_accept(&self) -> bool {
+        self.may_accept && self.rests_until.is_none() && self.house.can_admit()
+    }
+
+    /// Takes connections that wait at the port, at most some.
+    fn accept_some(&mut self, now: u64) -> Result<(), DoorFault> {
+        if until(self.rests_until, now) == Some(0) {
+            self.rests_until = None;
+            self.may_accept = true;
+        }
+        for _ in 0..TAKEN_A_TURN {
+            if !self.can_accept() {
+                return Ok(());
+            }
+            self.accept_one(now)?;
+        }
+        Ok(())
+    }
+
+    /// How long the system may be waited for.
+    fn wait(&self, left: Option<u64>) -> Option<u64> {
+        if self.can_accept() || self.house.is_busy() {
+            return Some(0);
+        }
+        let now = self.time.now();
+        let due = until(self.house.first_due(), now);
+        shorter(left, shorter(due, until(self.rests_until, now)))
+    }
+
+    /// One turn: it waits at most so many milliseconds, and works for each connection that has something.
+    fn turn(&mut self, rt: &impl time::Clock, left: Option<u64>) -> Result<(), DoorFault> {
+        self.time.look(rt);
+        let wait = self.wait(left);
+        let port = &mut self.port;
+        match wait_for_events(&mut port.poll, &mut port.events, &mut self.house, wait) {
+            Ok(true) => self.may_accept = true,
+            Ok(false) => {}
+            Err(e) => return Err(DoorFault::system("waits for nothing", e)),
+        }
+        self.time.look(rt);
+        let now = self.time.now();
+        self.accept_some(now)?;
+        self.house.work_ready(now);
+        self.house.work_due(now);
+        Ok(())
+    }
+
+    /// The next connection whose turn it is, as a wire of this number, or `None` where the moment came first.
+    pub(crate) fn wait_for_one(
+        &mut self,
+        rt: &impl time::Clock,
+        number: u64,
+        moment: Option<Moment>,
+    ) -> Result<Option<GatheredWire>, DoorFault>
+        ensures { IfOk result (λ next. IfSome next (λ wire. IsFreshWire number wire)) }
+    {
+        self.time.begin();
+        for _ in 0..u64::MAX {
+            let left = left_until(rt, moment)?;
+            self.turn(rt, left)?;
+            if let Some(wire) = self.house.hand_out(number) {
+                return Ok(Some(wire));
+            }
+            if left == Some(0) {
+                return Ok(None);
+            }
+        }
+        Err(DoorFault::refusal("waits no longer"))
+    }
+
+    /// Takes a connection back that had its turn.
+    pub(crate) fn take_back(&mut self, wire: GatheredWire) {
+        let now = self.time.now();
+        self.house.take_back(wire, now);
+    }
+
+    /// Closes the port, ends what has no answer, and sends what is left of answers within the limits.
+    pub(crate) fn finish(self, rt: &impl time::Clock) {
+        let OpenDoor {
+            port,
+            mut house,
+            mut time,
+            ..
+        } = self;
+        let Port {
+            listener,
+            mut poll,
+            mut events,
+        } = port;
+        drop(listener);
+        house.close_unanswered();
+        time.begin();
+        for _ in 0..u64::MAX {
+            let Some(due) = house.first_due() else {
+                return;
+            };
+            time.look(rt);
+            let wait = if house.is_busy() {
+                0
+            } else {
+                due.saturating_sub(time.now())
+            };
+            if wait_for_events(&mut poll, &mut events, &mut house, Some(wait)).is_err() {
+                return;
+            }
+            time.look(rt);
+            let now = time.now();
+            house.work_ready(now);
+            house.work_due(now);
+        }
+    }
+}
