@@ -6,8 +6,8 @@ use Rattle.std.proofs.lemmas.Bool.Decides.{nat_tests}
 use Rattle.hex.specs.Hex.{encode_lower}
 use Rattle.sb_model.specs.declared.history.Change.{Change}
 use Rattle.list_versions.specs.Lines.{newline}
-use Rattle.list_versions.specs.Written.{change_line, line_of}
-use Rattle.generated_load.specs.Generated.{change_lines, change_of, generated_list}
+use Rattle.list_versions.specs.Written.{change_line, change_text, line_of}
+use Rattle.generated_load.specs.Generated.{change_of, generated_list}
 
 abbrev change_with : Bool → List ℕ → List ℕ → Change
 change_with removes before hash = record {
@@ -33,15 +33,15 @@ both_line : (before hash : List ℕ) → change_line (change_with true before ha
 unfolding digits
 both_line before hash = refl
 
-alone_lines : (before hash : List ℕ) → change_lines (change_with false before hash) ≡ adds_alone ++ marked 43 hash
-unfolding change_lines
+alone_lines : (before hash : List ℕ) → change_text false (change_with false before hash) ≡ adds_alone ++ marked 43 hash
+unfolding change_text
 alone_lines before hash =
     append-nil (change_line (change_with false before hash) ++ (marked 43 hash ++ []))
     ∙ ap (λ (bytes : List ℕ). bytes ++ (marked 43 hash ++ [])) (alone_line before hash)
     ∙ ap (λ (bytes : List ℕ). adds_alone ++ bytes) (append-nil (marked 43 hash))
 
-both_lines : (before hash : List ℕ) → change_lines (change_with true before hash) ≡ (adds_and_removes ++ marked 43 hash) ++ marked 45 before
-unfolding change_lines
+both_lines : (before hash : List ℕ) → change_text false (change_with true before hash) ≡ (adds_and_removes ++ marked 43 hash) ++ marked 45 before
+unfolding change_text
 both_lines before hash =
     ap (λ (bytes : List ℕ). (bytes ++ (marked 43 hash ++ [])) ++ (marked 45 before ++ [])) (both_line before hash)
     ∙ ap (λ (bytes : List ℕ). (adds_and_removes ++ bytes) ++ (marked 45 before ++ [])) (append-nil (marked 43 hash))
@@ -51,25 +51,25 @@ change_is : (place : ℕ) (removes : Bool) (before hash : List ℕ) → (place %
 unfolding change_of
 change_is place removes before hash h = ap (λ (b : Bool). change_with b before hash) h
 
-pub plain_lines : (place : ℕ) (before hash : List ℕ) → place % 4 ≢ 0 → change_lines (change_of place before hash) ≡ adds_alone ++ marked 43 hash
+pub plain_lines : (place : ℕ) (before hash : List ℕ) → place % 4 ≢ 0 → change_text false (change_of place before hash) ≡ adds_alone ++ marked 43 hash
 plain_lines place before hash h =
     let odd : (place % 4 == 0) ≡ false = grind (arith, nat_tests) in
-    ap change_lines (change_is place false before hash odd) ∙ alone_lines before hash
+    ap (change_text false) (change_is place false before hash odd) ∙ alone_lines before hash
 
-pub fourth_lines : (place : ℕ) (before hash : List ℕ) → place % 4 ≡ 0 → change_lines (change_of place before hash) ≡ (adds_and_removes ++ marked 43 hash) ++ marked 45 before
+pub fourth_lines : (place : ℕ) (before hash : List ℕ) → place % 4 ≡ 0 → change_text false (change_of place before hash) ≡ (adds_and_removes ++ marked 43 hash) ++ marked 45 before
 fourth_lines place before hash h =
-    ap change_lines (change_is place true before hash (eq-eqb (place % 4) 0 h)) ∙ both_lines before hash
+    ap (change_text false) (change_is place true before hash (eq-eqb (place % 4) 0 h)) ∙ both_lines before hash
 
 -- ---- what is written of each
 
 pub plain_text : (place : ℕ) (before hash page front whole : List ℕ) → place % 4 ≢ 0 → front ≡ page ++ adds_alone → whole ≡ front ++ marked 43 hash
-    → whole ≡ page ++ change_lines (change_of place before hash)
+    → whole ≡ page ++ change_text false (change_of place before hash)
 plain_text place before hash page front whole other begun is =
     is ∙ ap (λ (bytes : List ℕ). bytes ++ marked 43 hash) begun ∙ append_assoc page adds_alone (marked 43 hash)
     ∙ ap (λ (bytes : List ℕ). page ++ bytes) (sym (plain_lines place before hash other))
 
 pub fourth_text : (place : ℕ) (before hash page front middle whole : List ℕ) → place % 4 ≡ 0 → front ≡ page ++ adds_and_removes → middle ≡ front ++ marked 43 hash
-    → whole ≡ middle ++ marked 45 before → whole ≡ page ++ change_lines (change_of place before hash)
+    → whole ≡ middle ++ marked 45 before → whole ≡ page ++ change_text false (change_of place before hash)
 fourth_text place before hash page front middle whole fourth begun added is =
     is ∙ ap (λ (bytes : List ℕ). bytes ++ marked 45 before) (added ∙ ap (λ (bytes : List ℕ). bytes ++ marked 43 hash) begun ∙ append_assoc page adds_and_removes (marked 43 hash))
     ∙ append_assoc page (adds_and_removes ++ marked 43 hash) (marked 45 before)

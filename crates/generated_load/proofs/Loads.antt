@@ -33,11 +33,11 @@ gives_front text bytes false pieces after is gives = front_left text bytes after
 -- ---- a journal that is loaded
 
 pub loaded : (text bytes : List ℕ) (ended : Bool) (pieces : List (List ℕ)) (after : Option (List (List ℕ))) (kept : Kept) (history : History) → pieces ≡ text ∷ []
-    → kept_of text ≡ Ok (wholly history) → Gives bytes ended (Some pieces) after → JournalOutcome bytes ended (Ok kept) → kept.versions ≡ history
+    → kept_of text ≡ Ok (wholly false history) → Gives bytes ended (Some pieces) after → JournalOutcome bytes ended (Ok kept) → kept.versions ≡ history
 loaded text bytes ended pieces after kept history is reads gives outcome =
     let whole : text ≡ bytes = gives_all text bytes ended pieces after is outcome.0 gives in
-    let both : Ok kept ≡ Ok (wholly history) = sym outcome.1 ∙ ap kept_of (sym whole) ∙ reads in
-    let same : kept ≡ wholly history = cc in
+    let both : Ok kept ≡ Ok (wholly false history) = sym outcome.1 ∙ ap kept_of (sym whole) ∙ reads in
+    let same : kept ≡ wholly false history = cc in
     ap (λ (k : Kept). k.versions) same
 
 -- ---- a journal that is not

@@ -1,6 +1,6 @@
 -- The history that a seed makes can be told by a journal.
 use Rattle.std.proofs.Common.{◌≡◌, ℕ, ◌+◌, ◌-◌, ◌*◌, ◌%◌, ◌^◌, ◌<◌, ◌≤◌, List, [], ◌∷◌, Bool, true, false, length, map, refl, sym, subst, arith, inl, inr, lit<, lit≤}
-use Rattle.std.specs.Prelude.{All, ◌==◌, if◌then◌else◌, slice_index, zero, suc}
+use Rattle.std.specs.Prelude.{All, Some, ◌==◌, if◌then◌else◌, slice_index, zero, suc}
 use Rattle.std.specs.Int.{byte_at, bytes_high_first}
 use Rattle.std.specs.List.{range_with_len}
 use Rattle.std.proofs.lemmas.Bool.{cases_lt}
@@ -16,8 +16,9 @@ use Rattle.sb_model.specs.declared.history.Added.{Added}
 use Rattle.sb_model.specs.declared.history.Change.{Change}
 use Rattle.sb_model.specs.declared.names.ListName.{ListName}
 use Rattle.sb_model.specs.History.{IsPrefixSize}
+use Rattle.list_versions.specs.Journal.{declared_size_of}
 use Rattle.list_versions.specs.Limits.{WithinLimits, hash_lines}
-use Rattle.list_versions.specs.Written.{HasJournal, HasLines}
+use Rattle.list_versions.specs.Written.{HasDeclaredSizes, HasJournal, HasLines}
 use Rattle.generated_load.specs.Generated.{change_at, change_of, generated, generated_list, hash_at, hash_of, number_at}
 
 -- ---- the bytes of a digest
@@ -134,3 +135,14 @@ has_journal count seed few small within = record {
   few_hashes = omega (arith, few, few_lines count seed);
   within = within;
 }
+
+four_each : (count seed place : ℕ) → All (λ (added : Added). declared_size_of (generated count seed) (change_at seed place).list ≡ Some added.size) (change_at seed place).adds
+unfolding generated change_of
+four_each count seed place =
+    only (λ (added : Added). declared_size_of (generated count seed) generated_list ≡ Some added.size) (record { hash = hash_at seed place; size = 4 }) refl
+
+-- and by a journal of the first form, since each hash has the size of the list
+pub has_sizes : (count seed : ℕ) → HasDeclaredSizes (generated count seed)
+unfolding generated
+has_sizes count seed =
+    at_places (λ (change : Change). All (λ (added : Added). declared_size_of (generated count seed) change.list ≡ Some added.size) change.adds) count seed (four_each count seed)

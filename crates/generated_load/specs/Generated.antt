@@ -1,8 +1,6 @@
--- What a seed makes: numbers, a host of each, the history in which the hashes of the hosts come and go, and two texts.
+-- What a seed makes: numbers, a host of each, the history in which the hashes of the hosts come and go, and URLs of further hosts.
 use Rattle.std.specs.Prelude.{ℕ, zero, suc, ◌+◌, ◌-◌, ◌*◌, ◌/◌, ◌%◌, ◌^◌, ◌==◌, if◌then◌else◌, List, [], ◌∷◌, ◌++◌, map, codes, decimal}
-use Rattle.std.specs.Int.{w64, to_be_bytes}
 use Rattle.std.specs.List.{flat_map, range_with_len}
-use Rattle.hex.specs.Hex.{encode_lower}
 use Rattle.sha2.specs.Sha256.{sha256}
 use Rattle.sb_model.specs.declared.history.Added.{Added}
 use Rattle.sb_model.specs.declared.history.Change.{Change}
@@ -12,7 +10,6 @@ use Rattle.sb_model.specs.declared.names.PlatformType.TheVariants as platform
 use Rattle.sb_model.specs.declared.names.ThreatType.TheVariants as threat
 use Rattle.sb_model.specs.History.{History}
 use Rattle.list_versions.specs.Lines.{newline}
-use Rattle.list_versions.specs.Written.{change_line, line_of, list_line, remove_line}
 
 -- ---- numbers and hosts
 
@@ -59,21 +56,6 @@ generated count seed = record {
   declared = (generated_list, 4) ∷ [];
   changes = map (change_at seed) (range_with_len 1 count);
 }
-
--- ---- its journal, of the first form: a line that adds names no size, since the declared one counts
-
-abbrev pub first_line : ℕ → List ℕ
-first_line epoch = line_of (codes "sblist" ∷ codes "1" ∷ encode_lower (to_be_bytes w64 epoch) ∷ [])
-
--- `+` and a hash
-abbrev pub hash_line : Added → List ℕ
-hash_line added = 43 ∷ line_of (encode_lower added.hash ∷ [])
-
-unfoldable pub change_lines : Change → List ℕ
-change_lines change = change_line change ++ flat_map hash_line change.adds ++ flat_map remove_line change.removes
-
-unfoldable pub plain_journal : History → List ℕ
-plain_journal history = first_line history.epoch ++ flat_map list_line history.declared ++ flat_map change_lines history.changes
 
 -- ---- URLs: a line for each place from 1 on, with a host of the numbers of the seed after this one
 

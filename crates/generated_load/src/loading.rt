@@ -3,8 +3,8 @@ ghost use Rattle.generated_load.specs.Exercise.{HasRoom, fault_of};
 ghost use Rattle.generated_load.specs.Generated.{generated};
 
 use crate::ExerciseFault;
-use crate::journals::sized_journal;
-use list_versions::{History, JournalFault, journals_read_as_written};
+use crate::journals::generated_journal;
+use list_versions::{History, JournalFault};
 use sb_model::{Bytes, OutOfMemory, Row};
 use sb_outside::MemorySource;
 use std::alloc::Global;
@@ -34,8 +34,7 @@ pub(crate) fn load(alloc: Global, count: u32, seed: u64) -> Result<History, Exer
     ensures loaded { IfOk result (λ history. HasRoom count seed → history.versions ≡ generated count seed) }
     ensures past { IsErrOf result ExerciseFault.PastLimits → ¬ (HasRoom count seed) }
 {
-    journals_read_as_written();
-    let text = sized_journal(alloc, count, seed)?;
+    let text = generated_journal(alloc, count, seed)?;
     let mut source = source_of(alloc, text)?;
     match History::load(alloc, &mut source) {
         Ok(history) => Ok(history),

@@ -1,6 +1,6 @@
 -- A journal that is written is read as its history.
 use Rattle.std.proofs.Common.{◌≡◌, ℕ, zero, suc, ◌+◌, ◌^◌, ◌<◌, ◌≤◌, nat_lt, nat_eq, ◌==◌, List, [], ◌∷◌, ◌++◌, Bool, true, false, ◌&&◌, ◌||◌, cond, if◌then◌else◌, length, take, fold, refl, sym, ap, ◌∙◌, subst, arith, eq-eqb, length-append, append_assoc, Option, Some, None, Result, Ok, Err}
-use Rattle.std.specs.Prelude.{All, nat_le, codes, decimal, find, option_and_then}
+use Rattle.std.specs.Prelude.{⊤, All, nat_le, codes, decimal, find, option_and_then}
 use Rattle.std.specs.Int.{w64, to_be_bytes, from_be_bytes}
 use Rattle.std.specs.List.{flat_map, join_with_byte, list_any, slice_split}
 use Rattle.std.specs.Option.{option_map}
@@ -24,33 +24,50 @@ use Rattle.list_versions.specs.declared.heads.Header.{Header}
 use Rattle.list_versions.specs.declared.fault.JournalFault.{JournalFault}
 use Rattle.list_versions.specs.Journal.{Kept, Begun, Reading, ◌>>=◌, after_bytes, after_change_line, after_first, after_front, after_head, after_header, after_line, after_list, after_parts, at_record, change_of, counted, declared_size_of, empty_history, if_short, if_within_limits, is_complete, kept_of, lines_begun, next_line, settled, with_bytes, with_change, with_remove, with_add}
 use Rattle.list_versions.specs.Limits.{IsWithin, hash_lines, has_head, is_crowded, limit_fault, most_alike, most_changes, most_hash_lines, most_hashes, most_lists, most_prefix_bytes, prefix_bytes}
-use Rattle.list_versions.specs.Lines.{added_of, added_of_words, change_head, hash_of, head_of, head_of_words, header_of, header_of_words, is_change_size, is_newline, list_head, newline, number_of, removed_of, size_of}
+use Rattle.list_versions.specs.Lines.{bytes_of, form_of, added_of, added_of_words, change_head, hash_of, head_of, head_of_words, header_of, header_of_words, is_change_size, is_newline, list_head, newline, number_of, removed_of, size_of}
 use Rattle.list_versions.specs.Split.{IsLine, IsOneLine}
-use Rattle.list_versions.specs.Written.{AreApart, HasJournal, HasLines, add_line, change_line, change_text, header_line, journal_text, list_line, remove_line, wholly}
+use Rattle.list_versions.specs.Written.{AreApart, HasDeclaredSizes, HasJournal, HasLines, add_line, add_words, form_word, change_line, change_text, header_line, journal_text, list_line, remove_line, wholly}
 use Rattle.list_versions.proofs.LineEnds.{parts_line}
-use Rattle.list_versions.proofs.LineTexts.{AreWords, bytes_back, decimal_word, eight_bytes, hash_back, hex_long, hex_word, name_back, name_short, name_word, number_back, one_line, words_joined}
+use Rattle.list_versions.proofs.LineTexts.{AreWords, is_word, bytes_back, decimal_word, eight_bytes, hash_back, hex_long, hex_word, name_back, name_short, name_word, number_back, one_line, words_joined}
 use Rattle.list_versions.proofs.Parts.{parts_some}
 use Rattle.list_versions.proofs.Reading.{bytes_line, choose_false, choose_true, line_add, line_remove, short_is, within}
 
 -- ---- the words of each line, and what they are read as
 
-abbrev header_words : ℕ → List (List ℕ)
-header_words epoch = codes "sblist" ∷ codes "2" ∷ encode_lower (to_be_bytes w64 epoch) ∷ []
+abbrev header_words : Header → List (List ℕ)
+header_words header = codes "sblist" ∷ form_word header.sized ∷ encode_lower (to_be_bytes w64 header.epoch) ∷ []
 
-abbrev header_with : ℕ → Header
-header_with epoch = record { sized = true; epoch = epoch }
+abbrev header_with : Bool → ℕ → Header
+header_with sized epoch = record { sized = sized; epoch = epoch }
 
-are_header : (epoch : ℕ) → AreWords (header_words epoch)
-are_header epoch = (refl, (refl, (hex_word (to_be_bytes w64 epoch) (eight_bytes epoch), tt)))
+form_is_word : (sized : Bool) → is_word (form_word sized) ≡ true
+form_is_word true = refl
+form_is_word false = refl
 
-header_read : (epoch : ℕ) → epoch < 2 ^ 64 → header_of (join_with_byte 32 (header_words epoch)) ≡ Some (header_with epoch)
-header_read epoch h =
-    ap header_of_words (words_joined (codes "sblist") (codes "2" ∷ encode_lower (to_be_bytes w64 epoch) ∷ []) (are_header epoch))
-    ∙ ap (option_map (λ (bytes : List ℕ). header_with (from_be_bytes w64 bytes))) (bytes_back 8 (to_be_bytes w64 epoch) refl (eight_bytes epoch))
-    ∙ ap (λ (n : ℕ). Some (header_with n)) (from_be_bytes-to_be_bytes_8 epoch h)
+form_back : (sized : Bool) → form_of (form_word sized) ≡ Some sized
+form_back true = refl
+form_back false = refl
 
-header_short : (epoch : ℕ) → length (join_with_byte 32 (header_words epoch)) ≤ 128
-header_short epoch = let long : length (encode_lower (to_be_bytes w64 epoch)) ≡ 16 = hex_long (to_be_bytes w64 epoch) in omega (arith, long)
+form_short : (sized : Bool) → length (form_word sized) ≡ 1
+form_short true = refl
+form_short false = refl
+
+are_header : (sized : Bool) (epoch : ℕ) → AreWords (header_words (header_with sized epoch))
+are_header sized epoch = (refl, (form_is_word sized, (hex_word (to_be_bytes w64 epoch) (eight_bytes epoch), tt)))
+
+header_read : (sized : Bool) (epoch : ℕ) → epoch < 2 ^ 64 → header_of (join_with_byte 32 (header_words (header_with sized epoch))) ≡ Some (header_with sized epoch)
+header_read sized epoch h =
+    let digits = encode_lower (to_be_bytes w64 epoch) in
+    ap header_of_words (words_joined (codes "sblist") (form_word sized ∷ digits ∷ []) (are_header sized epoch))
+    ∙ ap (option_and_then (λ form. option_map (λ bytes. header_with form (from_be_bytes w64 bytes)) (bytes_of 8 digits))) (form_back sized)
+    ∙ ap (option_map (λ bytes. header_with sized (from_be_bytes w64 bytes))) (bytes_back 8 (to_be_bytes w64 epoch) refl (eight_bytes epoch))
+    ∙ ap (λ (n : ℕ). Some (header_with sized n)) (from_be_bytes-to_be_bytes_8 epoch h)
+
+header_short : (sized : Bool) (epoch : ℕ) → length (join_with_byte 32 (header_words (header_with sized epoch))) ≤ 128
+header_short sized epoch =
+    let long : length (encode_lower (to_be_bytes w64 epoch)) ≡ 16 = hex_long (to_be_bytes w64 epoch) in
+    let form = form_short sized in
+    omega (arith, long, form, length-append (form_word sized) (32 ∷ encode_lower (to_be_bytes w64 epoch)))
 
 abbrev list_words : ListName → ℕ → List (List ℕ)
 list_words name size = codes "list" ∷ text_of name ∷ decimal size ∷ []
@@ -103,27 +120,39 @@ pub record IsWrittenHash (hash : List ℕ) : Type 0 where
   pub whole : length hash ≡ 32
   pub bytes : IsBytes hash
 
-abbrev add_words : Added → List (List ℕ)
-add_words added = encode_lower added.hash ∷ decimal added.size ∷ []
+-- where a line names no size, the hash has the one that is declared
+abbrev IsOfForm : Bool → ℕ → Added → Type 0
+IsOfForm true declared added = ⊤
+IsOfForm false declared added = declared ≡ added.size
 
-are_add : (added : Added) → IsWritten added → AreWords (add_words added)
-are_add added h = let high = h.size.high in (hex_word added.hash h.bytes, (decimal_word added.size (omega (arith, high)), tt))
+are_add : (sized : Bool) (added : Added) → IsWritten added → AreWords (add_words sized added)
+are_add true added h = let high = h.size.high in (hex_word added.hash h.bytes, (decimal_word added.size (omega (arith, high)), tt))
+are_add false added h = (hex_word added.hash h.bytes, tt)
 
 abbrev entry_with : List ℕ → ℕ → Added
 entry_with hash size = record { hash = hash; size = size }
 
-add_read : (declared : ℕ) (added : Added) → IsWritten added → added_of true declared (43 ∷ join_with_byte 32 (add_words added)) ≡ Some added
-add_read declared added h =
+add_read : (sized : Bool) (declared : ℕ) (added : Added) → IsWritten added → IsOfForm sized declared added → added_of sized declared (43 ∷ join_with_byte 32 (add_words sized added)) ≡ Some added
+add_read true declared added h of =
     let high = h.size.high in
-    ap (added_of_words true declared) (words_joined (encode_lower added.hash) (decimal added.size ∷ []) (are_add added h))
+    ap (added_of_words true declared) (words_joined (encode_lower added.hash) (decimal added.size ∷ []) (are_add true added h))
     ∙ ap (option_and_then (λ (hash : List ℕ). option_map (entry_with hash) (size_of (decimal added.size)))) (hash_back added.hash h.whole h.bytes)
     ∙ ap (option_map (entry_with added.hash)) (number_back 4 32 added.size h.size.low h.size.high (omega (arith, high)))
+add_read false declared added h of =
+    ap (added_of_words false declared) (words_joined (encode_lower added.hash) [] (are_add false added h))
+    ∙ ap (option_map (λ (hash : List ℕ). entry_with hash declared)) (hash_back added.hash h.whole h.bytes)
+    ∙ ap (λ (size : ℕ). Some (entry_with added.hash size)) of
 
-add_short : (added : Added) → IsWritten added → length (43 ∷ join_with_byte 32 (add_words added)) ≤ 128
-add_short added h =
+add_line_is : (sized : Bool) (added : Added) → IsWritten added → IsOneLine (join_with_byte 32 (add_words sized added))
+add_line_is true added h = one_line (encode_lower added.hash) (decimal added.size ∷ []) (are_add true added h)
+add_line_is false added h = one_line (encode_lower added.hash) [] (are_add false added h)
+
+add_short : (sized : Bool) (added : Added) → IsWritten added → length (43 ∷ join_with_byte 32 (add_words sized added)) ≤ 128
+add_short true added h =
     let high = h.size.high in
     let few : length (decimal added.size) ≤ 2 = length-decimal-le 2 added.size (omega arith) (omega (arith, high)) (omega (arith, high)) in
     omega (arith, hex_long added.hash, h.whole, few, length-append (encode_lower added.hash) (32 ∷ decimal added.size))
+add_short false added h = omega (arith, hex_long added.hash, h.whole)
 
 remove_read : (hash : List ℕ) → IsWrittenHash hash → removed_of (45 ∷ encode_lower hash) ≡ Some hash
 remove_read hash h = hash_back hash h.whole h.bytes
@@ -149,16 +178,16 @@ leads_line : (before : Reading) (line more : List ℕ) → IsOneLine line → le
 leads_line before line more one short = bytes_line before (line ++ newline ∷ []) line [] more (record { whole = refl; within = one; short = short })
 
 -- what is known between two records
-abbrev at_history : History → Reading
-at_history history = record { kept = wholly history; begun = None }
+abbrev at_history : Bool → History → Reading
+at_history sized history = record { kept = wholly sized history; begun = None }
 
-abbrev kept_at : History → List ℕ → Kept
-kept_at history rest = record { sized = true; versions = history; rest = rest }
+abbrev kept_at : Bool → History → List ℕ → Kept
+kept_at sized history rest = record { sized = sized; versions = history; rest = rest }
 
-head_line : (history : History) (line : List ℕ) (first : Head) → length line ≤ 128 → head_of line ≡ Some first
-    → after_line (at_history history) line ≡ after_head (kept_at history (line ++ newline ∷ [])) (Some first)
+head_line : (sized : Bool) (history : History) (line : List ℕ) (first : Head) → length line ≤ 128 → head_of line ≡ Some first
+    → after_line (at_history sized history) line ≡ after_head (kept_at sized history (line ++ newline ∷ [])) (Some first)
 unfolding after_line
-head_line history line first short h = ap (after_head (kept_at history (line ++ newline ∷ []))) (short_is line (head_of line) short ∙ h)
+head_line sized history line first short h = ap (after_head (kept_at sized history (line ++ newline ∷ []))) (short_is line (head_of line) short ∙ h)
 
 -- ---- the lists
 
@@ -178,27 +207,27 @@ apart_new (x ∷ got) left list h =
 room : (n : ℕ) → n < 8 → nat_le most_lists n ≡ false
 room n h = grind (arith, nat_tests)
 
-list_leads : (epoch : ℕ) (got : List (ListName × ℕ)) (list : ListName × ℕ) → list_any (λ (other : ListName × ℕ). same_name other.0 list.0) got ≡ false → length got < 8 → IsPrefixSize list.1
-    → Leads (at_history (declared_at epoch got)) (list_line list) (at_history (declared_at epoch (got ++ list ∷ [])))
-list_leads epoch got list new few size more =
+list_leads : (sized : Bool) (epoch : ℕ) (got : List (ListName × ℕ)) (list : ListName × ℕ) → list_any (λ (other : ListName × ℕ). same_name other.0 list.0) got ≡ false → length got < 8 → IsPrefixSize list.1
+    → Leads (at_history sized (declared_at epoch got)) (list_line list) (at_history sized (declared_at epoch (got ++ list ∷ [])))
+list_leads sized epoch got list new few size more =
     let line = join_with_byte 32 (list_words list.0 list.1) in
-    leads_line (at_history (declared_at epoch got)) line more (one_line (codes "list") (text_of list.0 ∷ decimal list.1 ∷ []) (are_list list.0 list.1 size.high)) (list_short list.0 list.1 size.high)
+    leads_line (at_history sized (declared_at epoch got)) line more (one_line (codes "list") (text_of list.0 ∷ decimal list.1 ∷ []) (are_list list.0 list.1 size.high)) (list_short list.0 list.1 size.high)
     ∙ ap (λ r. r >>= λ next. after_bytes next more)
-    (head_line (declared_at epoch got) line (head.List list.0 list.1) (list_short list.0 list.1 size.high) (list_read list.0 list.1 size.low size.high)
+    (head_line sized (declared_at epoch got) line (head.List list.0 list.1) (list_short list.0 list.1 size.high) (list_read list.0 list.1 size.low size.high)
     ∙ choose_false (declares (declared_at epoch got) list.0) _ _ new
     ∙ choose_false (nat_le most_lists (length got)) _ _ (room (length got) few))
 
-lists_lead : (epoch : ℕ) (got left : List (ListName × ℕ)) → AreApart (got ++ left) → All (λ list. IsPrefixSize list.1) left → length (got ++ left) ≤ 8
-    → Leads (at_history (declared_at epoch got)) (flat_map list_line left) (at_history (declared_at epoch (got ++ left)))
-lists_lead epoch got [] apart sizes few more = ap (λ ds. after_bytes (at_history (declared_at epoch ds)) more) (sym (append-nil got))
-lists_lead epoch got (list ∷ left) apart sizes few more =
+lists_lead : (sized : Bool) (epoch : ℕ) (got left : List (ListName × ℕ)) → AreApart (got ++ left) → All (λ list. IsPrefixSize list.1) left → length (got ++ left) ≤ 8
+    → Leads (at_history sized (declared_at epoch got)) (flat_map list_line left) (at_history sized (declared_at epoch (got ++ left)))
+lists_lead sized epoch got [] apart sizes few more = ap (λ ds. after_bytes (at_history sized (declared_at epoch ds)) more) (sym (append-nil got))
+lists_lead sized epoch got (list ∷ left) apart sizes few more =
     let same = append_assoc got (list ∷ []) left in
     let long = length-append got (list ∷ left) in
     let now = got ++ list ∷ [] in
-    leads_then (at_history (declared_at epoch got)) (at_history (declared_at epoch now)) (at_history (declared_at epoch (now ++ left))) (list_line list) (flat_map list_line left)
-    (list_leads epoch got list (apart_new got left list apart) (omega (arith, long, few)) (All-head (λ (l : ListName × ℕ). IsPrefixSize l.1) list left sizes))
-    (lists_lead epoch now left (subst AreApart (sym same) apart) (All-tail (λ (l : ListName × ℕ). IsPrefixSize l.1) list left sizes) (omega (arith, ap length same, few))) more
-    ∙ ap (λ ds. after_bytes (at_history (declared_at epoch ds)) more) same
+    leads_then (at_history sized (declared_at epoch got)) (at_history sized (declared_at epoch now)) (at_history sized (declared_at epoch (now ++ left))) (list_line list) (flat_map list_line left)
+    (list_leads sized epoch got list (apart_new got left list apart) (omega (arith, long, few)) (All-head (λ (l : ListName × ℕ). IsPrefixSize l.1) list left sizes))
+    (lists_lead sized epoch now left (subst AreApart (sym same) apart) (All-tail (λ (l : ListName × ℕ). IsPrefixSize l.1) list left sizes) (omega (arith, ap length same, few))) more
+    ∙ ap (λ ds. after_bytes (at_history sized (declared_at epoch ds)) more) same
 
 -- ---- a change
 
@@ -214,7 +243,7 @@ begun_with size change adds removes = record {
 }
 
 -- a change that may come next
-record Fits (history : History) (change : Change) : Type 0 where
+record Fits (sized : Bool) (history : History) (change : Change) : Type 0 where
   written : All IsWritten change.adds
   hashes : All IsWrittenHash change.removes
   some : 1 ≤ length change.adds + length change.removes
@@ -222,6 +251,7 @@ record Fits (history : History) (change : Change) : Type 0 where
   known : declares history change.list ≡ true
   room : length history.changes < 65536
   lines : hash_lines history.changes + (length change.adds + length change.removes) ≤ 2097152
+  form : (size : ℕ) → declared_size_of history change.list ≡ Some size → All (IsOfForm sized size) change.adds
   limits : (n : ℕ) → limit_fault n (sizes_at (with_change change history) change.list (version_count (with_change change history))) ≡ None
 
 not_equal : (m n : ℕ) → m < n → nat_eq m n ≡ false
@@ -234,22 +264,22 @@ last_false : (a b : Bool) → b ≡ false → (a && b) ≡ false
 last_false true b h = h
 last_false false b h = refl
 
-open_adds : (history : History) (change : Change) (size : ℕ) (rest : List ℕ) (adds : List Added) (removes : List (List ℕ)) → length adds < length change.adds
-    → settled (kept_at history rest) (begun_with size change adds removes) ≡ Ok (record { kept = kept_at history rest; begun = Some (begun_with size change adds removes) })
-open_adds history change size rest adds removes h = choose_false (is_complete (begun_with size change adds removes)) _ _ (first_false _ _ (not_equal _ _ h))
+open_adds : (sized : Bool) (history : History) (change : Change) (size : ℕ) (rest : List ℕ) (adds : List Added) (removes : List (List ℕ)) → length adds < length change.adds
+    → settled (kept_at sized history rest) (begun_with size change adds removes) ≡ Ok (record { kept = kept_at sized history rest; begun = Some (begun_with size change adds removes) })
+open_adds sized history change size rest adds removes h = choose_false (is_complete (begun_with size change adds removes)) _ _ (first_false _ _ (not_equal _ _ h))
 
-open_removes : (history : History) (change : Change) (size : ℕ) (rest : List ℕ) (adds : List Added) (removes : List (List ℕ)) → length removes < length change.removes
-    → settled (kept_at history rest) (begun_with size change adds removes) ≡ Ok (record { kept = kept_at history rest; begun = Some (begun_with size change adds removes) })
-open_removes history change size rest adds removes h =
+open_removes : (sized : Bool) (history : History) (change : Change) (size : ℕ) (rest : List ℕ) (adds : List Added) (removes : List (List ℕ)) → length removes < length change.removes
+    → settled (kept_at sized history rest) (begun_with size change adds removes) ≡ Ok (record { kept = kept_at sized history rest; begun = Some (begun_with size change adds removes) })
+open_removes sized history change size rest adds removes h =
     choose_false (is_complete (begun_with size change adds removes)) _ _ (last_false (nat_eq (length adds) (length change.adds)) _ (not_equal _ _ h))
 
-whole_change : (history : History) (change : Change) (size : ℕ) (rest : List ℕ) → Fits history change
-    → settled (kept_at history rest) (begun_with size change change.adds change.removes) ≡ Ok (at_history (with_change change history))
-whole_change history change size rest fits =
+whole_change : (sized : Bool) (history : History) (change : Change) (size : ℕ) (rest : List ℕ) → Fits sized history change
+    → settled (kept_at sized history rest) (begun_with size change change.adds change.removes) ≡ Ok (at_history sized (with_change change history))
+whole_change sized history change size rest fits =
     let begun = begun_with size change change.adds change.removes in
     let both : is_complete begun ≡ true = rw (eq-eqb (length change.adds) (length change.adds) refl, eq-eqb (length change.removes) (length change.removes) refl) refl in
     choose_true (is_complete begun) _ _ both
-    ∙ ap (if_within_limits (record { sized = true; versions = with_change change history; rest = rest })) (fits.limits (next_line history + lines_begun begun))
+    ∙ ap (if_within_limits (record { sized = sized; versions = with_change change history; rest = rest })) (fits.limits (next_line history + lines_begun begun))
 
 adds_done : (change : Change) (size : ℕ) (removes : List (List ℕ)) → nat_lt (length change.adds) (length change.adds) ≡ false
 adds_done change size removes = grind (arith, nat_tests)
@@ -258,65 +288,65 @@ below : (m n : ℕ) → m < n → nat_lt m n ≡ true
 below m n h = grind (arith, nat_tests)
 
 -- a line that removes
-remove_next : (history : History) (change : Change) (size : ℕ) (rest : List ℕ) (got : List (List ℕ)) (hash more : List ℕ) → IsWrittenHash hash
+remove_next : (sized : Bool) (history : History) (change : Change) (size : ℕ) (rest : List ℕ) (got : List (List ℕ)) (hash more : List ℕ) → IsWrittenHash hash
     → hash_lines history.changes + (length change.adds + length (got ++ hash ∷ [])) ≤ 2097152
-    → after_bytes (record { kept = kept_at history rest; begun = Some (begun_with size change change.adds got) }) (remove_line hash ++ more)
-    ≡ (settled (kept_at history (rest ++ remove_line hash)) (begun_with size change change.adds (got ++ hash ∷ [])) >>= λ next. after_bytes next more)
-remove_next history change size rest got hash more h lines =
+    → after_bytes (record { kept = kept_at sized history rest; begun = Some (begun_with size change change.adds got) }) (remove_line hash ++ more)
+    ≡ (settled (kept_at sized history (rest ++ remove_line hash)) (begun_with size change change.adds (got ++ hash ∷ [])) >>= λ next. after_bytes next more)
+remove_next sized history change size rest got hash more h lines =
     let line = 45 ∷ encode_lower hash in
     let begun = begun_with size change change.adds got in
-    leads_line (record { kept = kept_at history rest; begun = Some begun }) line more (signed_line 45 (encode_lower hash) refl (one_line (encode_lower hash) [] (hex_word hash h.bytes, tt))) (remove_short hash h)
+    leads_line (record { kept = kept_at sized history rest; begun = Some begun }) line more (signed_line 45 (encode_lower hash) refl (one_line (encode_lower hash) [] (hex_word hash h.bytes, tt))) (remove_short hash h)
     ∙ ap (λ r. r >>= λ next. after_bytes next more)
-    (line_remove (kept_at history rest) begun line (adds_done change size got) (remove_short hash h)
-    ∙ ap (with_remove (kept_at history (rest ++ remove_line hash)) begun) (remove_read hash h)
+    (line_remove (kept_at sized history rest) begun line (adds_done change size got) (remove_short hash h)
+    ∙ ap (with_remove (kept_at sized history (rest ++ remove_line hash)) begun) (remove_read hash h)
     ∙ choose_false _ _ _ (within _ lines))
 
-removes_lead : (history : History) (change : Change) (size : ℕ) (rest : List ℕ) (got left : List (List ℕ)) (more : List ℕ) → Fits history change → got ++ left ≡ change.removes → All IsWrittenHash left
-    → (settled (kept_at history rest) (begun_with size change change.adds got) >>= λ next. after_bytes next (flat_map remove_line left ++ more)) ≡ after_bytes (at_history (with_change change history)) more
-removes_lead history change size rest got [] more fits are well =
-    ap (λ gs. settled (kept_at history rest) (begun_with size change change.adds gs) >>= λ next. after_bytes next more) (sym (append-nil got) ∙ are)
-    ∙ ap (λ r. r >>= λ next. after_bytes next more) (whole_change history change size rest fits)
-removes_lead history change size rest got (hash ∷ left) more fits are well =
+removes_lead : (sized : Bool) (history : History) (change : Change) (size : ℕ) (rest : List ℕ) (got left : List (List ℕ)) (more : List ℕ) → Fits sized history change → got ++ left ≡ change.removes → All IsWrittenHash left
+    → (settled (kept_at sized history rest) (begun_with size change change.adds got) >>= λ next. after_bytes next (flat_map remove_line left ++ more)) ≡ after_bytes (at_history sized (with_change change history)) more
+removes_lead sized history change size rest got [] more fits are well =
+    ap (λ gs. settled (kept_at sized history rest) (begun_with size change change.adds gs) >>= λ next. after_bytes next more) (sym (append-nil got) ∙ are)
+    ∙ ap (λ r. r >>= λ next. after_bytes next more) (whole_change sized history change size rest fits)
+removes_lead sized history change size rest got (hash ∷ left) more fits are well =
     let long = length-append got (hash ∷ left) in
     let same = append_assoc got (hash ∷ []) left in
     let next_long = length-append got (hash ∷ []) in
     let lines = fits.lines in
-    ap (λ r. r >>= λ next. after_bytes next (flat_map remove_line (hash ∷ left) ++ more)) (open_removes history change size rest change.adds got (omega (arith, long, ap length are)))
-    ∙ ap (after_bytes (record { kept = kept_at history rest; begun = Some (begun_with size change change.adds got) })) (append_assoc (remove_line hash) (flat_map remove_line left) more)
-    ∙ remove_next history change size rest got hash (flat_map remove_line left ++ more) (All-head IsWrittenHash hash left well) (omega (arith, lines, long, next_long, ap length are))
-    ∙ removes_lead history change size (rest ++ remove_line hash) (got ++ hash ∷ []) left more fits (same ∙ are) (All-tail IsWrittenHash hash left well)
+    ap (λ r. r >>= λ next. after_bytes next (flat_map remove_line (hash ∷ left) ++ more)) (open_removes sized history change size rest change.adds got (omega (arith, long, ap length are)))
+    ∙ ap (after_bytes (record { kept = kept_at sized history rest; begun = Some (begun_with size change change.adds got) })) (append_assoc (remove_line hash) (flat_map remove_line left) more)
+    ∙ remove_next sized history change size rest got hash (flat_map remove_line left ++ more) (All-head IsWrittenHash hash left well) (omega (arith, lines, long, next_long, ap length are))
+    ∙ removes_lead sized history change size (rest ++ remove_line hash) (got ++ hash ∷ []) left more fits (same ∙ are) (All-tail IsWrittenHash hash left well)
 
 -- a line that adds
-add_next : (history : History) (change : Change) (size : ℕ) (rest : List ℕ) (got : List Added) (added : Added) (more : List ℕ) → IsWritten added → length got < length change.adds
+add_next : (sized : Bool) (history : History) (change : Change) (size : ℕ) (rest : List ℕ) (got : List Added) (added : Added) (more : List ℕ) → IsWritten added → IsOfForm sized size added → length got < length change.adds
     → hash_lines history.changes + (length (got ++ added ∷ []) + 0) ≤ 2097152
-    → after_bytes (record { kept = kept_at history rest; begun = Some (begun_with size change got []) }) (add_line added ++ more)
-    ≡ (settled (kept_at history (rest ++ add_line added)) (begun_with size change (got ++ added ∷ []) []) >>= λ next. after_bytes next more)
-add_next history change size rest got added more h next lines =
-    let line = 43 ∷ join_with_byte 32 (add_words added) in
+    → after_bytes (record { kept = kept_at sized history rest; begun = Some (begun_with size change got []) }) (add_line sized added ++ more)
+    ≡ (settled (kept_at sized history (rest ++ add_line sized added)) (begun_with size change (got ++ added ∷ []) []) >>= λ next. after_bytes next more)
+add_next sized history change size rest got added more h of next lines =
+    let line = 43 ∷ join_with_byte 32 (add_words sized added) in
     let begun = begun_with size change got [] in
-    leads_line (record { kept = kept_at history rest; begun = Some begun }) line more (signed_line 43 (join_with_byte 32 (add_words added)) refl (one_line (encode_lower added.hash) (decimal added.size ∷ []) (are_add added h))) (add_short added h)
+    leads_line (record { kept = kept_at sized history rest; begun = Some begun }) line more (signed_line 43 (join_with_byte 32 (add_words sized added)) refl (add_line_is sized added h)) (add_short sized added h)
     ∙ ap (λ r. r >>= λ next. after_bytes next more)
-    (line_add (kept_at history rest) begun line (below _ _ next) (add_short added h)
-    ∙ ap (with_add (kept_at history (rest ++ add_line added)) begun) (add_read size added h)
+    (line_add (kept_at sized history rest) begun line (below _ _ next) (add_short sized added h)
+    ∙ ap (with_add (kept_at sized history (rest ++ add_line sized added)) begun) (add_read sized size added h of)
     ∙ choose_false _ _ _ (within _ lines))
 
-adds_lead : (history : History) (change : Change) (size : ℕ) (rest : List ℕ) (got left : List Added) (more : List ℕ) → Fits history change → got ++ left ≡ change.adds → All IsWritten left
-    → (settled (kept_at history rest) (begun_with size change got []) >>= λ next. after_bytes next (flat_map add_line left ++ (flat_map remove_line change.removes ++ more)))
-    ≡ after_bytes (at_history (with_change change history)) more
-adds_lead history change size rest got [] more fits are well =
-    ap (λ gs. settled (kept_at history rest) (begun_with size change gs []) >>= λ next. after_bytes next (flat_map remove_line change.removes ++ more)) (sym (append-nil got) ∙ are)
-    ∙ removes_lead history change size rest [] change.removes more fits refl fits.hashes
-adds_lead history change size rest got (added ∷ left) more fits are well =
+adds_lead : (sized : Bool) (history : History) (change : Change) (size : ℕ) (rest : List ℕ) (got left : List Added) (more : List ℕ) → Fits sized history change → got ++ left ≡ change.adds → All IsWritten left → All (IsOfForm sized size) left
+    → (settled (kept_at sized history rest) (begun_with size change got []) >>= λ next. after_bytes next (flat_map (add_line sized) left ++ (flat_map remove_line change.removes ++ more)))
+    ≡ after_bytes (at_history sized (with_change change history)) more
+adds_lead sized history change size rest got [] more fits are well form =
+    ap (λ gs. settled (kept_at sized history rest) (begun_with size change gs []) >>= λ next. after_bytes next (flat_map remove_line change.removes ++ more)) (sym (append-nil got) ∙ are)
+    ∙ removes_lead sized history change size rest [] change.removes more fits refl fits.hashes
+adds_lead sized history change size rest got (added ∷ left) more fits are well form =
     let long = length-append got (added ∷ left) in
     let same = append_assoc got (added ∷ []) left in
     let next_long = length-append got (added ∷ []) in
     let lines = fits.lines in
     let after = flat_map remove_line change.removes ++ more in
     let next : length got < length change.adds = omega (arith, long, ap length are) in
-    ap (λ r. r >>= λ next. after_bytes next (flat_map add_line (added ∷ left) ++ after)) (open_adds history change size rest got [] next)
-    ∙ ap (after_bytes (record { kept = kept_at history rest; begun = Some (begun_with size change got []) })) (append_assoc (add_line added) (flat_map add_line left) after)
-    ∙ add_next history change size rest got added (flat_map add_line left ++ after) (All-head IsWritten added left well) next (omega (arith, lines, long, next_long, ap length are))
-    ∙ adds_lead history change size (rest ++ add_line added) (got ++ added ∷ []) left more fits (same ∙ are) (All-tail IsWritten added left well)
+    ap (λ r. r >>= λ next. after_bytes next (flat_map (add_line sized) (added ∷ left) ++ after)) (open_adds sized history change size rest got [] next)
+    ∙ ap (after_bytes (record { kept = kept_at sized history rest; begun = Some (begun_with size change got []) })) (append_assoc (add_line sized added) (flat_map (add_line sized) left) after)
+    ∙ add_next sized history change size rest got added (flat_map (add_line sized) left ++ after) (All-head IsWritten added left well) (All-head (IsOfForm sized size) added left form) next (omega (arith, lines, long, next_long, ap length are))
+    ∙ adds_lead sized history change size (rest ++ add_line sized added) (got ++ added ∷ []) left more fits (same ∙ are) (All-tail IsWritten added left well) (All-tail (IsOfForm sized size) added left form)
 
 -- the declared size of a list that is declared
 found_any : {X : Type 0} (p : X → Bool) (xs : List X) → list_any p xs ≡ true → (x : X) × (find p xs ≡ Some x)
@@ -335,37 +365,37 @@ size_known history name h =
 few_changes : (n : ℕ) → n < 65536 → nat_le most_changes n ≡ false
 few_changes n h = grind (arith, nat_tests)
 
-is_begun : (history : History) (change : Change) (size : ℕ) (rest : List ℕ) → 1 ≤ length change.adds + length change.removes
-    → settled (kept_at history rest) (begun_with size change [] []) ≡ Ok (record { kept = kept_at history rest; begun = Some (begun_with size change [] []) })
-is_begun history change size rest h = by_adds (length change.adds) refl
+is_begun : (sized : Bool) (history : History) (change : Change) (size : ℕ) (rest : List ℕ) → 1 ≤ length change.adds + length change.removes
+    → settled (kept_at sized history rest) (begun_with size change [] []) ≡ Ok (record { kept = kept_at sized history rest; begun = Some (begun_with size change [] []) })
+is_begun sized history change size rest h = by_adds (length change.adds) refl
   where
-    by_adds : (n : ℕ) → length change.adds ≡ n → settled (kept_at history rest) (begun_with size change [] []) ≡ Ok (record { kept = kept_at history rest; begun = Some (begun_with size change [] []) })
-    by_adds zero e = open_removes history change size rest [] [] (omega (arith, h, e))
-    by_adds (suc n) e = open_adds history change size rest [] [] (omega (arith, e))
+    by_adds : (n : ℕ) → length change.adds ≡ n → settled (kept_at sized history rest) (begun_with size change [] []) ≡ Ok (record { kept = kept_at sized history rest; begun = Some (begun_with size change [] []) })
+    by_adds zero e = open_removes sized history change size rest [] [] (omega (arith, h, e))
+    by_adds (suc n) e = open_adds sized history change size rest [] [] (omega (arith, e))
 
-change_begins : (history : History) (change : Change) (size : ℕ) (more : List ℕ) → Fits history change → declared_size_of history change.list ≡ Some size
-    → after_bytes (at_history history) (change_line change ++ more) ≡ (settled (kept_at history (change_line change)) (begun_with size change [] []) >>= λ next. after_bytes next more)
-change_begins history change size more fits known =
+change_begins : (sized : Bool) (history : History) (change : Change) (size : ℕ) (more : List ℕ) → Fits sized history change → declared_size_of history change.list ≡ Some size
+    → after_bytes (at_history sized history) (change_line change ++ more) ≡ (settled (kept_at sized history (change_line change)) (begun_with size change [] []) >>= λ next. after_bytes next more)
+change_begins sized history change size more fits known =
     let adds = length change.adds in
     let removes = length change.removes in
     let line = join_with_byte 32 (change_words change.list adds removes) in
     let short = change_short change.list adds removes fits.few in
-    leads_line (at_history history) line more (one_line (codes "change") (text_of change.list ∷ decimal adds ∷ decimal removes ∷ []) (are_change change.list adds removes fits.few)) short
+    leads_line (at_history sized history) line more (one_line (codes "change") (text_of change.list ∷ decimal adds ∷ decimal removes ∷ []) (are_change change.list adds removes fits.few)) short
     ∙ ap (λ r. r >>= λ next. after_bytes next more)
-    (head_line history line (head.Change change.list adds removes) short (change_read change.list adds removes fits.some fits.few)
-    ∙ ap (after_change_line (kept_at history (change_line change)) change.list adds removes) known
+    (head_line sized history line (head.Change change.list adds removes) short (change_read change.list adds removes fits.some fits.few)
+    ∙ ap (after_change_line (kept_at sized history (change_line change)) change.list adds removes) known
     ∙ choose_false (nat_le most_changes (length history.changes)) _ _ (few_changes (length history.changes) fits.room)
-    ∙ sym (is_begun history change size (change_line change) fits.some))
+    ∙ sym (is_begun sized history change size (change_line change) fits.some))
 
-change_leads : (history : History) (change : Change) → Fits history change → Leads (at_history history) (change_text change) (at_history (with_change change history))
+change_leads : (sized : Bool) (history : History) (change : Change) → Fits sized history change → Leads (at_history sized history) (change_text sized change) (at_history sized (with_change change history))
 unfolding change_text
-change_leads history change fits more =
+change_leads sized history change fits more =
     let size = size_known history change.list fits.known in
-    let adds = flat_map add_line change.adds in
+    let adds = flat_map (add_line sized) change.adds in
     let removes = flat_map remove_line change.removes in
-    ap (after_bytes (at_history history)) (append_assoc (change_line change ++ adds) removes more ∙ append_assoc (change_line change) adds (removes ++ more))
-    ∙ change_begins history change size.0 (adds ++ (removes ++ more)) fits size.1
-    ∙ adds_lead history change size.0 (change_line change) [] change.adds more fits refl fits.written
+    ap (after_bytes (at_history sized history)) (append_assoc (change_line change ++ adds) removes more ∙ append_assoc (change_line change) adds (removes ++ more))
+    ∙ change_begins sized history change size.0 (adds ++ (removes ++ more)) fits size.1
+    ∙ adds_lead sized history change size.0 (change_line change) [] change.adds more fits refl fits.written (fits.form size.0 size.1)
 
 -- ---- all changes
 
@@ -418,8 +448,36 @@ are_hashes (hash ∷ hashes) h k =
 next_of : (P : Change → Type 0) (changes got left : List Change) (change : Change) → got ++ change ∷ left ≡ changes → All P changes → P change
 next_of P changes got left change are h = All-head P change left (after_all P got (change ∷ left) (subst (All P) (sym are) h))
 
-change_fits : (history : History) (got left : List Change) (change : Change) → HasJournal history → got ++ change ∷ left ≡ history.changes → Fits (up_to history got) change
-change_fits history got left change h are =
+-- a journal of the second form can have any sizes
+abbrev HasSizes : Bool → History → Type 0
+HasSizes true history = ⊤
+HasSizes false history = HasDeclaredSizes history
+
+abbrev HasDeclaredSize : Option ℕ → Change → Type 0
+HasDeclaredSize known change = All (λ (added : Added). known ≡ Some added.size) change.adds
+
+-- a change of the first form
+of_declared : (known : Option ℕ) (size : ℕ) (adds : List Added) → known ≡ Some size → All (λ (added : Added). known ≡ Some added.size) adds → All (IsOfForm false size) adds
+of_declared known size [] e h = All-nil (IsOfForm false size)
+of_declared known size (added ∷ adds) e h =
+    let here : known ≡ Some added.size = All-head (λ (a : Added). known ≡ Some a.size) added adds h in
+    let same : Some size ≡ Some added.size = sym e ∙ here in
+    let is : size ≡ added.size = cc in
+    All-cons (IsOfForm false size) added adds is (of_declared known size adds e (All-tail (λ (a : Added). known ≡ Some a.size) added adds h))
+
+of_any : (size : ℕ) (adds : List Added) → All (IsOfForm true size) adds
+of_any size [] = All-nil (IsOfForm true size)
+of_any size (added ∷ adds) = All-cons (IsOfForm true size) added adds tt (of_any size adds)
+
+change_form : (sized : Bool) (history : History) (got left : List Change) (change : Change) → HasSizes sized history → got ++ change ∷ left ≡ history.changes
+    → (size : ℕ) → declared_size_of history change.list ≡ Some size → All (IsOfForm sized size) change.adds
+change_form true history got left change h are size e = of_any size change.adds
+change_form false history got left change h are size e =
+    of_declared (declared_size_of history change.list) size change.adds e
+    (next_of (λ (c : Change). HasDeclaredSize (declared_size_of history c.list) c) history.changes got left change are h)
+
+change_fits : (sized : Bool) (history : History) (got left : List Change) (change : Change) → HasJournal history → HasSizes sized history → got ++ change ∷ left ≡ history.changes → Fits sized (up_to history got) change
+change_fits sized history got left change h sizes are =
     let lines = next_of (HasLines history) history.changes got left change are h.changes in
     let long = length-append got (change ∷ left) in
     let count : hash_lines history.changes ≡ hash_lines got + hash_lines (change ∷ left) = ap hash_lines (sym are) ∙ sum_by-append (λ (c : Change). length c.adds + length c.removes) got (change ∷ left) in
@@ -435,19 +493,20 @@ change_fits history got left change h are =
       known = lines.declared;
       room = omega (arith, long, ap length are, few);
       lines = omega (arith, count, these, this, most);
+      form = change_form sized history got left change sizes are;
       limits = fits_limits history got left change h are;
     }
 
-changes_lead : (history : History) (got left : List Change) → HasJournal history → got ++ left ≡ history.changes
-    → Leads (at_history (up_to history got)) (flat_map change_text left) (at_history (up_to history (got ++ left)))
-changes_lead history got [] h are more = ap (λ cs. after_bytes (at_history (up_to history cs)) more) (sym (append-nil got))
-changes_lead history got (change ∷ left) h are more =
+changes_lead : (sized : Bool) (history : History) (got left : List Change) → HasJournal history → HasSizes sized history → got ++ left ≡ history.changes
+    → Leads (at_history sized (up_to history got)) (flat_map (change_text sized) left) (at_history sized (up_to history (got ++ left)))
+changes_lead sized history got [] h sizes are more = ap (λ cs. after_bytes (at_history sized (up_to history cs)) more) (sym (append-nil got))
+changes_lead sized history got (change ∷ left) h sizes are more =
     let same = append_assoc got (change ∷ []) left in
     let now = got ++ change ∷ [] in
-    leads_then (at_history (up_to history got)) (at_history (up_to history now)) (at_history (up_to history (now ++ left))) (change_text change) (flat_map change_text left)
-    (change_leads (up_to history got) change (change_fits history got left change h are))
-    (changes_lead history now left h (same ∙ are)) more
-    ∙ ap (λ cs. after_bytes (at_history (up_to history cs)) more) same
+    leads_then (at_history sized (up_to history got)) (at_history sized (up_to history now)) (at_history sized (up_to history (now ++ left))) (change_text sized change) (flat_map (change_text sized) left)
+    (change_leads sized (up_to history got) change (change_fits sized history got left change h sizes are))
+    (changes_lead sized history now left h sizes (same ∙ are)) more
+    ∙ ap (λ cs. after_bytes (at_history sized (up_to history cs)) more) same
 
 -- ---- a whole journal
 
@@ -455,22 +514,34 @@ after_first_line : (line : List ℕ) (parts : List (List ℕ)) → 0 < length pa
 after_first_line line [] h = absurd (omega arith)
 after_first_line line (part ∷ parts) h = refl
 
-header_leads : (epoch : ℕ) (more : List ℕ) → epoch < 2 ^ 64 → kept_of (header_line epoch ++ more) ≡ after_bytes (at_history (empty_history epoch)) more
+header_leads : (sized : Bool) (epoch : ℕ) (more : List ℕ) → epoch < 2 ^ 64
+    → kept_of (header_line (header_with sized epoch) ++ more) ≡ after_bytes (at_history sized (empty_history epoch)) more
 unfolding kept_of
-header_leads epoch more h =
-    let line = join_with_byte 32 (header_words epoch) in
-    let is : IsLine (header_line epoch) line [] = record { whole = refl; within = one_line (codes "sblist") (codes "2" ∷ encode_lower (to_be_bytes w64 epoch) ∷ []) (are_header epoch); short = header_short epoch } in
-    ap after_first (parts_line (header_line epoch) line [] more is)
+header_leads sized epoch more h =
+    let header = header_with sized epoch in
+    let line = join_with_byte 32 (header_words header) in
+    let is : IsLine (header_line header) line [] = record {
+      whole = refl;
+      within = one_line (codes "sblist") (form_word sized ∷ encode_lower (to_be_bytes w64 epoch) ∷ []) (are_header sized epoch);
+      short = header_short sized epoch;
+    } in
+    ap after_first (parts_line (header_line header) line [] more is)
     ∙ after_first_line line (slice_split is_newline more) (parts_some is_newline more)
-    ∙ ap (λ r. after_header r (slice_split is_newline more)) (short_is line (header_of line) (header_short epoch) ∙ header_read epoch h)
+    ∙ ap (λ r. after_header r (slice_split is_newline more)) (short_is line (header_of line) (header_short sized epoch) ∙ header_read sized epoch h)
 
-pub journal_back : (history : History) → HasJournal history → kept_of (journal_text history) ≡ Ok (wholly history)
+journal_back : (sized : Bool) (history : History) → HasJournal history → HasSizes sized history → kept_of (journal_text sized history) ≡ Ok (wholly sized history)
 unfolding journal_text
-journal_back history h =
+journal_back sized history h sizes =
     let lists = flat_map list_line history.declared in
-    let changes = flat_map change_text history.changes in
-    ap kept_of (append_assoc (header_line history.epoch) lists changes)
-    ∙ header_leads history.epoch (lists ++ changes) h.epoch
-    ∙ lists_lead history.epoch [] history.declared h.apart h.well_formed.declared h.few_lists changes
-    ∙ ap (after_bytes (at_history (up_to history []))) (sym (append-nil changes))
-    ∙ changes_lead history [] history.changes h refl []
+    let changes = flat_map (change_text sized) history.changes in
+    ap kept_of (append_assoc (header_line (header_with sized history.epoch)) lists changes)
+    ∙ header_leads sized history.epoch (lists ++ changes) h.epoch
+    ∙ lists_lead sized history.epoch [] history.declared h.apart h.well_formed.declared h.few_lists changes
+    ∙ ap (after_bytes (at_history sized (up_to history []))) (sym (append-nil changes))
+    ∙ changes_lead sized history [] history.changes h sizes refl []
+
+pub sized_journal_back : (history : History) → HasJournal history → kept_of (journal_text true history) ≡ Ok (wholly true history)
+sized_journal_back history h = journal_back true history h tt
+
+pub plain_journal_back : (history : History) → HasJournal history → HasDeclaredSizes history → kept_of (journal_text false history) ≡ Ok (wholly false history)
+plain_journal_back history h sizes = journal_back false history h sizes

@@ -1,6 +1,6 @@
 -- The text of a journal that tells a history: its first line, a line for each declared list, and then the changes, the
--- oldest first. It has the second form, and each line that adds names a size.
-use Rattle.std.specs.Prelude.{◌≡◌, ℕ, ◌+◌, ◌^◌, ◌<◌, ◌≤◌, ⊤, false, true, List, [], ◌∷◌, ◌++◌, length, All, codes, decimal}
+-- oldest first. In the second form each line that adds names a size, and in the first form none does.
+use Rattle.std.specs.Prelude.{◌≡◌, ℕ, ◌+◌, ◌^◌, ◌<◌, ◌≤◌, ⊤, Bool, false, true, Some, List, [], ◌∷◌, ◌++◌, length, All, codes, decimal}
 use Rattle.std.specs.Int.{w64, to_be_bytes}
 use Rattle.std.specs.List.{flat_map, join_with_byte}
 use Rattle.hex.specs.Hex.{IsBytes, encode_lower}
@@ -9,7 +9,8 @@ use Rattle.sb_model.specs.declared.history.Change.{Change}
 use Rattle.sb_model.specs.declared.names.ListName.{ListName}
 use Rattle.sb_model.specs.Names.{same_name, text_of}
 use Rattle.sb_model.specs.History.{History, IsWellFormed, declares}
-use Rattle.list_versions.specs.Journal.{Kept}
+use Rattle.list_versions.specs.declared.heads.Header.{Header}
+use Rattle.list_versions.specs.Journal.{Kept, declared_size_of}
 use Rattle.list_versions.specs.Limits.{WithinLimits, hash_lines, most_changes, most_hash_lines, most_lists}
 use Rattle.list_versions.specs.Lines.{newline}
 
@@ -17,9 +18,14 @@ use Rattle.list_versions.specs.Lines.{newline}
 abbrev pub line_of : List (List ℕ) → List ℕ
 line_of words = join_with_byte 32 words ++ newline ∷ []
 
--- the first line, with the epoch in 16 digits
-abbrev pub header_line : ℕ → List ℕ
-header_line epoch = line_of (codes "sblist" ∷ codes "2" ∷ encode_lower (to_be_bytes w64 epoch) ∷ [])
+-- the form: the second has sizes
+abbrev pub form_word : Bool → List ℕ
+form_word true = codes "2"
+form_word false = codes "1"
+
+-- the first line, with the form, and the epoch in 16 digits
+abbrev pub header_line : Header → List ℕ
+header_line header = line_of (codes "sblist" ∷ form_word header.sized ∷ encode_lower (to_be_bytes w64 header.epoch) ∷ [])
 
 -- the line that declares a list: its name, and its declared size
 abbrev pub list_line : ListName × ℕ → List ℕ
@@ -30,21 +36,29 @@ abbrev pub change_line : Change → List ℕ
 change_line change =
     line_of (codes "change" ∷ text_of change.list ∷ decimal (length change.adds) ∷ decimal (length change.removes) ∷ [])
 
--- `+`, a hash and its size
-abbrev pub add_line : Added → List ℕ
-add_line added = 43 ∷ line_of (encode_lower added.hash ∷ decimal added.size ∷ [])
+-- `+` and a hash, and in the second form its size
+abbrev pub add_words : Bool → Added → List (List ℕ)
+add_words true added = encode_lower added.hash ∷ decimal added.size ∷ []
+add_words false added = encode_lower added.hash ∷ []
+
+abbrev pub add_line : Bool → Added → List ℕ
+add_line sized added = 43 ∷ line_of (add_words sized added)
 
 -- `-` and a hash
 abbrev pub remove_line : List ℕ → List ℕ
 remove_line hash = 45 ∷ line_of (encode_lower hash ∷ [])
 
 -- a change: the line that begins it, then what it adds, and then what it removes
-unfoldable pub change_text : Change → List ℕ
-change_text change = change_line change ++ flat_map add_line change.adds ++ flat_map remove_line change.removes
+unfoldable pub change_text : Bool → Change → List ℕ
+change_text sized change = change_line change ++ flat_map (add_line sized) change.adds ++ flat_map remove_line change.removes
+
+abbrev pub header_of_history : Bool → History → Header
+header_of_history sized history = record { sized = sized; epoch = history.epoch }
 
 -- a whole journal
-unfoldable pub journal_text : History → List ℕ
-journal_text history = header_line history.epoch ++ flat_map list_line history.declared ++ flat_map change_text history.changes
+unfoldable pub journal_text : Bool → History → List ℕ
+journal_text sized history =
+    header_line (header_of_history sized history) ++ flat_map list_line history.declared ++ flat_map (change_text sized) history.changes
 
 -- ---- what a journal can tell
 
@@ -73,6 +87,10 @@ pub record HasJournal (history : History) : Type 0 where
   pub few_hashes : hash_lines history.changes ≤ most_hash_lines
   pub within : WithinLimits history
 
+-- Each hash that a change adds has the declared size of its list: then a journal of the first form tells it too.
+abbrev pub HasDeclaredSizes : History → Type 0
+HasDeclaredSizes history = All (λ change. All (λ added. declared_size_of history change.list ≡ Some added.size) change.adds) history.changes
+
 -- what such a journal says: this history, and nothing after it
-abbrev pub wholly : History → Kept
-wholly history = record { sized = true; versions = history; rest = [] }
+abbrev pub wholly : Bool → History → Kept
+wholly sized history = record { sized = sized; versions = history; rest = [] }

@@ -4,6 +4,7 @@ ghost use Rattle.sb_model.specs.Names.{text_of};
 ghost use Rattle.list_versions.specs.Lines.{newline};
 ghost use Rattle.list_versions.specs.Written.{header_line, list_line, change_line, add_line, remove_line, change_text};
 
+use crate::Header;
 use hash_prefixes::append_hex;
 use sb_model::{Added, Bytes, Change, ListName, OutOfMemory};
 
@@ -19,13 +20,16 @@ fn push_name(page: &mut Bytes, name: ListName) -> Result<(), OutOfMemory>
     page.append(name.entry.word().as_bytes())
 }
 
-/// Appends the first line of a journal of the second form. After an `Err` the page begins as it was.
-pub fn push_header(page: &mut Bytes, epoch: u64) -> Result<(), OutOfMemory>
-    ensures ok { OnOk result (page.new ≡ page.old ++ header_line epoch) }
+/// Appends the first line of a journal: of the second form where it is sized, and else of the first. After an `Err` the page
+/// begins as it was.
+pub fn push_header(page: &mut Bytes, header: Header) -> Result<(), OutOfMemory>
+    ensures ok { OnOk result (page.new ≡ page.old ++ header_line header) }
     ensures front { OnErr result (take (length page.old) page.new ≡ page.old) }
 {
-    page.append(b"sblist 2 ")?;
-    append_hex(page, &epoch.to_be_bytes())?;
+    page.append(b"sblist ")?;
+    page.push(if header.sized { b'2' } else { b'1' })?;
+    page.push(b' ')?;
+    append_hex(page, &header.epoch.to_be_bytes())?;
     page.push(b'\n')
 }
 
@@ -64,15 +68,17 @@ fn push_change_line(page: &mut Bytes, change: &Change) -> Result<(), OutOfMemory
     push_counts(page, change.adds.len() as u64, change.removes.len() as u64)
 }
 
-// Appends a line that adds.
-fn push_add(page: &mut Bytes, added: &Added) -> Result<(), OutOfMemory>
-    ensures ok { OnOk result (page.new ≡ page.old ++ add_line added.now) }
+// Appends a line that adds, with a size or without.
+fn push_add(page: &mut Bytes, sized: bool, added: &Added) -> Result<(), OutOfMemory>
+    ensures ok { OnOk result (page.new ≡ page.old ++ add_line sized added.now) }
     ensures front { OnErr result (take (length page.old) page.new ≡ page.old) }
 {
     page.push(b'+')?;
     append_hex(page, &added.hash)?;
-    page.push(b' ')?;
-    page.append_decimal(u64::from(added.size))?;
+    if sized {
+        page.push(b' ')?;
+        page.append_decimal(u64::from(added.size))?;
+    }
     page.push(b'\n')
 }
 
@@ -87,12 +93,12 @@ fn push_remove(page: &mut Bytes, hash: &[u8; 32]) -> Result<(), OutOfMemory>
 }
 
 // Appends the lines that add.
-fn push_adds(page: &mut Bytes, adds: &[Added]) -> Result<(), OutOfMemory>
-    ensures ok { OnOk result (page.new ≡ page.old ++ flat_map add_line adds.now) }
+fn push_adds(page: &mut Bytes, sized: bool, adds: &[Added]) -> Result<(), OutOfMemory>
+    ensures ok { OnOk result (page.new ≡ page.old ++ flat_map (add_line sized) adds.now) }
     ensures front { OnErr result (take (length page.old) page.new ≡ page.old) }
 {
     for added in adds {
-        push_add(page, added)?;
+        push_add(page, sized, added)?;
     }
     Ok(())
 }
@@ -108,14 +114,14 @@ fn push_removes(page: &mut Bytes, removes: &[[u8; 32]]) -> Result<(), OutOfMemor
     Ok(())
 }
 
-/// Appends a change: the line that begins it, and its hash lines, those that add first. A change with
-/// 1,024 hashes has about 70,000 bytes. After an `Err` the page begins as it was.
+/// Appends a change: the line that begins it, and its hash lines, those that add first, which name their sizes where the
+/// journal is sized. A change with 1,024 hashes has about 70,000 bytes. After an `Err` the page begins as it was.
 #[tactic(auto, unfolding(crate::specs::Written::change_text))]
-pub fn push_change(page: &mut Bytes, change: &Change) -> Result<(), OutOfMemory>
-    ensures ok { OnOk result (page.new ≡ page.old ++ change_text change.now) }
+pub fn push_change(page: &mut Bytes, sized: bool, change: &Change) -> Result<(), OutOfMemory>
+    ensures ok { OnOk result (page.new ≡ page.old ++ change_text sized change.now) }
     ensures front { OnErr result (take (length page.old) page.new ≡ page.old) }
 {
     push_change_line(page, change)?;
-    push_adds(page, change.adds.as_slice())?;
+    push_adds(page, sized, change.adds.as_slice())?;
     push_removes(page, change.removes.as_slice())
 }

@@ -25,11 +25,15 @@ use std::alloc::Global;
 use update_messages::{values_read_one_way, values_read_or_have_a_fault};
 
 /// What is printed where the words are no command line.
-pub const USAGE: &str =
-    "usage: sblistd answer --journal PATH --kind fetch|find [--wait S] [--find-wait S] [--cache S] [--negative S]\n       \
-    sblistd serve --journal PATH --listen HOST:PORT [--connections N] [--wait S] [--find-wait S] [--cache S] [--negative S]\n       \
-    sblistd generate [--urls] N SEED\n       \
-    sblistd exercise N SEED\n";
+pub const USAGE: &str = "usage: sblistd COMMAND\n\n  \
+    sblistd answer --journal PATH --kind fetch|find [--wait S] [--find-wait S] [--cache S] [--negative S]\n      \
+    reads a request for updates or for full hashes, and writes the answer from the lists of a journal\n  \
+    sblistd serve --journal PATH --listen HOST:PORT [--connections N] [--wait S] [--find-wait S] [--cache S] [--negative S]\n      \
+    serves the lists of a journal over HTTP\n  \
+    sblistd generate [--urls] N SEED\n      \
+    writes the journal of N changes that a seed makes, or N URLs\n  \
+    sblistd exercise N SEED\n      \
+    loads such a journal in memory, asks for its list twice, and writes how many entries came\n";
 
 /// Tells how the program is used.
 fn tell_usage<O: Sink>(out: &mut O) -> u8

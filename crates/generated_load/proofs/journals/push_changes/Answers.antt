@@ -1,9 +1,8 @@
-use Rattle.std.proofs.Common.{◌≡◌, ◌+◌, ◌++◌, sym, ap, ◌∙◌, append-nil}
-use Rattle.sb_model.specs.declared.history.Change.{Change}
+use Rattle.std.proofs.Common.{◌≡◌, ◌+◌, false, sym, ap, ◌∙◌, append-nil}
 use Rattle.list_versions.specs.Written.{change_text}
 use Rattle.generated_load.specs.Generated.{hash_of, number_after, number_at}
 use Rattle.generated_load.proofs.Places.{change_more, number_first, number_next}
-use Rattle.generated_load.proofs.journals.push_sized_changes.Goals as goal
+use Rattle.generated_load.proofs.journals.push_changes.Goals as goal
 
 pub loop-place-init : goal.loop-place-init
 loop-place-init c =
@@ -15,10 +14,9 @@ loop-place-preserved c =
     let inv = c.loop-place.invariant in
     let place = c.loop-place.place in
     let next : c.number_after.result ≡ number_at c.args.seed (place + 1) = c.number_after.ensures ∙ ap number_after inv.0 ∙ sym (number_next c.args.seed place) in
-    let hash = c.in_ok-next.ensures.hash ∙ ap hash_of next in
-    let text = c.in_ok-push_change.ensures.ok ∙ ap (λ (change : Change). c.loop-place.page ++ change_text change) c.in_ok-change.ensures in (
+    let hash = c.in_ok-next.ensures.hash ∙ ap hash_of next in (
       c.in_ok-next.ensures.number ∙ next,
       hash,
-      change_more change_text c.args.seed place c.args.page.now c.loop-place.host.hash c.in_ok-next.next.hash c.loop-place.page c.push_change.new.page
-          inv.1 hash inv.2 text,
+      change_more (change_text false) c.args.seed place c.args.page.now c.loop-place.host.hash c.in_ok-next.next.hash c.loop-place.page c.push_change_lines.new.page
+          inv.1 hash inv.2 c.in_ok-push_change_lines.ensures,
     )
