@@ -4,7 +4,7 @@ ghost use Rattle.timed_sessions.specs.Told.{outside};
 ghost use Rattle.input_lines.specs.Lines.{lines_of};
 ghost use Rattle.update_client.specs.Held.{Held, tokens_of};
 ghost use Rattle.url_checker.specs.Checking.{IsFindingOf};
-ghost use Rattle.url_checker.specs.Hits.{AreAskable};
+ghost use Rattle.url_checker.specs.Hits.{AreAskable, MarksAll};
 ghost use Rattle.url_checker.specs.Resolved.{StopsResolving};
 ghost use Rattle.judge_run.specs.Judging.{find_state, first_finds, JudgesLine, JudgesLines, HasJudged, BreaksOff, StopsJudging};
 
@@ -16,7 +16,7 @@ use sb_outside::{Clock, Dice, Link};
 use std::alloc::Global;
 use timed_sessions::traces_go_on;
 use update_client::ClientLists;
-use url_checker::{CheckFault, Finding, local_check_on, resolve};
+use url_checker::{CheckFault, Finding, Sizes, local_check_with, resolve, sizes_on};
 use verdict_report::Judged;
 use wait_rules::WaitState;
 
@@ -75,6 +75,7 @@ fn judge_line<L: Link, C: Clock, D: Dice>(
     alloc: Global,
     plan: &JudgePlan,
     lists: &ClientLists,
+    sizes: &Sizes,
     states: &Row<Bytes>,
     line: &[u8],
     cache: &mut FullHashCache,
@@ -83,6 +84,7 @@ fn judge_line<L: Link, C: Clock, D: Dice>(
     clock: &mut C,
     dice: &mut D,
 ) -> Result<Judged, OutOfMemory>
+    requires marked { MarksAll sizes.now.marks lists.now }
     requires states { states.now ≡ tokens_of lists.now }
     requires target { IsTarget plan.now.target }
     ensures judged { IfOk result (λ one. JudgesLine plan.now lists.now (find_state cache.old waits.old) (find_state cache.new waits.new)
@@ -95,7 +97,7 @@ fn judge_line<L: Link, C: Clock, D: Dice>(
     ensures unmoved { OnErr result (L.faults link.new ≡ L.faults link.old) }
     ensures counted { L.faults link.old ≤ L.faults link.new }
 {
-    match local_check_on(alloc, lists, 0, line) {
+    match local_check_with(alloc, lists, sizes, 0, line) {
         Ok(finding) => judge_finding(
             alloc, plan, finding, states, cache, waits, link, clock, dice,
         ),
@@ -109,6 +111,7 @@ fn judge_lines<L: Link, C: Clock, D: Dice>(
     alloc: Global,
     plan: &JudgePlan,
     lists: &ClientLists,
+    sizes: &Sizes,
     states: &Row<Bytes>,
     input: &[u8],
     cache: &mut FullHashCache,
@@ -117,6 +120,7 @@ fn judge_lines<L: Link, C: Clock, D: Dice>(
     clock: &mut C,
     dice: &mut D,
 ) -> Result<Row<Judged>, OutOfMemory>
+    requires marked { MarksAll sizes.now.marks lists.now }
     requires states { states.now ≡ tokens_of lists.now }
     requires target { IsTarget plan.now.target }
     ensures judged { IfOk result (λ all. JudgesLines plan.now lists.now (find_state cache.old waits.old) (find_state cache.new waits.new)
@@ -134,7 +138,7 @@ fn judge_lines<L: Link, C: Clock, D: Dice>(
     while !rest.is_empty() {
         let (line, tail) = first_line(rest);
         match judge_line(
-            alloc, plan, lists, states, line, cache, waits, link, clock, dice,
+            alloc, plan, lists, sizes, states, line, cache, waits, link, clock, dice,
         ) {
             Ok(one) => all.push(one)?,
             Err(OutOfMemory) => return Err(OutOfMemory),
@@ -167,7 +171,8 @@ pub(crate) fn judge_all<L: Link, C: Clock, D: Dice>(
 {
     let states = lists.states(alloc)?;
     let mut cache = FullHashCache::new(alloc)?;
+    let sizes = sizes_on(lists);
     judge_lines(
-        alloc, plan, lists, &states, input, &mut cache, waits, link, clock, dice,
+        alloc, plan, lists, &sizes, &states, input, &mut cache, waits, link, clock, dice,
     )
 }

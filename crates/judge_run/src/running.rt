@@ -86,6 +86,11 @@ pub fn judge<S: Source, O: Sink, K: Keeper, L: Link, C: Clock, D: Dice>(
     ensures output_kept { result ≢ Err JudgeStop.WriteFault → O.faults out.new ≡ O.faults out.old }
     ensures keeper_failed { IsErrOf result JudgeStop.KeepFault → Rose (K.faults keep.old) (K.faults keep.new) }
     ensures keeper_kept { result ≢ Err JudgeStop.KeepFault → K.faults keep.new ≡ K.faults keep.old }
+
+    // Where the run did not begin, the output is as it was.
+    ensures read_unwritten { IsErrOf result JudgeStop.ReadFault → out.new ≡ out.old }
+    ensures past_unwritten { IsErrOf result JudgeStop.PastLimits → out.new ≡ out.old }
+    ensures keeper_unwritten { IsErrOf result JudgeStop.KeepFault → out.new ≡ out.old }
 {
     let Begun {
         text,

@@ -17,6 +17,7 @@ use Rattle.judge_run.specs.Judging.{Case, FindState, AreCases, JudgesLines, firs
 use Rattle.judge_run.specs.Run.{Seen, EndsBegun}
 use Rattle.judge_run.specs.declared.judgement.Judgement.{Judgement}
 use Rattle.judge_run.specs.declared.plan.JudgePlan.{JudgePlan}
+use Rattle.judged_runs.specs.Complete.{AreComplete}
 use Rattle.judged_runs.specs.Verdicts.{VerdictsHold}
 
 -- Of lines that were judged in order on replicas of a server's lists, from no kept answers on, each verdict holds.
@@ -50,3 +51,9 @@ abbrev pub KeptRunsOfVerdictsHold : Type 0
 KeptRunsOfVerdictsHold = (history : History) (token_at : Naming) (plan : JudgePlan) (judgement : Judgement) (before after : Seen) (run : EndsBegun plan (Ok judgement) before after)
     → IsWellFormed history → IsKeptSafely history token_at run.begins.kept
     → ReportHolds history token_at plan judgement before after run
+
+-- Of lines that are seen to have been judged in order, each verdict is decided where its finding was answered, and else names its cause.
+abbrev pub JudgedAreComplete : Type 0
+JudgedAreComplete = (plan : JudgePlan) (lists : List Held) (finds finds' : FindState) (before after : Outside) (faults faults' : ℕ)
+    (lines : List (List ℕ)) (all : List Judged) (judges : JudgesLines plan lists finds finds' before after faults faults' lines all)
+    → AreComplete plan lists finds judges.cases all

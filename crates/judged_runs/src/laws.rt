@@ -1,7 +1,9 @@
-ghost use Rattle.judged_runs.specs.Law.{JudgedVerdictsHold, KeptRunsOfVerdictsHold, RowsOfVerdictsHold, RunsOfVerdictsHold};
+ghost use Rattle.judged_runs.specs.Law.{JudgedAreComplete, JudgedVerdictsHold, KeptRunsOfVerdictsHold, RowsOfVerdictsHold, RunsOfVerdictsHold};
 
 use honest_runs::stores_begin_runs;
-use verdict_laws::{resolutions_are_steps, resolved_verdicts_are_lookups};
+use verdict_laws::{
+    resolutions_are_complete, resolutions_are_steps, resolved_verdicts_are_lookups,
+};
 
 /// The law of URLs that are judged in order on replicas of a server's lists: each verdict whose deciding answers were faithful is borne
 /// out, and where no hit of the URL was left open it equals a look-up of each expression's hash in the full lists. The premise and what
@@ -28,4 +30,12 @@ pub fn runs_of_verdicts_hold()
 {
     rows_of_verdicts_hold();
     stores_begin_runs();
+}
+
+/// The law that nothing is left open without a cause: each URL that has a canonical form is said to be safe or unsafe where nothing had
+/// to be asked, and where its find was made, passed and was read; and one that is left undecided names why there was no answer.
+pub fn judged_urls_are_decided()
+    ensures { JudgedAreComplete }
+{
+    resolutions_are_complete();
 }

@@ -11,11 +11,13 @@ use Rattle.sb_words.specs.CommandLine.{Given, CommandShape, given_of, value_amon
 use Rattle.update_client.specs.declared.options.FetchOptions.{FetchOptions}
 use Rattle.sb_words.specs.Values.{names_of, few_names_of, different, has_each_once, lists_of, is_key, host_port_of}
 use Rattle.http_edge.specs.Exchanges.{IsOneLine, IsTarget}
+use Rattle.http_edge.specs.declared.messages.Target.{Target}
+use Rattle.judge_run.specs.declared.plan.JudgePlan.{JudgePlan}
 use Rattle.sb_client.specs.declared.command.Command.{Command}
 use Rattle.update_run.specs.declared.plan.Plan.{Plan}
-use Rattle.sb_client.specs.declared.command.Command.TheVariants.{Replay, Run, Show, Vectors}
+use Rattle.sb_client.specs.declared.command.Command.TheVariants.{Replay, Run, Judge, Show, Vectors}
 use Rattle.sb_client.proofs.OneLines.{server_line, key_line, no_key_line}
-use Rattle.sb_client.specs.Command.{replay_shape, run_shape, bare_shape, given_to, lists_given, server_given, rounds_given, key_of, key_given, options_given, has_flag, run_with, run_given, RunWords, run_words, replay_of, run_of, asks_show, asks_vectors, IsNoCommand, IsCommandOf, AreFew, IsSound}
+use Rattle.sb_client.specs.Command.{replay_shape, run_shape, judge_shape, bare_shape, given_to, lists_given, server_given, rounds_given, key_of, key_given, options_given, patience_given, updates_given, workers_given, has_flag, Asking, asking_of, asking_given, target_of, run_with, run_given, RunWords, run_words, judge_with, judge_given, JudgeWords, judge_words, replay_of, run_of, judge_of, asks_show, asks_vectors, IsNoCommand, IsCommandOf, AreFew, IsSound}
 
 -- what is known of a value
 pub ok_same : {T E A : Type 0} (r : Result T E) (f : T → A) (a b : A) → a ≡ b → IfOk r (λ x. f x ≡ a) → IfOk r (λ x. f x ≡ b)
@@ -85,43 +87,82 @@ key_by (Some text) key e = by_test (is_key text) refl e
     by_test true h k = let same : text ≡ key = cc in subst (λ (text : List ℕ). IsOneLine (chars text)) same (key_line text h)
     by_test false h k = absurd (cc)
 
--- a plan has the lists that its words name, and asks with the host and the key that they give
-plan_by : (store : Option (List ℕ)) (server : Option (List ℕ)) (rounds : Option ℕ) (key : Option (List ℕ)) (options : Option FetchOptions) (names : List ListName) (need : Bool) (line : RunWords)
+-- what is asked for has a host and a key that stand each in one line
+asking_by : (store : Option (List ℕ)) (server : Option (List ℕ)) (key : Option (List ℕ)) (options : Option FetchOptions) (need : Bool) (asking : Asking)
     → ((found : List ℕ) → server ≡ Some found → IsOneLine (chars found)) → ((found : List ℕ) → key ≡ Some found → IsOneLine (chars found))
-    → option_and_then (λ store. option_and_then (λ server. option_and_then (λ rounds. option_and_then (λ key. option_map
-    (λ options. run_words store server names rounds key options need) options) key) rounds) server) store ≡ Some line
+    → option_and_then (λ store. option_and_then (λ server. option_and_then (λ key. option_map
+    (λ options. asking_of store server key options need) options) key) server) store ≡ Some asking
+    → IsTarget (target_of asking)
+asking_by None server key options need asking host mark e = absurd (cc)
+asking_by (Some store) None key options need asking host mark e = absurd (cc)
+asking_by (Some store) (Some server) None options need asking host mark e = absurd (cc)
+asking_by (Some store) (Some server) (Some key) None need asking host mark e = absurd (cc)
+asking_by (Some store) (Some server) (Some key) (Some options) need asking host mark e =
+    let is : asking_of store server key options need ≡ asking = cc in
+    let target : IsTarget (target_of (asking_of store server key options need)) = record { host = host server refl; key = mark key refl } in
+    subst (λ (a : Asking). IsTarget (target_of a)) is target
+
+sound_asking : (named : List (List ℕ × List ℕ)) (asking : Asking) → asking_given named ≡ Some asking → IsTarget (target_of asking)
+sound_asking named asking e =
+    asking_by (value_among (codes "store") named) (server_given named) (key_given named) (options_given named) (not (has_flag (codes "no-digest") named)) asking
+    (λ found h. server_by (value_among (codes "server") named) found h) (λ found h. key_by (value_among (codes "key") named) found h) e
+
+-- a plan has the lists that its words name, and asks with the host and the key that they give
+run_by : (asking : Option Asking) (rounds : Option ℕ) (names : List ListName) (line : RunWords) → ((found : Asking) → asking ≡ Some found → IsTarget (target_of found))
+    → option_and_then (λ asking. option_map (λ rounds. run_words asking names rounds) rounds) asking ≡ Some line
     → (line.plan.names ≡ names) × IsTarget line.plan.target
-plan_by None server rounds key options names need line host mark e = absurd (cc)
-plan_by (Some store) None rounds key options names need line host mark e = absurd (cc)
-plan_by (Some store) (Some server) None key options names need line host mark e = absurd (cc)
-plan_by (Some store) (Some server) (Some rounds) None options names need line host mark e = absurd (cc)
-plan_by (Some store) (Some server) (Some rounds) (Some key) None names need line host mark e = absurd (cc)
-plan_by (Some store) (Some server) (Some rounds) (Some key) (Some options) names need line host mark e =
-    let is : run_words store server names rounds key options need ≡ line = cc in
-    let target : IsTarget (run_words store server names rounds key options need).plan.target = record { host = host server refl; key = mark key refl } in
-    (ap (λ (l : RunWords). l.plan.names) (sym is), subst (λ (l : RunWords). IsTarget l.plan.target) is target)
+run_by None rounds names line sound e = absurd (cc)
+run_by (Some asking) None names line sound e = absurd (cc)
+run_by (Some asking) (Some rounds) names line sound e =
+    let is : run_words asking names rounds ≡ line = cc in
+    (ap (λ (l : RunWords). l.plan.names) (sym is), subst (λ (l : RunWords). IsTarget l.plan.target) is (sound asking refl))
 
-planned_by : (named : List (List ℕ × List ℕ)) (some : Option (List ListName)) (line : RunWords) → ((names : List ListName) → some ≡ Some names → AreFew names)
-    → option_and_then (λ names. run_with names named) some ≡ Some line → AreFew line.plan.names × IsTarget line.plan.target
-planned_by named None line few e = absurd (cc)
-planned_by named (Some names) line few e =
-    let is = plan_by (value_among (codes "store") named) (server_given named) (rounds_given named) (key_given named) (options_given named) names (not (has_flag (codes "no-digest") named)) line
-    (λ found h. server_by (value_among (codes "server") named) found h) (λ found h. key_by (value_among (codes "key") named) found h) e in
-    (subst AreFew (sym is.0) (few names refl), is.1)
+judge_by : (asking : Option Asking) (updates workers seconds : Option ℕ) (names : List ListName) (line : JudgeWords) → ((found : Asking) → asking ≡ Some found → IsTarget (target_of found))
+    → option_and_then (λ asking. option_and_then (λ _. option_and_then (λ _. option_map (λ seconds. judge_words asking names seconds) seconds) workers) updates) asking ≡ Some line
+    → (line.plan.names ≡ names) × IsTarget line.plan.target
+judge_by None updates workers seconds names line sound e = absurd (cc)
+judge_by (Some asking) None workers seconds names line sound e = absurd (cc)
+judge_by (Some asking) (Some updates) None seconds names line sound e = absurd (cc)
+judge_by (Some asking) (Some updates) (Some workers) None names line sound e = absurd (cc)
+judge_by (Some asking) (Some updates) (Some workers) (Some seconds) names line sound e =
+    let is : judge_words asking names seconds ≡ line = cc in
+    (ap (λ (l : JudgeWords). l.plan.names) (sym is), subst (λ (l : JudgeWords). IsTarget l.plan.target) is (sound asking refl))
 
-run_by : (given : Option Given) (line : RunWords) → option_and_then run_given given ≡ Some line → AreFew line.plan.names × IsTarget line.plan.target
-run_by None line e = absurd (cc)
-run_by (Some given) line e = planned_by given.named (lists_given given) line (few_lists given.positionals) e
+-- of lists that the positional words name, and of what the options say for them
+module _ {Line : Type 0} (lists : Line → List ListName) (whom : Line → Target) (line_with : List ListName → List (List ℕ × List ℕ) → Option Line)
+    (made : (names : List ListName) (named : List (List ℕ × List ℕ)) (line : Line) → line_with names named ≡ Some line → (lists line ≡ names) × IsTarget (whom line)) where
+  named_by : (named : List (List ℕ × List ℕ)) (some : Option (List ListName)) (line : Line) → ((names : List ListName) → some ≡ Some names → AreFew names)
+      → option_and_then (λ names. line_with names named) some ≡ Some line → AreFew (lists line) × IsTarget (whom line)
+  named_by named None line few e = absurd (cc)
+  named_by named (Some names) line few e =
+      let is = made names named line e in
+      (subst AreFew (sym is.0) (few names refl), is.1)
 
-sound_planned : (words : List (List ℕ)) (line : RunWords) → run_of words ≡ Some line → AreFew line.plan.names × IsTarget line.plan.target
-sound_planned words line e = run_by (given_to (codes "sbupdate") (codes "run") run_shape words) line e
+  line_by : (given : Option Given) (line : Line) → option_and_then (λ (given : Given). option_and_then (λ names. line_with names given.named) (lists_given given)) given ≡ Some line
+      → AreFew (lists line) × IsTarget (whom line)
+  line_by None line e = absurd (cc)
+  line_by (Some given) line e = named_by given.named (lists_given given) line (few_lists given.positionals) e
 
-sound_asked : (words : List (List ℕ)) (line : Option RunWords) (plan : Plan) → run_of words ≡ line → option_map (λ (line : RunWords). line.plan) line ≡ Some plan
-    → AreFew plan.names × IsTarget plan.target
-sound_asked words None plan e h = absurd (cc)
-sound_asked words (Some line) plan e h =
-    let is : line.plan ≡ plan = cc in
-    subst (λ (plan : Plan). AreFew plan.names × IsTarget plan.target) is (sound_planned words line e)
+sound_run : (words : List (List ℕ)) (line : RunWords) → run_of words ≡ Some line → AreFew line.plan.names × IsTarget line.plan.target
+sound_run words line e =
+    line_by (λ (line : RunWords). line.plan.names) (λ (line : RunWords). line.plan.target) run_with
+    (λ names named line h. run_by (asking_given named) (rounds_given named) names line (sound_asking named) h)
+    (given_to (codes "sbupdate") (codes "run") run_shape words) line e
+
+sound_judge : (words : List (List ℕ)) (line : JudgeWords) → judge_of words ≡ Some line → AreFew line.plan.names × IsTarget line.plan.target
+sound_judge words line e =
+    line_by (λ (line : JudgeWords). line.plan.names) (λ (line : JudgeWords). line.plan.target) judge_with
+    (λ names named line h. judge_by (asking_given named) (updates_given named) (workers_given named) (patience_given named) names line (sound_asking named) h)
+    (given_to (codes "sbcheck") (codes "judge") judge_shape words) line e
+
+-- words with a plan are those of a line
+planned : (line : Option RunWords) (plan : Plan) → option_map (λ (line : RunWords). line.plan) line ≡ Some plan → (found : RunWords) × (line ≡ Some found) × (found.plan ≡ plan)
+planned None plan e = absurd (cc)
+planned (Some line) plan e = (line, refl, (let same : line.plan ≡ plan = cc in same))
+
+judge_planned : (line : Option JudgeWords) (plan : JudgePlan) → option_map (λ (line : JudgeWords). line.plan) line ≡ Some plan → (found : JudgeWords) × (line ≡ Some found) × (found.plan ≡ plan)
+judge_planned None plan e = absurd (cc)
+judge_planned (Some line) plan e = (line, refl, (let same : line.plan ≡ plan = cc in same))
 
 -- what was found is a command
 pub is_found : (words : List (List ℕ)) (found : Option Command) (command : Command) → found ≡ Some command → IsCommandOf words found → IsCommandOf words (Some command)
@@ -130,31 +171,23 @@ is_found words found command e h = subst (IsCommandOf words) e h
 -- a command keeps to what commands keep to
 pub is_sound : (words : List (List ℕ)) (command : Command) → IsCommandOf words (Some command) → IsSound command
 is_sound words (Replay names) e = few_replayed words names e
-is_sound words (Run plan) e = sound_asked words (run_of words) plan refl e
+is_sound words (Run plan) e =
+    let line = planned (run_of words) plan e in
+    subst (λ (plan : Plan). AreFew plan.names × IsTarget plan.target) line.2 (sound_run words line.0 line.1)
+is_sound words (Judge plan) e =
+    let line = judge_planned (judge_of words) plan e in
+    subst (λ (plan : JudgePlan). AreFew plan.names × IsTarget plan.target) line.2 (sound_judge words line.0 line.1)
 is_sound words Show e = tt
 is_sound words Vectors e = tt
 
--- ---- a program's words are no other's
+-- ---- a word is no other
 
-apart_by : (program : List ℕ) (a b : Bool) → bytes_eq program (codes "sbupdate") ≡ a → bytes_eq program (codes "sbcheck") ≡ b → a ≡ true → b ≡ false
-apart_by program a true e h k =
-    let first : program ≡ codes "sbupdate" = (bytes_eq-Decides _ _).0 (e ∙ k) in
-    let second : program ≡ codes "sbcheck" = (bytes_eq-Decides _ _).0 h in
-    absurd (cc)
-apart_by program a false e h k = refl
+differs_by : (word one other : List ℕ) (b : Bool) → bytes_eq word other ≡ b → (one ≡ other → ⊥) → bytes_eq word one ≡ true → b ≡ false
+differs_by word one other true h apart e = absurd (apart (sym ((bytes_eq-Decides _ _).0 e) ∙ (bytes_eq-Decides _ _).0 h))
+differs_by word one other false h apart e = refl
 
-other_program : (program : List ℕ) → bytes_eq program (codes "sbupdate") ≡ true → bytes_eq program (codes "sbcheck") ≡ false
-other_program program h = apart_by program _ _ refl refl h
-
-command_apart_by : (command : List ℕ) (a b : Bool) → bytes_eq command (codes "show") ≡ a → bytes_eq command (codes "vectors") ≡ b → a ≡ true → b ≡ false
-command_apart_by command a true e h k =
-    let first : command ≡ codes "show" = (bytes_eq-Decides _ _).0 (e ∙ k) in
-    let second : command ≡ codes "vectors" = (bytes_eq-Decides _ _).0 h in
-    absurd (cc)
-command_apart_by command a false e h k = refl
-
-other_command : (command : List ℕ) → bytes_eq command (codes "show") ≡ true → bytes_eq command (codes "vectors") ≡ false
-other_command command h = command_apart_by command _ _ refl refl h
+differs : (word one other : List ℕ) → (one ≡ other → ⊥) → bytes_eq word one ≡ true → bytes_eq word other ≡ false
+differs word one other apart e = differs_by word one other _ refl apart e
 
 and_true : (a b : Bool) → (a && b) ≡ true → (a ≡ true) × (b ≡ true)
 and_true true true h = (refl, refl)
@@ -165,51 +198,115 @@ and_false : (a b : Bool) → a ≡ false → (a && b) ≡ false
 and_false false b h = refl
 and_false true b h = absurd (cc)
 
--- ---- the words of a run
+and_false_then : (a b : Bool) → b ≡ false → (a && b) ≡ false
+and_false_then false b h = refl
+and_false_then true b h = h
 
-by_line : (words : List (List ℕ)) (line : Option RunWords) → run_of words ≡ line → replay_of words ≡ None → asks_show words ≡ false → asks_vectors words ≡ false
+-- ---- the words of a run, and of a judging
+
+by_line : (words : List (List ℕ)) (line : Option RunWords) → run_of words ≡ line → replay_of words ≡ None → judge_of words ≡ None → asks_show words ≡ false → asks_vectors words ≡ false
     → IsCommandOf words (option_map Run (option_map (λ (line : RunWords). line.plan) line))
-by_line words None e r s v = record { replay = r; run = e; show = s; vectors = v }
-by_line words (Some line) e r s v = ap (option_map (λ (line : RunWords). line.plan)) e
+by_line words None e r j s v = record { replay = r; run = e; judge = j; show = s; vectors = v }
+by_line words (Some line) e r j s v = ap (option_map (λ (line : RunWords). line.plan)) e
 
-run_words_are : (first second : List ℕ) (rest : List (List ℕ))
-    → (bytes_eq first (codes "sbupdate") && bytes_eq second (codes "replay")) ≡ false
-    → (bytes_eq first (codes "sbupdate") && bytes_eq second (codes "run")) ≡ true
-    → IsCommandOf (first ∷ second ∷ rest) (option_map Run (option_map (λ (line : RunWords). line.plan) (option_and_then run_given (given_of run_shape rest))))
-run_words_are first second rest other held =
-    let check : bytes_eq first (codes "sbcheck") ≡ false = other_program first (and_true _ _ held).0 in
-    let asked : run_of (first ∷ second ∷ rest) ≡ option_and_then run_given (given_of run_shape rest) = ap (λ (b : Bool). option_and_then run_given (cond b (given_of run_shape rest) None)) held in
-    let no_replay : replay_of (first ∷ second ∷ rest) ≡ None = ap (λ (b : Bool). option_and_then lists_given (cond b (given_of replay_shape rest) None)) other in
-    let no_show : asks_show (first ∷ second ∷ rest) ≡ false = ap (λ (b : Bool). is_some (cond b (given_of bare_shape rest) None)) (and_false _ _ check) in
-    let no_vectors : asks_vectors (first ∷ second ∷ rest) ≡ false = ap (λ (b : Bool). is_some (cond b (given_of bare_shape rest) None)) (and_false _ _ check) in
-    by_line (first ∷ second ∷ rest) _ asked no_replay no_show no_vectors
+by_judge_line : (words : List (List ℕ)) (line : Option JudgeWords) → judge_of words ≡ line → replay_of words ≡ None → run_of words ≡ None → asks_show words ≡ false → asks_vectors words ≡ false
+    → IsCommandOf words (option_map Judge (option_map (λ (line : JudgeWords). line.plan) line))
+by_judge_line words None e r u s v = record { replay = r; run = u; judge = e; show = s; vectors = v }
+by_judge_line words (Some line) e r u s v = ap (option_map (λ (line : JudgeWords). line.plan)) e
+
+-- whether two words are these
+abbrev are : List ℕ → List ℕ → List ℕ → List ℕ → Bool
+are program command first second = bytes_eq first program && bytes_eq second command
+
+abbrev IsRunTold : List ℕ → List ℕ → Type 0
+IsRunTold first second =
+    (are (codes "sbupdate") (codes "replay") first second ≡ false) × (are (codes "sbupdate") (codes "run") first second ≡ true)
+
+abbrev IsJudgeTold : List ℕ → List ℕ → Type 0
+IsJudgeTold first second =
+    (are (codes "sbupdate") (codes "replay") first second ≡ false) × (are (codes "sbupdate") (codes "run") first second ≡ false)
+    × (are (codes "sbcheck") (codes "judge") first second ≡ true)
+
+-- what words say whose first two are these, or are not
+module _ (first second : List ℕ) (rest : List (List ℕ)) where
+  replay_words : (b : Bool) → are (codes "sbupdate") (codes "replay") first second ≡ b → replay_of (first ∷ second ∷ rest) ≡ option_and_then lists_given (cond b (given_of replay_shape rest) None)
+  replay_words b e = ap (λ (b : Bool). option_and_then lists_given (cond b (given_of replay_shape rest) None)) e
+
+  run_words_by : (b : Bool) → are (codes "sbupdate") (codes "run") first second ≡ b → run_of (first ∷ second ∷ rest) ≡ option_and_then run_given (cond b (given_of run_shape rest) None)
+  run_words_by b e = ap (λ (b : Bool). option_and_then run_given (cond b (given_of run_shape rest) None)) e
+
+  judge_words_by : (b : Bool) → are (codes "sbcheck") (codes "judge") first second ≡ b → judge_of (first ∷ second ∷ rest) ≡ option_and_then judge_given (cond b (given_of judge_shape rest) None)
+  judge_words_by b e = ap (λ (b : Bool). option_and_then judge_given (cond b (given_of judge_shape rest) None)) e
+
+  no_bare : (command : List ℕ) → are (codes "sbcheck") command first second ≡ false → is_some (given_to (codes "sbcheck") command bare_shape (first ∷ second ∷ rest)) ≡ false
+  no_bare command e = ap (λ (b : Bool). is_some (cond b (given_of bare_shape rest) None)) e
+
+  run_words_are : IsRunTold first second
+      → IsCommandOf (first ∷ second ∷ rest) (option_map Run (option_map (λ (line : RunWords). line.plan) (option_and_then run_given (given_of run_shape rest))))
+  run_words_are told =
+      let check : bytes_eq first (codes "sbcheck") ≡ false = differs first (codes "sbupdate") (codes "sbcheck") (λ e. absurd (cc)) (and_true _ _ told.1).0 in
+      by_line (first ∷ second ∷ rest) _ (run_words_by true told.1) (replay_words false told.0) (judge_words_by false (and_false _ _ check))
+      (no_bare (codes "show") (and_false _ _ check)) (no_bare (codes "vectors") (and_false _ _ check))
+
+  judge_words_are : IsJudgeTold first second
+      → IsCommandOf (first ∷ second ∷ rest) (option_map Judge (option_map (λ (line : JudgeWords). line.plan) (option_and_then judge_given (given_of judge_shape rest))))
+  judge_words_are told =
+      let command : bytes_eq second (codes "judge") ≡ true = (and_true _ _ told.2).1 in
+      let show : bytes_eq second (codes "show") ≡ false = differs second (codes "judge") (codes "show") (λ e. absurd (cc)) command in
+      let vectors : bytes_eq second (codes "vectors") ≡ false = differs second (codes "judge") (codes "vectors") (λ e. absurd (cc)) command in
+      by_judge_line (first ∷ second ∷ rest) _ (judge_words_by true told.2) (replay_words false told.0) (run_words_by false told.1)
+      (no_bare (codes "show") (and_false_then _ _ show)) (no_bare (codes "vectors") (and_false_then _ _ vectors))
 
 ok_gives : {T E : Type 0} (P Q : T → Type 0) (r : Result T E) → ((x : T) → P x → Q x) → IfOk r P → IfOk r Q
 ok_gives P Q (Ok x) f h = f x h
 ok_gives P Q (Err e) f h = tt
 
 -- the same of words that a slice holds
+module _ (Told : List ℕ → List ℕ → Type 0) (asked : List (List ℕ) → Option Command)
+    (meant : (first second : List ℕ) (rest : List (List ℕ)) → Told first second → IsCommandOf (first ∷ second ∷ rest) (asked rest)) where
+  words_asked : {S E : Type 0} (text : S → List ℕ) (words : List S) (first second : S) (n : ℕ) (result : Result (Option Command) E)
+      → 2 ≤ length words → n ≡ length words - 2 → first ≡ get_or words 0 first → second ≡ get_or words 1 second
+      → Told (text first) (text second)
+      → IfOk result (λ command. command ≡ asked (map text (take n (drop 2 words))))
+      → IfOk result (λ command. IsCommandOf (map text words) command)
+  words_asked text [] first second n result two count at0 at1 told h = absurd (omega (arith, two))
+  words_asked text (a ∷ []) first second n result two count at0 at1 told h = absurd (omega (arith, two))
+  words_asked {S = S} text (a ∷ b ∷ rest) first second n result two count at0 at1 told h =
+      let here : Told (text a) (text b) = subst (λ (x : S). Told (text x) (text b)) at0 (subst (λ (y : S). Told (text first) (text y)) at1 told) in
+      let all : take n rest ≡ rest = take_all n rest (omega (arith, count)) in
+      ok_gives _ _ result (λ command is. subst (IsCommandOf (text a ∷ text b ∷ map text rest)) (sym is)
+      (subst (λ (more : List S). IsCommandOf (text a ∷ text b ∷ map text rest) (asked (map text more))) (sym all) (meant (text a) (text b) (map text rest) here))) h
+
 pub run_asked : {S E : Type 0} (text : S → List ℕ) (words : List S) (first second : S) (n : ℕ) (result : Result (Option Command) E)
     → 2 ≤ length words → n ≡ length words - 2 → first ≡ get_or words 0 first → second ≡ get_or words 1 second
-    → (bytes_eq (text first) (codes "sbupdate") && bytes_eq (text second) (codes "replay")) ≡ false
-    → (bytes_eq (text first) (codes "sbupdate") && bytes_eq (text second) (codes "run")) ≡ true
+    → IsRunTold (text first) (text second)
     → IfOk result (λ command. command ≡ option_map Run (option_map (λ (line : RunWords). line.plan) (option_and_then run_given (given_of run_shape (map text (take n (drop 2 words)))))))
     → IfOk result (λ command. IsCommandOf (map text words) command)
-run_asked text [] first second n result two count at0 at1 other held h = absurd (omega (arith, two))
-run_asked text (a ∷ []) first second n result two count at0 at1 other held h = absurd (omega (arith, two))
-run_asked {S = S} text (a ∷ b ∷ rest) first second n result two count at0 at1 other held h =
-    let no_replay : (bytes_eq (text a) (codes "sbupdate") && bytes_eq (text b) (codes "replay")) ≡ false =
-    subst (λ (x : S). (bytes_eq (text x) (codes "sbupdate") && bytes_eq (text b) (codes "replay")) ≡ false) at0
-    (subst (λ (y : S). (bytes_eq (text first) (codes "sbupdate") && bytes_eq (text y) (codes "replay")) ≡ false) at1 other) in
-    let runs : (bytes_eq (text a) (codes "sbupdate") && bytes_eq (text b) (codes "run")) ≡ true =
-    subst (λ (x : S). (bytes_eq (text x) (codes "sbupdate") && bytes_eq (text b) (codes "run")) ≡ true) at0
-    (subst (λ (y : S). (bytes_eq (text first) (codes "sbupdate") && bytes_eq (text y) (codes "run")) ≡ true) at1 held) in
-    let asked = run_words_are (text a) (text b) (map text rest) no_replay runs in
-    let all : take n rest ≡ rest = take_all n rest (omega (arith, count)) in
-    ok_gives _ _ result (λ command is. subst (IsCommandOf (text a ∷ text b ∷ map text rest)) (sym is)
-    (subst (λ (more : List S). IsCommandOf (text a ∷ text b ∷ map text rest) (option_map Run (option_map (λ (line : RunWords). line.plan) (option_and_then run_given (given_of run_shape (map text more)))))) (sym all) asked)) h
+run_asked text words first second n result two count at0 at1 told h =
+    words_asked IsRunTold (λ rest. option_map Run (option_map (λ (line : RunWords). line.plan) (option_and_then run_given (given_of run_shape rest))))
+    run_words_are text words first second n result two count at0 at1 told h
+
+pub judge_asked : {S E : Type 0} (text : S → List ℕ) (words : List S) (first second : S) (n : ℕ) (result : Result (Option Command) E)
+    → 2 ≤ length words → n ≡ length words - 2 → first ≡ get_or words 0 first → second ≡ get_or words 1 second
+    → IsJudgeTold (text first) (text second)
+    → IfOk result (λ command. command ≡ option_map Judge (option_map (λ (line : JudgeWords). line.plan) (option_and_then judge_given (given_of judge_shape (map text (take n (drop 2 words)))))))
+    → IfOk result (λ command. IsCommandOf (map text words) command)
+judge_asked text words first second n result two count at0 at1 told h =
+    words_asked IsJudgeTold (λ rest. option_map Judge (option_map (λ (line : JudgeWords). line.plan) (option_and_then judge_given (given_of judge_shape rest))))
+    judge_words_are text words first second n result two count at0 at1 told h
 
 -- ---- words are one command
+
+-- the second of some words is this
+abbrev HasCommand : List ℕ → List (List ℕ) → Type 0
+HasCommand command [] = ⊥
+HasCommand command (first ∷ []) = ⊥
+HasCommand command (first ∷ second ∷ words) = second ≡ command
+
+one_command : (a b : List ℕ) (words : List (List ℕ)) → HasCommand a words → HasCommand b words → a ≡ b
+one_command a b [] h k = absurd h
+one_command a b (first ∷ []) h k = absurd h
+one_command a b (first ∷ second ∷ words) h k = sym h ∙ k
 
 some_test : {A B : Type 0} (b : Bool) (f : A → Option B) (given : Option A) (x : B) → option_and_then f (cond b given None) ≡ Some x → b ≡ true
 some_test true f given x e = refl
@@ -219,83 +316,94 @@ is_some_test : {A : Type 0} (b : Bool) (given : Option A) → is_some (cond b gi
 is_some_test true given e = refl
 is_some_test false given e = absurd (cc)
 
-true_false : (b : Bool) → b ≡ true → b ≡ false → ⊥
-true_false b h k = cc
+-- the command, where words say something to it
+some_command : {A : Type 0} (f : Given → Option A) (program command : List ℕ) (shape : CommandShape) (words : List (List ℕ)) (found : A)
+    → option_and_then f (given_to program command shape words) ≡ Some found → HasCommand command words
+some_command f program command shape [] found e = absurd (cc)
+some_command f program command shape (first ∷ []) found e = absurd (cc)
+some_command f program command shape (first ∷ second ∷ words) found e =
+    (bytes_eq-Decides _ _).0 (and_true _ _ (some_test (are program command first second) f (given_of shape words) found e)).1
 
--- the program, where words say something to it
-some_update : {A : Type 0} (f : Given → Option A) (second : List ℕ) (shape : CommandShape) (first next : List ℕ) (words : List (List ℕ)) (found : A)
-    → option_and_then f (given_to (codes "sbupdate") second shape (first ∷ next ∷ words)) ≡ Some found
-    → (bytes_eq first (codes "sbupdate") ≡ true) × (bytes_eq next second ≡ true)
-some_update f second shape first next words found e =
-    and_true _ _ (some_test (bytes_eq first (codes "sbupdate") && bytes_eq next second) f (given_of shape words) found e)
+bare_command : (program command : List ℕ) (words : List (List ℕ)) → is_some (given_to program command bare_shape words) ≡ true → HasCommand command words
+bare_command program command [] e = absurd (cc)
+bare_command program command (first ∷ []) e = absurd (cc)
+bare_command program command (first ∷ second ∷ words) e =
+    (bytes_eq-Decides _ _).0 (and_true _ _ (is_some_test (are program command first second) (given_of bare_shape words) e)).1
 
-update_or_check : {A : Type 0} (f : Given → Option A) (command : List ℕ) (shape : CommandShape) (words : List (List ℕ)) (found : A) (second : List ℕ)
-    → option_and_then f (given_to (codes "sbupdate") command shape words) ≡ Some found → is_some (given_to (codes "sbcheck") second bare_shape words) ≡ true → ⊥
-update_or_check f command shape [] found second e h = absurd (cc)
-update_or_check f command shape (first ∷ []) found second e h = absurd (cc)
-update_or_check f command shape (first ∷ next ∷ words) found second e h =
-    let update = some_update f command shape first next words found e in
-    let check = and_true _ _ (is_some_test (bytes_eq first (codes "sbcheck") && bytes_eq next second) (given_of bare_shape words) h) in
-    true_false _ check.0 (other_program first update.0)
+replay_command : (words : List (List ℕ)) (names : List ListName) → replay_of words ≡ Some names → HasCommand (codes "replay") words
+replay_command words names e = some_command lists_given (codes "sbupdate") (codes "replay") replay_shape words names e
 
-replay_or_check : (words : List (List ℕ)) (names : List ListName) (second : List ℕ) → replay_of words ≡ Some names → is_some (given_to (codes "sbcheck") second bare_shape words) ≡ true → ⊥
-replay_or_check words names second e h = update_or_check lists_given (codes "replay") replay_shape words names second e h
+run_command : (words : List (List ℕ)) (line : RunWords) → run_of words ≡ Some line → HasCommand (codes "run") words
+run_command words line e = some_command run_given (codes "sbupdate") (codes "run") run_shape words line e
 
-run_or_check : (words : List (List ℕ)) (line : RunWords) (second : List ℕ) → run_of words ≡ Some line → is_some (given_to (codes "sbcheck") second bare_shape words) ≡ true → ⊥
-run_or_check words line second e h = update_or_check run_given (codes "run") run_shape words line second e h
+judge_command : (words : List (List ℕ)) (line : JudgeWords) → judge_of words ≡ Some line → HasCommand (codes "judge") words
+judge_command words line e = some_command judge_given (codes "sbcheck") (codes "judge") judge_shape words line e
 
-other_word : codes "replay" ≡ codes "run" → ⊥
-other_word e = absurd (cc)
+show_command : (words : List (List ℕ)) → asks_show words ≡ true → HasCommand (codes "show") words
+show_command words e = bare_command (codes "sbcheck") (codes "show") words e
 
-replay_or_run : (words : List (List ℕ)) (names : List ListName) (line : RunWords) → replay_of words ≡ Some names → run_of words ≡ Some line → ⊥
-replay_or_run [] names line e h = absurd (cc)
-replay_or_run (first ∷ []) names line e h = absurd (cc)
-replay_or_run (first ∷ next ∷ words) names line e h =
-    let replays = some_update lists_given (codes "replay") replay_shape first next words names e in
-    let runs = some_update run_given (codes "run") run_shape first next words line h in
-    let replay : next ≡ codes "replay" = (bytes_eq-Decides _ _).0 replays.1 in
-    let run : next ≡ codes "run" = (bytes_eq-Decides _ _).0 runs.1 in
-    other_word (sym replay ∙ run)
+vectors_command : (words : List (List ℕ)) → asks_vectors words ≡ true → HasCommand (codes "vectors") words
+vectors_command words e = bare_command (codes "sbcheck") (codes "vectors") words e
 
-show_or_vectors : (words : List (List ℕ)) → asks_show words ≡ true → asks_vectors words ≡ true → ⊥
-show_or_vectors [] e h = absurd (cc)
-show_or_vectors (first ∷ []) e h = absurd (cc)
-show_or_vectors (first ∷ next ∷ words) e h =
-    let shown = and_true _ _ (is_some_test (bytes_eq first (codes "sbcheck") && bytes_eq next (codes "show")) (given_of bare_shape words) e) in
-    let counted = and_true _ _ (is_some_test (bytes_eq first (codes "sbcheck") && bytes_eq next (codes "vectors")) (given_of bare_shape words) h) in
-    true_false _ counted.1 (other_command next shown.1)
+abbrev word_of : Command → List ℕ
+word_of (Replay names) = codes "replay"
+word_of (Run plan) = codes "run"
+word_of (Judge plan) = codes "judge"
+word_of Show = codes "show"
+word_of Vectors = codes "vectors"
 
--- words with a plan are those of a run
-planned : (line : Option RunWords) (plan : Plan) → option_map (λ (line : RunWords). line.plan) line ≡ Some plan → (found : RunWords) × (line ≡ Some found) × (found.plan ≡ plan)
-planned None plan e = absurd (cc)
-planned (Some line) plan e = (line, refl, (let same : line.plan ≡ plan = cc in same))
+has_word : (words : List (List ℕ)) (command : Command) → IsCommandOf words (Some command) → HasCommand (word_of command) words
+has_word words (Replay names) h = replay_command words names h
+has_word words (Run plan) h = let line = planned (run_of words) plan h in run_command words line.0 line.1
+has_word words (Judge plan) h = let line = judge_planned (judge_of words) plan h in judge_command words line.0 line.1
+has_word words Show h = show_command words h
+has_word words Vectors h = vectors_command words h
+
+-- a command is the one whose word stands there
+same_word : (words : List (List ℕ)) (command : Command) (word : List ℕ) → IsCommandOf words (Some command) → HasCommand word words → word_of command ≡ word
+same_word words command word h k = one_command _ _ words (has_word words command h) k
 
 pub is_replay : (words : List (List ℕ)) (command : Command) → IsCommandOf words (Some command) → (names : List ListName) → replay_of words ≡ Some names → command ≡ Replay names
 is_replay words (Replay found) h names e = let same : found ≡ names = cc in ap Replay same
-is_replay words (Run plan) h names e = absurd (let line = planned (run_of words) plan h in replay_or_run words names line.0 e line.1)
-is_replay words Show h names e = absurd (replay_or_check words names (codes "show") e h)
-is_replay words Vectors h names e = absurd (replay_or_check words names (codes "vectors") e h)
+is_replay words (Run plan) h names e = absurd (let other : codes "run" ≡ codes "replay" = same_word words (Run plan) _ h (replay_command words names e) in cc)
+is_replay words (Judge plan) h names e = absurd (let other : codes "judge" ≡ codes "replay" = same_word words (Judge plan) _ h (replay_command words names e) in cc)
+is_replay words Show h names e = absurd (let other : codes "show" ≡ codes "replay" = same_word words Show _ h (replay_command words names e) in cc)
+is_replay words Vectors h names e = absurd (let other : codes "vectors" ≡ codes "replay" = same_word words Vectors _ h (replay_command words names e) in cc)
 
 pub is_run : (words : List (List ℕ)) (command : Command) → IsCommandOf words (Some command) → (line : RunWords) → run_of words ≡ Some line → command ≡ Run line.plan
-is_run words (Replay names) h line e = absurd (replay_or_run words names line h e)
+is_run words (Replay names) h line e = absurd (let other : codes "replay" ≡ codes "run" = same_word words (Replay names) _ h (run_command words line e) in cc)
 is_run words (Run plan) h line e =
     let found = planned (run_of words) plan h in
     let same : Some found.0 ≡ Some line = sym found.1 ∙ e in
     let is : found.0 ≡ line = cc in
     ap Run (sym found.2 ∙ ap (λ (l : RunWords). l.plan) is)
-is_run words Show h line e = absurd (run_or_check words line (codes "show") e h)
-is_run words Vectors h line e = absurd (run_or_check words line (codes "vectors") e h)
+is_run words (Judge plan) h line e = absurd (let other : codes "judge" ≡ codes "run" = same_word words (Judge plan) _ h (run_command words line e) in cc)
+is_run words Show h line e = absurd (let other : codes "show" ≡ codes "run" = same_word words Show _ h (run_command words line e) in cc)
+is_run words Vectors h line e = absurd (let other : codes "vectors" ≡ codes "run" = same_word words Vectors _ h (run_command words line e) in cc)
+
+pub is_judge : (words : List (List ℕ)) (command : Command) → IsCommandOf words (Some command) → (line : JudgeWords) → judge_of words ≡ Some line → command ≡ Judge line.plan
+is_judge words (Replay names) h line e = absurd (let other : codes "replay" ≡ codes "judge" = same_word words (Replay names) _ h (judge_command words line e) in cc)
+is_judge words (Run plan) h line e = absurd (let other : codes "run" ≡ codes "judge" = same_word words (Run plan) _ h (judge_command words line e) in cc)
+is_judge words (Judge plan) h line e =
+    let found = judge_planned (judge_of words) plan h in
+    let same : Some found.0 ≡ Some line = sym found.1 ∙ e in
+    let is : found.0 ≡ line = cc in
+    ap Judge (sym found.2 ∙ ap (λ (l : JudgeWords). l.plan) is)
+is_judge words Show h line e = absurd (let other : codes "show" ≡ codes "judge" = same_word words Show _ h (judge_command words line e) in cc)
+is_judge words Vectors h line e = absurd (let other : codes "vectors" ≡ codes "judge" = same_word words Vectors _ h (judge_command words line e) in cc)
 
 pub is_show : (words : List (List ℕ)) (command : Command) → IsCommandOf words (Some command) → asks_show words ≡ true → command ≡ Show
-is_show words (Replay names) h e = absurd (replay_or_check words names (codes "show") h e)
-is_show words (Run plan) h e = absurd (let line = planned (run_of words) plan h in run_or_check words line.0 (codes "show") line.1 e)
+is_show words (Replay names) h e = absurd (let other : codes "replay" ≡ codes "show" = same_word words (Replay names) _ h (show_command words e) in cc)
+is_show words (Run plan) h e = absurd (let other : codes "run" ≡ codes "show" = same_word words (Run plan) _ h (show_command words e) in cc)
+is_show words (Judge plan) h e = absurd (let other : codes "judge" ≡ codes "show" = same_word words (Judge plan) _ h (show_command words e) in cc)
 is_show words Show h e = refl
-is_show words Vectors h e = absurd (show_or_vectors words e h)
+is_show words Vectors h e = absurd (let other : codes "vectors" ≡ codes "show" = same_word words Vectors _ h (show_command words e) in cc)
 
 pub is_vectors : (words : List (List ℕ)) (command : Command) → IsCommandOf words (Some command) → asks_vectors words ≡ true → command ≡ Vectors
-is_vectors words (Replay names) h e = absurd (replay_or_check words names (codes "vectors") h e)
-is_vectors words (Run plan) h e = absurd (let line = planned (run_of words) plan h in run_or_check words line.0 (codes "vectors") line.1 e)
-is_vectors words Show h e = absurd (show_or_vectors words h e)
+is_vectors words (Replay names) h e = absurd (let other : codes "replay" ≡ codes "vectors" = same_word words (Replay names) _ h (vectors_command words e) in cc)
+is_vectors words (Run plan) h e = absurd (let other : codes "run" ≡ codes "vectors" = same_word words (Run plan) _ h (vectors_command words e) in cc)
+is_vectors words (Judge plan) h e = absurd (let other : codes "judge" ≡ codes "vectors" = same_word words (Judge plan) _ h (vectors_command words e) in cc)
+is_vectors words Show h e = absurd (let other : codes "show" ≡ codes "vectors" = same_word words Show _ h (vectors_command words e) in cc)
 is_vectors words Vectors h e = refl
 
 -- of words that are none of a run, no command is one
@@ -306,39 +414,54 @@ is_no_run words command h none plan e =
     let same = found.1 in
     cc
 
--- nor one that reads the input, of words that are none of these
-pub no_reader : (words : List (List ℕ)) (command : Command) → IsCommandOf words (Some command) → replay_of words ≡ None → asks_show words ≡ false
-    → ((names : List ListName) → command ≢ Replay names) × (command ≢ Show)
-no_reader words (Replay names) h no_replay no_show = absurd (cc)
-no_reader words (Run plan) h no_replay no_show = ((λ names e. cc), λ e. cc)
-no_reader words Show h no_replay no_show = absurd (cc)
-no_reader words Vectors h no_replay no_show = ((λ names e. cc), λ e. cc)
+pub is_no_judge : (words : List (List ℕ)) (command : Command) → IsCommandOf words (Some command) → judge_of words ≡ None → (plan : JudgePlan) → command ≢ Judge plan
+is_no_judge words command h none plan e =
+    let is : IsCommandOf words (Some (Judge plan)) = subst (λ (command : Command). IsCommandOf words (Some command)) e h in
+    let found = judge_planned (judge_of words) plan is in
+    let same = found.1 in
+    cc
 
--- of words that are none of three commands, the fourth alone is one
-pub vectors_alone : (words : List (List ℕ)) (command : Command) → IsCommandOf words (Some command) → replay_of words ≡ None → run_of words ≡ None → asks_show words ≡ false
+pub is_no_replay : (words : List (List ℕ)) (command : Command) → IsCommandOf words (Some command) → replay_of words ≡ None → (names : List ListName) → command ≢ Replay names
+is_no_replay words command h none names e =
+    let is : IsCommandOf words (Some (Replay names)) = subst (λ (command : Command). IsCommandOf words (Some command)) e h in
+    cc
+
+pub is_no_show : (words : List (List ℕ)) (command : Command) → IsCommandOf words (Some command) → asks_show words ≡ false → command ≢ Show
+is_no_show words command h none e =
+    let is : IsCommandOf words (Some Show) = subst (λ (command : Command). IsCommandOf words (Some command)) e h in
+    cc
+
+-- of words that are none of four commands, the fifth alone is one
+pub vectors_alone : (words : List (List ℕ)) (command : Command) → IsCommandOf words (Some command) → replay_of words ≡ None → run_of words ≡ None → judge_of words ≡ None → asks_show words ≡ false
     → command ≡ Vectors
-vectors_alone words (Replay names) h no_replay no_run no_show = absurd (cc)
-vectors_alone words (Run plan) h no_replay no_run no_show = absurd (is_no_run words (Run plan) h no_run plan refl)
-vectors_alone words Show h no_replay no_run no_show = absurd (cc)
-vectors_alone words Vectors h no_replay no_run no_show = refl
+vectors_alone words (Replay names) h no_replay no_run no_judge no_show = absurd (cc)
+vectors_alone words (Run plan) h no_replay no_run no_judge no_show = absurd (is_no_run words (Run plan) h no_run plan refl)
+vectors_alone words (Judge plan) h no_replay no_run no_judge no_show = absurd (is_no_judge words (Judge plan) h no_judge plan refl)
+vectors_alone words Show h no_replay no_run no_judge no_show = absurd (cc)
+vectors_alone words Vectors h no_replay no_run no_judge no_show = refl
 
 -- a command is some command
 pub no_command : (words : List (List ℕ)) (command : Command) → IsCommandOf words (Some command) → IsNoCommand words → ⊥
 no_command words (Replay names) h none = let other = none.replay in cc
 no_command words (Run plan) h none = is_no_run words (Run plan) h none.run plan refl
+no_command words (Judge plan) h none = is_no_judge words (Judge plan) h none.judge plan refl
 no_command words Show h none = let other = none.show in cc
 no_command words Vectors h none = let other = none.vectors in cc
 
 -- ---- of what was found
 
-pub replay_found : (words : List (List ℕ)) (found : Option Command) (command : Command) → found ≡ Some command → IsCommandOf words found → (names : List ListName) → replay_of words ≡ Some names → command ≡ Replay names
-replay_found words found command e h names asked = is_replay words command (is_found words found command e h) names asked
+module _ (words : List (List ℕ)) (found : Option Command) (command : Command) (e : found ≡ Some command) (h : IsCommandOf words found) where
+  pub replay_found : (names : List ListName) → replay_of words ≡ Some names → command ≡ Replay names
+  replay_found names asked = is_replay words command (is_found words found command e h) names asked
 
-pub run_found : (words : List (List ℕ)) (found : Option Command) (command : Command) → found ≡ Some command → IsCommandOf words found → (line : RunWords) → run_of words ≡ Some line → command ≡ Run line.plan
-run_found words found command e h line asked = is_run words command (is_found words found command e h) line asked
+  pub run_found : (line : RunWords) → run_of words ≡ Some line → command ≡ Run line.plan
+  run_found line asked = is_run words command (is_found words found command e h) line asked
 
-pub show_found : (words : List (List ℕ)) (found : Option Command) (command : Command) → found ≡ Some command → IsCommandOf words found → asks_show words ≡ true → command ≡ Show
-show_found words found command e h asked = is_show words command (is_found words found command e h) asked
+  pub judge_found : (line : JudgeWords) → judge_of words ≡ Some line → command ≡ Judge line.plan
+  judge_found line asked = is_judge words command (is_found words found command e h) line asked
 
-pub vectors_found : (words : List (List ℕ)) (found : Option Command) (command : Command) → found ≡ Some command → IsCommandOf words found → asks_vectors words ≡ true → command ≡ Vectors
-vectors_found words found command e h asked = is_vectors words command (is_found words found command e h) asked
+  pub show_found : asks_show words ≡ true → command ≡ Show
+  show_found asked = is_show words command (is_found words found command e h) asked
+
+  pub vectors_found : asks_vectors words ≡ true → command ≡ Vectors
+  vectors_found asked = is_vectors words command (is_found words found command e h) asked

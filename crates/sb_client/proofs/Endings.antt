@@ -90,7 +90,7 @@ unwritten refusal ending status r told read past (inr six) = past (stop_of refus
 pub known_status : (refusal : ℕ) (ending : Ending) (status : ℕ) → IsRefusal refusal → status ≡ status_of refusal ending → IsStatus status × (status ≢ 1) × (status ≢ 4)
 known_status refusal (Ok false) status r told = (inl told, (λ h. cc), λ h. cc)
 known_status refusal (Ok true) status (inl r) told = (inr (inr (inr (inr (inr (inl (told ∙ r)))))), (λ h. cc), λ h. cc)
-known_status refusal (Ok true) status (inr r) told = (inr (inr (inr (inr (inr (inr (inr (inr (told ∙ r)))))))), (λ h. cc), λ h. cc)
+known_status refusal (Ok true) status (inr r) told = (inr (inr (inr (inr (inr (inr (inr (inr (inr (told ∙ r))))))))), (λ h. cc), λ h. cc)
 known_status refusal (Err ReadFault) status r told = (inr (inr (inl told)), (λ h. cc), λ h. cc)
 known_status refusal (Err WriteFault) status r told = (inr (inr (inr (inl told))), (λ h. cc), λ h. cc)
 known_status refusal (Err PastLimits) status r told = (inr (inr (inr (inr (inr (inr (inl told)))))), (λ h. cc), λ h. cc)

@@ -1,5 +1,6 @@
 pub mod Commands
 pub mod Endings
+pub mod Judgings
 pub mod OneLines
 pub mod RunOptions
 pub mod Runs

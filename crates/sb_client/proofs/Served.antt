@@ -7,8 +7,7 @@ use Rattle.sb_outside.specs.Outside.{IfTold, appended}
 use Rattle.sb_outside.specs.declared.links.Session.{Session}
 use Rattle.timed_sessions.specs.Told.{Outside, with_more}
 use Rattle.sb_round.specs.Round.{Round}
-use Rattle.sb_round.specs.Rounds.{RoundsAreTheirSessions, entry_of, body_of}
-use Rattle.sb_round.specs.Run.{lists_after}
+use Rattle.sb_round.specs.Rounds.{RoundsAreTheirSessions, entry_of}
 use Rattle.honest_runs.specs.Met.{IsLogged}
 use Rattle.served_runs.specs.Answered.{IsAnsweredIn}
 use Rattle.served_runs.specs.Complete.{AnsweredRunsAreComplete, AnsweredRunsKeepVersions}

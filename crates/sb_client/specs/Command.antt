@@ -1,16 +1,19 @@
 -- The command lines that the client takes.
 use Rattle.std.proofs.Common.{refl, leb-true}
-use Rattle.std.specs.Prelude.{ℕ, ◌&&◌, not, ◌≡◌, ◌<◌, ◌≤◌, nat_le, length, Bool, true, false, is_some, if◌then◌else◌, List, [], ◌∷◌, Option, Some, None, option_map, option_and_then, codes}
+use Rattle.std.specs.Prelude.{ℕ, ◌*◌, ◌&&◌, not, ◌≡◌, ◌<◌, ◌≤◌, nat_le, length, Bool, true, false, is_some, if◌then◌else◌, List, [], ◌∷◌, Option, Some, None, option_map, option_and_then, codes}
+use Rattle.std.specs.Option.{option_or}
 use Rattle.std.specs.Str.{bytes_eq, chars}
 use Rattle.sb_model.specs.declared.names.ListName.{ListName}
 use Rattle.sb_words.specs.declared.shape.OptionKind.TheVariants.{Needed, Optional, Flag}
 use Rattle.sb_words.specs.CommandLine.{Text, CommandOption, CommandShape, Given, given_of, value_among}
 use Rattle.sb_words.specs.Values.{number_of, lists_of, is_key, host_port_of}
 use Rattle.http_edge.specs.Exchanges.{IsTarget}
+use Rattle.http_edge.specs.declared.messages.Target.{Target}
 use Rattle.update_client.specs.declared.options.FetchOptions.{FetchOptions}
 use Rattle.update_run.specs.declared.plan.Plan.{Plan}
+use Rattle.judge_run.specs.declared.plan.JudgePlan.{JudgePlan}
 use Rattle.sb_client.specs.declared.command.Command.{Command}
-use Rattle.sb_client.specs.declared.command.Command.TheVariants.{Replay, Run, Show, Vectors}
+use Rattle.sb_client.specs.declared.command.Command.TheVariants.{Replay, Run, Judge, Show, Vectors}
 
 abbrev pub needed : Text → CommandOption
 needed name = record { name = name; kind = Needed }
@@ -43,30 +46,12 @@ lists_given given = lists_of given.positionals
 abbrev pub replay_of : List (List ℕ) → Option (List ListName)
 replay_of words = option_and_then lists_given (given_to (codes "sbupdate") (codes "replay") replay_shape words)
 
--- ---- `sbupdate run`
-
--- `run` needs a store and a server, may have a number of rounds, a key, two limits and two flags, and takes positional words.
-abbrev pub run_shape : CommandShape
-run_shape = record {
-  options =
-      needed (codes "store") ∷ needed (codes "server") ∷ optional (codes "rounds")
-      ∷ optional (codes "key") ∷ optional (codes "max-update") ∷ optional (codes "max-database")
-      ∷ flag (codes "raw-only") ∷ flag (codes "no-digest") ∷ [];
-  takes_positionals = true;
-}
+-- ---- what `run` and `judge` share
 
 -- the server, where it is a host and a port
 abbrev pub server_given : List (Text × Text) → Option Text
 server_given named =
     option_and_then (λ text. option_map (λ _. text) (host_port_of text)) (value_among (codes "server") named)
-
--- how many rounds: 1 to 1,024, and 4,294,967,295 where the words do not say
-abbrev pub rounds_of : Option Text → Option ℕ
-rounds_of None = Some 4294967295
-rounds_of (Some text) = number_of 1 1024 text
-
-abbrev pub rounds_given : List (Text × Text) → Option ℕ
-rounds_given named = rounds_of (value_among (codes "rounds") named)
 
 -- the key, which is empty where there is none
 abbrev pub key_of : Option Text → Option Text
@@ -76,13 +61,17 @@ key_of (Some text) = if is_key text then Some text else None
 abbrev pub key_given : List (Text × Text) → Option Text
 key_given named = key_of (value_among (codes "key") named)
 
--- a limit of entries, at most 2,147,483,647, which has a default
-abbrev pub limit_of : ℕ → Option Text → Option ℕ
-limit_of default None = Some default
-limit_of default (Some text) = number_of 0 2147483647 text
+-- a number in a range, which has a default
+abbrev pub number_or : (low high default : ℕ) → Option Text → Option ℕ
+number_or low high default None = Some default
+number_or low high default (Some text) = number_of low high text
 
+abbrev pub number_given : Text → (low high default : ℕ) → List (Text × Text) → Option ℕ
+number_given name low high default named = number_or low high default (value_among name named)
+
+-- a limit of entries, at most 2,147,483,647, which has a default
 abbrev pub limit_given : Text → ℕ → List (Text × Text) → Option ℕ
-limit_given name default named = limit_of default (value_among name named)
+limit_given name default named = number_given name 0 2147483647 default named
 
 abbrev pub has_flag : Text → List (Text × Text) → Bool
 has_flag name named = is_some (value_among name named)
@@ -109,36 +98,73 @@ options_given named =
     (limit_given (codes "max-database") 1048576 named))
     (limit_given (codes "max-update") 0 named)
 
+-- What the words say of the store and of the server, and what is asked for.
+pub record Asking : Type 0 where
+  pub store : Text
+  pub server : Text
+  pub key : Text
+  pub options : FetchOptions
+  pub need_digest : Bool
+
+abbrev pub asking_of : (store server key : Text) → FetchOptions → Bool → Asking
+asking_of store server key options need_digest = record { store = store; server = server; key = key; options = options; need_digest = need_digest }
+
+abbrev pub asking_given : List (Text × Text) → Option Asking
+asking_given named =
+    option_and_then (λ store. option_and_then (λ server. option_and_then (λ key. option_map
+    (λ options. asking_of store server key options (not (has_flag (codes "no-digest") named)))
+    (options_given named))
+    (key_given named))
+    (server_given named))
+    (value_among (codes "store") named)
+
+-- The server's whole text is the host that is asked.
+abbrev pub target_of : Asking → Target
+target_of asking = record { host = chars asking.server; key = chars asking.key }
+
+-- ---- `sbupdate run`
+
+-- `run` needs a store and a server, may have a number of rounds, a key, two limits and two flags, and takes positional words.
+abbrev pub run_shape : CommandShape
+run_shape = record {
+  options =
+      needed (codes "store") ∷ needed (codes "server") ∷ optional (codes "rounds")
+      ∷ optional (codes "key") ∷ optional (codes "max-update") ∷ optional (codes "max-database")
+      ∷ flag (codes "raw-only") ∷ flag (codes "no-digest") ∷ [];
+  takes_positionals = true;
+}
+
+-- how many rounds: 1 to 1,024, and 4,294,967,295 where the words do not say
+abbrev pub rounds_of : Option Text → Option ℕ
+rounds_of None = Some 4294967295
+rounds_of (Some text) = number_of 1 1024 text
+
+abbrev pub rounds_given : List (Text × Text) → Option ℕ
+rounds_given named = rounds_of (value_among (codes "rounds") named)
+
 -- What a command line of `run` says: the path of the store, the address of the server, and what is to be done.
 pub record RunWords : Type 0 where
   pub store : Text
   pub server : Text
   pub plan : Plan
 
--- The server's whole text is the host that is asked.
-abbrev pub run_words : (store server : Text) → List ListName → ℕ → (key : Text) → FetchOptions → Bool → RunWords
-run_words store server names rounds key options need_digest = record {
-  store = store;
-  server = server;
+abbrev pub run_words : Asking → List ListName → ℕ → RunWords
+run_words asking names rounds = record {
+  store = asking.store;
+  server = asking.server;
   plan = record {
     names = names;
     rounds = rounds;
-    options = options;
-    target = record { host = chars server; key = chars key };
-    need_digest = need_digest;
+    options = asking.options;
+    target = target_of asking;
+    need_digest = asking.need_digest;
   };
 }
 
 -- what the options say, for these lists
 abbrev pub run_with : List ListName → List (Text × Text) → Option RunWords
 run_with names named =
-    option_and_then (λ store. option_and_then (λ server. option_and_then (λ rounds. option_and_then (λ key. option_map
-    (λ options. run_words store server names rounds key options (not (has_flag (codes "no-digest") named)))
-    (options_given named))
-    (key_given named))
-    (rounds_given named))
-    (server_given named))
-    (value_among (codes "store") named)
+    option_and_then (λ asking. option_map (λ rounds. run_words asking names rounds) (rounds_given named)) (asking_given named)
 
 abbrev pub run_given : Given → Option RunWords
 run_given given = option_and_then (λ names. run_with names given.named) (lists_given given)
@@ -147,14 +173,76 @@ run_given given = option_and_then (λ names. run_with names given.named) (lists_
 abbrev pub run_of : List Text → Option RunWords
 run_of words = option_and_then run_given (given_to (codes "sbupdate") (codes "run") run_shape words)
 
--- where the words have a store and a server
+-- ---- `sbcheck judge`
+
+-- `judge` needs a store and a server, may have a number of updates and of workers, a patience, a key, two limits and two flags, and takes
+-- positional words.
+abbrev pub judge_shape : CommandShape
+judge_shape = record {
+  options =
+      needed (codes "store") ∷ needed (codes "server") ∷ optional (codes "update") ∷ optional (codes "workers")
+      ∷ optional (codes "patience") ∷ optional (codes "key") ∷ optional (codes "max-update")
+      ∷ optional (codes "max-database") ∷ flag (codes "raw-only") ∷ flag (codes "no-digest") ∷ [];
+  takes_positionals = true;
+}
+
+-- There are no updates beside the judging, and one worker.
+abbrev pub updates_given : List (Text × Text) → Option ℕ
+updates_given named = number_given (codes "update") 0 0 0 named
+
+abbrev pub workers_given : List (Text × Text) → Option ℕ
+workers_given named = number_given (codes "workers") 1 1 1 named
+
+-- how many seconds a find is waited for at most: up to a day, and a minute where the words do not say
+abbrev pub patience_given : List (Text × Text) → Option ℕ
+patience_given named = number_given (codes "patience") 0 86400 60 named
+
+-- What a command line of `judge` says: the path of the store, the address of the server, and what is to be done.
+pub record JudgeWords : Type 0 where
+  pub store : Text
+  pub server : Text
+  pub plan : JudgePlan
+
+-- The patience of a plan is in milliseconds.
+abbrev pub judge_words : Asking → List ListName → (seconds : ℕ) → JudgeWords
+judge_words asking names seconds = record {
+  store = asking.store;
+  server = asking.server;
+  plan = record {
+    names = names;
+    target = target_of asking;
+    need_digest = asking.need_digest;
+    patience = 1000 * seconds;
+  };
+}
+
+-- what the options say, for these lists
+abbrev pub judge_with : List ListName → List (Text × Text) → Option JudgeWords
+judge_with names named =
+    option_and_then (λ asking. option_and_then (λ _. option_and_then (λ _. option_map
+    (λ seconds. judge_words asking names seconds)
+    (patience_given named))
+    (workers_given named))
+    (updates_given named))
+    (asking_given named)
+
+abbrev pub judge_given : Given → Option JudgeWords
+judge_given given = option_and_then (λ names. judge_with names given.named) (lists_given given)
+
+-- what the words of `sbcheck judge --store PATH --server HOST:PORT .. LIST..` say, where they are such words
+abbrev pub judge_of : List Text → Option JudgeWords
+judge_of words = option_and_then judge_given (given_to (codes "sbcheck") (codes "judge") judge_shape words)
+
+-- ---- where a command has its objects
+
+-- Words of `run` and of `judge` have a store and a server.
 abbrev pub store_of : List Text → Option Text
-store_of words = option_map (λ (line : RunWords). line.store) (run_of words)
+store_of words = option_or (option_map (λ (line : RunWords). line.store) (run_of words)) (option_map (λ (line : JudgeWords). line.store) (judge_of words))
 
 abbrev pub server_of : List Text → Option Text
-server_of words = option_map (λ (line : RunWords). line.server) (run_of words)
+server_of words = option_or (option_map (λ (line : RunWords). line.server) (run_of words)) (option_map (λ (line : JudgeWords). line.server) (judge_of words))
 
--- ---- `sbcheck`, and other words
+-- ---- the other commands of `sbcheck`, and other words
 
 -- whether the words are `sbcheck show`, and whether they are `sbcheck vectors`
 abbrev pub asks_show : List (List ℕ) → Bool
@@ -167,6 +255,7 @@ asks_vectors words = is_some (given_to (codes "sbcheck") (codes "vectors") bare_
 pub record IsNoCommand (words : List (List ℕ)) : Type 0 where
   pub replay : replay_of words ≡ None
   pub run : run_of words ≡ None
+  pub judge : judge_of words ≡ None
   pub show : asks_show words ≡ false
   pub vectors : asks_vectors words ≡ false
 
@@ -175,6 +264,7 @@ abbrev pub IsCommandOf : List (List ℕ) → Option Command → Type 0
 IsCommandOf words None = IsNoCommand words
 IsCommandOf words (Some (Replay names)) = replay_of words ≡ Some names
 IsCommandOf words (Some (Run plan)) = option_map (λ (line : RunWords). line.plan) (run_of words) ≡ Some plan
+IsCommandOf words (Some (Judge plan)) = option_map (λ (line : JudgeWords). line.plan) (judge_of words) ≡ Some plan
 IsCommandOf words (Some Show) = asks_show words ≡ true
 IsCommandOf words (Some Vectors) = asks_vectors words ≡ true
 
@@ -185,5 +275,6 @@ AreFew names = (0 < length names) × (length names ≤ 8)
 abbrev pub IsSound : Command → Type 0
 IsSound (Replay names) = AreFew names
 IsSound (Run plan) = AreFew plan.names × IsTarget plan.target
+IsSound (Judge plan) = AreFew plan.names × IsTarget plan.target
 IsSound Show = Unit {0}
 IsSound Vectors = Unit {0}

@@ -6,6 +6,11 @@ use Rattle.input_lines.specs.declared.stop.Stop.TheVariants.{ReadFault, WriteFau
 use Rattle.update_run.specs.Run.{RunEnding}
 use Rattle.update_run.specs.declared.stop.RunStop.{RunStop}
 use Rattle.update_run.specs.declared.stop.RunStop.TheVariants as stop
+use Rattle.judge_run.specs.Run.{Ending as JudgeEnding}
+use Rattle.judge_run.specs.declared.judgement.Judgement.{Judgement}
+use Rattle.judge_run.specs.declared.judgement.Judgement.TheVariants as judgement
+use Rattle.judge_run.specs.declared.stop.JudgeStop.{JudgeStop}
+use Rattle.judge_run.specs.declared.stop.JudgeStop.TheVariants as judging
 
 -- ---- the exit statuses
 
@@ -20,6 +25,19 @@ run_status_after stop.WriteFault = 3
 run_status_after stop.KeepFault = 4
 run_status_after stop.OutOfMemory = 8
 
+abbrev pub judge_status_after : JudgeStop → ℕ
+judge_status_after judging.ReadFault = 2
+judge_status_after judging.WriteFault = 3
+judge_status_after judging.KeepFault = 4
+judge_status_after judging.PastLimits = 6
+judge_status_after judging.OutOfMemory = 8
+
+-- what URLs come to: an unsafe one has 20, and else an open one has 21
+abbrev pub judgement_status : Judgement → ℕ
+judgement_status judgement.Safe = 0
+judgement_status judgement.Unsafe = 20
+judgement_status judgement.Open = 21
+
 -- the status of an end, where a refusal has this one
 abbrev pub status_of : ℕ → Ending → ℕ
 status_of refusal (Ok refused) = if refused then refusal else 0
@@ -29,6 +47,11 @@ status_of refusal (Err stop) = status_after stop
 abbrev pub run_status_of : RunEnding → ℕ
 run_status_of (Ok refused) = if refused then 5 else 0
 run_status_of (Err stop) = run_status_after stop
+
+-- and of the end of a run that judges URLs
+abbrev pub judge_status_of : JudgeEnding → ℕ
+judge_status_of (Ok judgement) = judgement_status judgement
+judge_status_of (Err stop) = judge_status_after stop
 
 -- ---- a command that reads its input to the end, and then writes a text of it
 

@@ -1,7 +1,9 @@
 pub mod Command
 pub mod Ending
 pub mod Honest
+pub mod Judged
 pub mod Runs
 pub mod Served
 pub mod Show
 pub mod Shown
+pub mod Usage

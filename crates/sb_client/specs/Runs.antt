@@ -6,17 +6,19 @@ use Rattle.sb_outside.specs.Outside.{appended, Rose}
 use Rattle.sb_outside.specs.Writing.{HasFront}
 use Rattle.update_run.specs.Run.{Seen, RunEnding, EndsRun}
 use Rattle.update_run.specs.declared.plan.Plan.{Plan}
+use Rattle.judge_run.specs.Run.{Seen as JudgeSeen, Ending as JudgeEnding, EndsJudging, seen as judging}
+use Rattle.judge_run.specs.declared.plan.JudgePlan.{JudgePlan}
 use Rattle.sb_client.specs.declared.command.Command.{Command}
-use Rattle.sb_client.specs.declared.command.Command.TheVariants.{Replay, Run, Show, Vectors}
+use Rattle.sb_client.specs.declared.command.Command.TheVariants.{Replay, Run, Judge, Show, Vectors}
 use Rattle.input_lines.specs.declared.stop.Stop.TheVariants.{WriteFault, OutOfMemory}
 use Rattle.input_lines.specs.Ending.{Ending}
-use Rattle.sb_client.specs.Ending.{status_of, run_status_of, IsReadingRun}
+use Rattle.sb_client.specs.Ending.{status_of, run_status_of, judge_status_of, IsReadingRun}
 use Rattle.update_replay.specs.Replay.{IsPrinted, IsPartlyPrinted}
 use Rattle.sb_client.specs.Show.{IsShown, IsPartlyShown, IsCounted, IsPartlyCounted}
 
 -- each exit status that a run can have
 abbrev pub IsStatus : ℕ → Type 0
-IsStatus status = (status ≡ 0) ⊎ (status ≡ 1) ⊎ (status ≡ 2) ⊎ (status ≡ 3) ⊎ (status ≡ 4) ⊎ (status ≡ 5) ⊎ (status ≡ 6) ⊎ (status ≡ 8) ⊎ (status ≡ 21)
+IsStatus status = (status ≡ 0) ⊎ (status ≡ 1) ⊎ (status ≡ 2) ⊎ (status ≡ 3) ⊎ (status ≡ 4) ⊎ (status ≡ 5) ⊎ (status ≡ 6) ⊎ (status ≡ 8) ⊎ (status ≡ 20) ⊎ (status ≡ 21)
 
 -- ---- words that are no command line
 
@@ -66,15 +68,28 @@ pub record IsUpdateRun (plan : Plan) (status : ℕ) (before after : Seen) : Type
   pub told : status ≡ run_status_of ending
   pub done : EndsRun plan ending before after
 
+-- ---- `judge`
+
+-- the URLs of the input are judged by the lists that are kept; 20 tells of an unsafe one, and 21 that none is, and one is open
+pub record IsJudgeRun (plan : JudgePlan) (status : ℕ) (before after : JudgeSeen) : Type 0 where
+  pub ending : JudgeEnding
+  pub told : status ≡ judge_status_of ending
+  pub done : EndsJudging plan ending before after
+
+-- what a run that judges URLs sees besides: what the input has left, and how many faults the link counts
+abbrev pub judging_of : Option (List (List ℕ)) → ℕ → Seen → JudgeSeen
+judging_of left faults one = judging left one.outside faults one.keeper one.held
+
 -- ---- any command
 
--- A run of a command that uses what it uses of these: what the input has left, and what is seen of the link, the clock, the
--- dice, the keeper and the output.
-abbrev pub IsRunOf : Command → (status : ℕ) → (left left' : Option (List (List ℕ))) → (before after : Seen) → Type 0
-IsRunOf (Replay names) status left left' before after = IsReplayRun names status left left' before.held after.held
-IsRunOf (Run plan) status left left' before after = IsUpdateRun plan status before after
-IsRunOf Show status left left' before after = IsShowRun status left left' before.held after.held
-IsRunOf Vectors status left left' before after = IsCountRun status before.held after.held
+-- A run of a command that uses what it uses of these: what the input has left, how many faults the link counts, and what is seen of the
+-- link, the clock, the dice, the keeper and the output.
+abbrev pub IsRunOf : Command → (status : ℕ) → (left left' : Option (List (List ℕ))) → (faults faults' : ℕ) → (before after : Seen) → Type 0
+IsRunOf (Replay names) status left left' faults faults' before after = IsReplayRun names status left left' before.held after.held
+IsRunOf (Run plan) status left left' faults faults' before after = IsUpdateRun plan status before after
+IsRunOf (Judge plan) status left left' faults faults' before after = IsJudgeRun plan status (judging_of left faults before) (judging_of left' faults' after)
+IsRunOf Show status left left' faults faults' before after = IsShowRun status left left' before.held after.held
+IsRunOf Vectors status left left' faults faults' before after = IsCountRun status before.held after.held
 
 -- ---- the counts of faults
 

@@ -12,7 +12,9 @@ ghost use Rattle.update_run.specs.Run.{seen};
 ghost use Rattle.http_edge.specs.Exchanges.{IsTarget};
 ghost use Rattle.honest_runs.specs.Replicas.{HandsReplicas, TellsReplicas};
 ghost use Rattle.update_run.specs.declared.plan.Plan.{Plan as PlanOf};
-ghost use Rattle.sb_client.specs.Command.{replay_of, run_of, asks_show, asks_vectors, IsNoCommand, IsSound, RunWords};
+ghost use Rattle.judge_run.specs.declared.plan.JudgePlan.{JudgePlan};
+ghost use Rattle.judge_run.specs.Run.{seen as judging};
+ghost use Rattle.sb_client.specs.Command.{replay_of, run_of, judge_of, asks_show, asks_vectors, IsNoCommand, IsSound, JudgeWords, RunWords};
 ghost use Rattle.input_lines.specs.Lines.{lines_of, IsWithinLimits};
 ghost use Rattle.update_replay.specs.Readings.{Reading, AreReadings, bodies_of};
 ghost use Rattle.sb_client.specs.Ending.{run_status_after, run_status_of, status_after, status_of};
@@ -21,15 +23,21 @@ ghost use Rattle.sb_client.specs.Honest.{HoldsWhereHonest, KeepsStores};
 ghost use Rattle.sb_client.specs.Served.{MeetsAnswers, TellsComplete, MeetsVersions, TellsVersions};
 ghost use Rattle.served_runs.specs.Answered.{IsAnsweredIn};
 ghost use Rattle.sb_outside.specs.declared.links.Session.{Session};
-ghost use Rattle.sb_client.specs.Runs.{AreCounted, HasNoFault, IsCountRun, IsFaultOf, IsReplayRun, IsRunOf, IsShowRun, IsStatus, IsUpdateRun, IsUsageRun, TellsUsage};
+ghost use Rattle.sb_client.specs.Runs.{AreCounted, HasNoFault, IsCountRun, IsFaultOf, IsJudgeRun, IsReplayRun, IsRunOf, IsShowRun, IsStatus, IsUpdateRun, IsUsageRun};
+ghost use Rattle.sb_client.specs.Usage.{usage_of};
+ghost use Rattle.sb_client.specs.Judged.{ReportsRightly};
 
 use crate::command::{Command, command_of};
+use crate::judged::judge_status;
 use crate::show::show;
+use crate::usage::tell_usage;
 use crate::vectors::vectors;
 use honest_runs::runs_hold;
 use input_lines::{Stop, fronts_are_within};
+use judge_run::cases_keep_to_waits;
+use judged_runs::{judged_urls_are_decided, runs_of_verdicts_hold};
 use sb_model::{ListName, OutOfMemory};
-use sb_outside::{Clock, Dice, Gate, Keeper, Link, Sink, Source, write_all};
+use sb_outside::{Clock, Dice, Gate, Keeper, Link, Sink, Source};
 use sb_round::rounds_are_their_sessions;
 use served_runs::{answered_runs_are_complete, answered_runs_keep_versions};
 use std::alloc::Global;
@@ -37,22 +45,6 @@ use std::sync::Wait;
 use std::thread::Threads;
 use update_replay::{replay, replays_print_replicas};
 use update_run::{Plan, RunStop, run};
-
-/// What is printed where the words are no command line.
-pub const USAGE: &str = "usage: sbupdate replay LIST...\n       \
-    sbupdate run --store PATH --server HOST:PORT [--rounds N] [--key KEY] [--max-update N] [--max-database N] [--raw-only] [--no-digest] LIST...\n       \
-    sbcheck show\n       sbcheck vectors\n";
-
-/// Tells how the program is used.
-fn tell_usage<O: Sink>(out: &mut O) -> u8
-    ensures status { result ≡ 1 }
-    ensures usage { TellsUsage USAGE.now (O.contents out.old) (O.contents out.new) (O.faults out.old) (O.faults out.new) }
-{
-    match write_all(out, USAGE.as_bytes()) {
-        Ok(()) => 1,
-        Err(_) => 1,
-    }
-}
 
 /// The exit status of an end that is told of, where a refusal has this one.
 fn status_with(refused: bool, refusal: u8) -> u8
@@ -178,15 +170,16 @@ fn run_command<S: Source, O: Sink, K: Keeper, L: Link, C: Clock, D: Dice, G: Gat
     gate: &G,
 ) -> u8
     requires { IsSound command }
-    ensures does { IsRunOf command result (S.left input.old) (S.left input.new)
+    ensures does { IsRunOf command result (S.left input.old) (S.left input.new) (L.faults link.old) (L.faults link.new)
         (seen (outside (L.log link.old) (C.answers clock.old) (C.waits clock.old) (D.given dice.old))
         (keeping (K.handed keep.old) (K.kept keep.old)) (O.contents out.old))
         (seen (outside (L.log link.new) (C.answers clock.new) (C.waits clock.new) (D.given dice.new))
         (keeping (K.handed keep.new) (K.kept keep.new)) (O.contents out.new)) }
-    ensures unread { ((names : List ListName) → command ≢ Command.Replay names) → command ≢ Command.Show → input.new ≡ input.old }
+    ensures unread { ((names : List ListName) → command ≢ Command.Replay names) → ((plan : JudgePlan) → command ≢ Command.Judge plan)
+        → command ≢ Command.Show → input.new ≡ input.old }
     ensures unwritten { (result ≡ 2) ⊎ (result ≡ 6) → out.new ≡ out.old }
     ensures memory { command ≡ Command.Vectors → result ≡ 8 → out.new ≡ out.old }
-    ensures untouched { ((plan : PlanOf) → command ≢ Command.Run plan)
+    ensures untouched { ((plan : PlanOf) → command ≢ Command.Run plan) → ((plan : JudgePlan) → command ≢ Command.Judge plan)
         → (keep.new ≡ keep.old) × (link.new ≡ link.old) × (clock.new ≡ clock.old) × (dice.new ≡ dice.old) }
     ensures counts { AreCounted result (S.faults input.old) (S.faults input.new) (O.faults out.old) (O.faults out.new)
         (K.faults keep.old) (K.faults keep.new) }
@@ -194,6 +187,7 @@ fn run_command<S: Source, O: Sink, K: Keeper, L: Link, C: Clock, D: Dice, G: Gat
     match command {
         Command::Replay(names) => replay_status(alloc, names.as_slice(), input, out),
         Command::Run(plan) => run_status(alloc, &plan, out, keep, link, clock, dice, gate),
+        Command::Judge(plan) => judge_status(alloc, &plan, input, out, keep, link, clock, dice),
         Command::Show => show_status(alloc, input, out),
         Command::Vectors => vectors_status(alloc, out),
     }
@@ -210,9 +204,13 @@ fn run_command<S: Source, O: Sink, K: Keeper, L: Link, C: Clock, D: Dice, G: Gat
 /// one, and writes what became of each round and at the end a line for each list. Where they say no number of rounds, it makes
 /// 4,294,967,295. What was printed is written before each round, and then the gate is passed.
 ///
+/// `judge` reads the input likewise, takes each line as a URL, loads the lists that the keeper keeps, looks each URL up in order and asks
+/// the server where a hit has to be asked for, once the waits allow it and at most for the patience that the words say; and it writes
+/// a line for each URL and a summary. The keeper is handed nothing. A find that fails leaves its URL undecided.
+///
 /// `show` reads the input likewise, takes each line as a URL, and writes its canonical text and its expressions, each
 /// after its SHA-256. `vectors` reads nothing, and writes how many of the published examples are met. Neither these nor `replay` use the
-/// keeper, the link, the clock, the dice or the gate, and `run` does not use the input.
+/// keeper, the link, the clock or the dice, `run` does not use the input, and `run` alone uses the gate.
 ///
 /// `rt` is a handle for threads and for waiting. No command takes it today.
 ///
@@ -226,7 +224,8 @@ fn run_command<S: Source, O: Sink, K: Keeper, L: Link, C: Clock, D: Dice, G: Gat
 /// | 5 | exactly where a line of a replay or a response of a run has no reading or an update that is refused, or a round of a run brought no response, and the run came to its end |
 /// | 6 | only where the input passes 201,326,592 bytes or 65,536 lines before its end or a fault |
 /// | 8 | where memory was refused |
-/// | 21 | exactly where a URL that is shown has no canonical form, or an example is not met, and the run came to its end |
+/// | 20 | exactly where a URL is judged unsafe, and the run came to its end |
+/// | 21 | exactly where a URL that is shown has no canonical form, or none is judged unsafe and one is undecided or has no canonical form, or an example is not met, and the run came to its end |
 pub fn run_client<
     R: Threads + Wait + Sync,
     S: Source,
@@ -253,7 +252,7 @@ pub fn run_client<
     // Words that are no command line: the usage text alone is written, unless memory was refused while the words were read.
     ensures words { result ≡ 1 → IsNoCommand (map string_bytes words.now) }
     ensures no_command { IsNoCommand (map string_bytes words.now)
-        → IsUsageRun USAGE.now result (O.contents out.old) (O.contents out.new) (O.faults out.old) (O.faults out.new) }
+        → IsUsageRun (usage_of (map string_bytes words.now)) result (O.contents out.old) (O.contents out.new) (O.faults out.old) (O.faults out.new) }
 
     // Each command: how it ended, which status that has, and what was read, written, kept, sent and answered by then.
     ensures replays { (names : List ListName) → replay_of (map string_bytes words.now) ≡ Some names
@@ -263,20 +262,25 @@ pub fn run_client<
         (keeping (K.handed keep.old) (K.kept keep.old)) (O.contents out.old))
         (seen (outside (L.log link.new) (C.answers clock.new) (C.waits clock.new) (D.given dice.new))
         (keeping (K.handed keep.new) (K.kept keep.new)) (O.contents out.new)) }
+    ensures judges { (line : JudgeWords) → judge_of (map string_bytes words.now) ≡ Some line → IsJudgeRun line.plan result
+        (judging (S.left input.old) (outside (L.log link.old) (C.answers clock.old) (C.waits clock.old) (D.given dice.old))
+        (L.faults link.old) (keeping (K.handed keep.old) (K.kept keep.old)) (O.contents out.old))
+        (judging (S.left input.new) (outside (L.log link.new) (C.answers clock.new) (C.waits clock.new) (D.given dice.new))
+        (L.faults link.new) (keeping (K.handed keep.new) (K.kept keep.new)) (O.contents out.new)) }
     ensures shows { asks_show (map string_bytes words.now) ≡ true
         → IsShowRun result (S.left input.old) (S.left input.new) (O.contents out.old) (O.contents out.new) }
     ensures counts_examples { asks_vectors (map string_bytes words.now) ≡ true
         → IsCountRun result (O.contents out.old) (O.contents out.new) }
 
-    // What a command does not use is as it was: the input but for `replay` and `show`, and what is outside but for `run`. So is
-    // the output where the input failed or passes a limit, and where memory was refused before anything was to be written.
-    ensures unread { replay_of (map string_bytes words.now) ≡ None → asks_show (map string_bytes words.now) ≡ false
-        → input.new ≡ input.old }
-    ensures untouched { run_of (map string_bytes words.now) ≡ None
+    // What a command does not use is as it was: the input but for `replay`, `judge` and `show`, and what is outside but for `run` and
+    // `judge`. So is the output where the input failed or passes a limit, and where memory was refused before anything was to be written.
+    ensures unread { replay_of (map string_bytes words.now) ≡ None → judge_of (map string_bytes words.now) ≡ None
+        → asks_show (map string_bytes words.now) ≡ false → input.new ≡ input.old }
+    ensures untouched { run_of (map string_bytes words.now) ≡ None → judge_of (map string_bytes words.now) ≡ None
         → (keep.new ≡ keep.old) × (link.new ≡ link.old) × (clock.new ≡ clock.old) × (dice.new ≡ dice.old) }
     ensures unwritten { (result ≡ 2) ⊎ (result ≡ 6) → out.new ≡ out.old }
     ensures memory { replay_of (map string_bytes words.now) ≡ None → run_of (map string_bytes words.now) ≡ None
-        → asks_show (map string_bytes words.now) ≡ false → result ≡ 8 → out.new ≡ out.old }
+        → judge_of (map string_bytes words.now) ≡ None → asks_show (map string_bytes words.now) ≡ false → result ≡ 8 → out.new ≡ out.old }
 
     // A count of faults that rose has its status, and a status of a fault has a count that rose.
     ensures counts { AreCounted result (S.faults input.old) (S.faults input.new) (O.faults out.old) (O.faults out.new)
@@ -294,6 +298,12 @@ pub fn run_client<
     ensures complete_run { (line : RunWords) → run_of (map string_bytes words.now) ≡ Some line
         → HasNoFault (O.faults out.old) (O.faults out.new) → HasNoFault (K.faults keep.old) (K.faults keep.new)
         → (result ≡ 0) ⊎ (result ≡ 5) ⊎ (result ≡ 8) }
+
+    ensures complete_judge { (line : JudgeWords) (pieces : List (List ℕ)) → judge_of (map string_bytes words.now) ≡ Some line
+        → S.left input.old ≡ Some pieces → IsWithinLimits (next_piece pieces)
+        → HasNoFault (S.faults input.old) (S.faults input.new) → HasNoFault (O.faults out.old) (O.faults out.new)
+        → HasNoFault (K.faults keep.old) (K.faults keep.new)
+        → (result ≡ 0) ⊎ (result ≡ 20) ⊎ (result ≡ 21) ⊎ (result ≡ 8) }
 
     // The headline: where the bodies that the source tells are honest and no digest collides, each list that a
     // replay prints is the server's at the version that its token names, or is empty without a token.
@@ -363,6 +373,17 @@ pub fn run_client<
         (keeping (K.handed keep.old) (K.kept keep.old)) (O.contents out.old))
         (seen (outside (L.log link.new) (C.answers clock.new) (C.waits clock.new) (D.given dice.new))
         (keeping (K.handed keep.new) (K.kept keep.new)) (O.contents out.new)) }
+
+    // The headline of a judging: where it came to its end, its finds kept to their waits, and each URL is decided where nothing had to be asked
+    // or its find was allowed, passed and read; and where it began with replicas of the server's lists, each verdict whose deciding answers
+    // were faithful to these is borne out, and equals a look-up in the full lists where no hit was left open. These verdicts are what was
+    // printed. Nothing is asked of answers that did not decide the verdict that is spoken of.
+    ensures verdicts { (line : JudgeWords) (history : History) (token_at : Naming) → judge_of (map string_bytes words.now) ≡ Some line
+        → IsWellFormed history → (result ≡ 0) ⊎ (result ≡ 20) ⊎ (result ≡ 21) → ReportsRightly history token_at line.plan result
+        (judging (S.left input.old) (outside (L.log link.old) (C.answers clock.old) (C.waits clock.old) (D.given dice.old))
+        (L.faults link.old) (keeping (K.handed keep.old) (K.kept keep.old)) (O.contents out.old))
+        (judging (S.left input.new) (outside (L.log link.new) (C.answers clock.new) (C.waits clock.new) (D.given dice.new))
+        (L.faults link.new) (keeping (K.handed keep.new) (K.kept keep.new)) (O.contents out.new)) }
 {
     fronts_are_within();
     replays_print_replicas();
@@ -370,9 +391,12 @@ pub fn run_client<
     rounds_are_their_sessions();
     answered_runs_are_complete();
     answered_runs_keep_versions();
+    runs_of_verdicts_hold();
+    cases_keep_to_waits();
+    judged_urls_are_decided();
     match command_of(alloc, words) {
         Ok(Some(command)) => run_command(alloc, command, input, out, keep, link, clock, dice, gate),
-        Ok(None) => tell_usage(out),
+        Ok(None) => tell_usage(words, out),
         Err(OutOfMemory) => 8,
     }
 }

@@ -1,14 +1,13 @@
-ghost use Rattle.std.specs.Prelude.{◌≡◌, ◌&&◌, ◌≤◌, ℕ, List, Some, None, if◌then◌else◌, map, string_bytes, is_some, option_map, option_and_then, IfOk, IfSome};
-ghost use Rattle.std.specs.Str.{bytes_eq, chars};
+ghost use Rattle.std.specs.Prelude.{◌≡◌, ℕ, List, Some, None, if◌then◌else◌, map, string_bytes, is_some, option_map, option_and_then, IfOk};
 ghost use Rattle.sb_words.specs.CommandLine.{given_of};
-ghost use Rattle.sb_client.specs.Command.{bare_shape, key_given as key_of_words, limit_given, lists_given, options_given, replay_shape, rounds_given, run_given, run_of, run_shape, run_with, run_words, server_given, IsCommandOf, RunWords};
-ghost use Rattle.sb_model.specs.declared.names.ListName.{ListName as ListNameOf};
+ghost use Rattle.sb_client.specs.Command.{asking_of, bare_shape, judge_given, judge_shape, lists_given, replay_shape, rounds_given, run_given, run_of, run_shape, run_with, run_words, IsCommandOf, JudgeWords, RunWords};
 
-use http_edge::Target;
-use sb_model::{ListName, OutOfMemory, Row, Text};
-use sb_words::{OptionKind, OptionShape, Shape, Words, host_port, key, lists, number, read_words};
+use crate::judge_words::judge_plan;
+use crate::options::{Asking, are_words, asking_in, target_of};
+use judge_run::JudgePlan;
+use sb_model::{ListName, OutOfMemory, Row};
+use sb_words::{OptionKind, OptionShape, Shape, Words, lists, number, read_words};
 use std::alloc::Global;
-use update_client::FetchOptions;
 use update_run::Plan;
 
 /// The words of `replay`.
@@ -62,9 +61,6 @@ const MOST_ROUNDS: u64 = 1024;
 /// How many rounds a run makes whose words say none: with a minute each, some 8,000 years.
 const ROUNDS_UNSAID: u32 = 4_294_967_295;
 
-/// The most entries of a limit.
-const MOST_ENTRIES: u64 = 2_147_483_647;
-
 /// The words of `show` and of `vectors`.
 const BARE: Shape = Shape {
     options: &[],
@@ -78,6 +74,8 @@ pub(crate) enum Command {
     Replay(Row<ListName>),
     /// A run of a client.
     Run(Plan),
+    /// A run that judges URLs.
+    Judge(JudgePlan),
     Show,
     Vectors,
 }
@@ -106,44 +104,12 @@ fn replay_command(alloc: Global, words: &[String]) -> Result<Option<Command>, Ou
     }
 }
 
-/// What the options of a command line of `run` say.
-#[derive(Clone, Copy, Debug)]
-struct RunOptions<'a> {
-    /// The path of the store.
-    store: &'a str,
-    /// The address of the server.
-    server: &'a str,
-    rounds: u32,
-    /// The key, empty where there is none.
-    key: &'a str,
-    options: FetchOptions,
-    need_digest: bool,
-}
-
 /// What a command line of `run` says.
 #[derive(Debug, Drop)]
 pub(crate) struct RunLine<'a> {
-    /// The path of the store.
-    pub store: &'a str,
-    /// The address of the server.
-    pub server: &'a str,
+    pub asking: Asking<'a>,
     pub names: Row<ListName>,
     pub rounds: u32,
-    /// The key, empty where there is none.
-    pub key: &'a str,
-    pub options: FetchOptions,
-    pub need_digest: bool,
-}
-
-/// The server that the words give.
-fn server_in<'a>(given: &Words<'a>) -> Option<&'a str>
-    ensures { option_map (λ server. server.now) result ≡ server_given given.now.named }
-{
-    let server = given.value("server")?;
-    match host_port(server) {
-        Some(_) => Some(server),
-        None => None,
-    }
 }
 
 /// How many rounds the words give, or leave open.
@@ -159,89 +125,23 @@ fn rounds_in(given: &Words<'_>) -> Option<u32>
     }
 }
 
-/// The key that the words give, empty where they give none.
-fn key_in<'a>(given: &Words<'a>) -> Option<&'a str>
-    ensures { option_map (λ text. text.now) result ≡ key_of_words given.now.named }
-{
-    let Some(text) = given.value("key") else {
-        return Some("");
-    };
-    if key(text) {
-        return Some(text);
-    }
-    None
-}
-
-/// The limit that the words give an option, or its default.
-fn limit(given: &Words<'_>, name: &str, default: u32) -> Option<u32>
-    requires { default ≤ 2147483647 }
-    ensures limit { result ≡ limit_given name.now default given.now.named }
-    ensures small { IfSome result (λ entries. entries ≤ 2147483647) }
-{
-    let Some(text) = given.value(name) else {
-        return Some(default);
-    };
-    let Some(entries) = number(text, 0, MOST_ENTRIES) else {
-        return None;
-    };
-    Some(entries as u32)
-}
-
-/// What the words ask for beside the lists.
-fn options_in(given: &Words<'_>) -> Option<FetchOptions>
-    ensures { result ≡ options_given given.now.named }
-{
-    let max_update = limit(given, "max-update", 0)?;
-    let max_database = limit(given, "max-database", 1_048_576)?;
-    Some(FetchOptions {
-        max_update,
-        max_database,
-        raw_only: given.has("raw-only"),
-    })
-}
-
-/// What the options of `run` say.
-fn run_options_in<'a>(given: &Words<'a>) -> Option<RunOptions<'a>>
-    ensures { (names : List ListNameOf) → option_map (λ line. run_words line.store.now line.server.now names line.rounds line.key.now line.options line.need_digest) result
-        ≡ run_with names given.now.named }
-{
-    let store = given.value("store")?;
-    let server = server_in(given)?;
-    let rounds = rounds_in(given)?;
-    let key = key_in(given)?;
-    let options = options_in(given)?;
-    Some(RunOptions {
-        store,
-        server,
-        rounds,
-        key,
-        options,
-        need_digest: !given.has("no-digest"),
-    })
-}
-
 /// What the words after `run` say, for these lists.
 fn run_line_with<'a>(given: &Words<'a>, names: Row<ListName>) -> Option<RunLine<'a>>
-    ensures { option_map (λ line. run_words line.store.now line.server.now line.names line.rounds line.key.now line.options line.need_digest) result
+    ensures { option_map (λ line. run_words (asking_of line.asking.store.now line.asking.server.now line.asking.key.now line.asking.options line.asking.need_digest) line.names line.rounds) result
         ≡ run_with names given.now.named }
 {
-    match run_options_in(given) {
-        Some(line) => Some(RunLine {
-            store: line.store,
-            server: line.server,
-            names,
-            rounds: line.rounds,
-            key: line.key,
-            options: line.options,
-            need_digest: line.need_digest,
-        }),
-        None => None,
-    }
+    let asking = asking_in(given)?;
+    let rounds = rounds_in(given)?;
+    Some(RunLine {
+        asking,
+        names,
+        rounds,
+    })
 }
 
 /// What the words after `run` say, by what they give.
 fn run_line_in<'a>(alloc: Global, given: &Words<'a>) -> Result<Option<RunLine<'a>>, OutOfMemory>
-    ensures { IfOk result (λ line. option_map (λ line. run_words line.store.now line.server.now line.names line.rounds line.key.now line.options line.need_digest) line
+    ensures { IfOk result (λ line. option_map (λ line. run_words (asking_of line.asking.store.now line.asking.server.now line.asking.key.now line.asking.options line.asking.need_digest) line.names line.rounds) line
         ≡ run_given given.now) }
 {
     match lists(alloc, given.positionals()) {
@@ -253,7 +153,7 @@ fn run_line_in<'a>(alloc: Global, given: &Words<'a>) -> Result<Option<RunLine<'a
 
 /// What the words after `run` say.
 fn run_line_of<'a>(alloc: Global, words: &'a [String]) -> Result<Option<RunLine<'a>>, OutOfMemory>
-    ensures { IfOk result (λ line. option_map (λ line. run_words line.store.now line.server.now line.names line.rounds line.key.now line.options line.need_digest) line
+    ensures { IfOk result (λ line. option_map (λ line. run_words (asking_of line.asking.store.now line.asking.server.now line.asking.key.now line.asking.options line.asking.need_digest) line.names line.rounds) line
         ≡ option_and_then run_given (given_of run_shape (map string_bytes words.entry.now))) }
 {
     match read_words(alloc, &RUN, words) {
@@ -268,7 +168,7 @@ pub(crate) fn run_line<'a>(
     alloc: Global,
     words: &'a [String],
 ) -> Result<Option<RunLine<'a>>, OutOfMemory>
-    ensures { IfOk result (λ line. option_map (λ line. run_words line.store.now line.server.now line.names line.rounds line.key.now line.options line.need_digest) line
+    ensures { IfOk result (λ line. option_map (λ line. run_words (asking_of line.asking.store.now line.asking.server.now line.asking.key.now line.asking.options line.asking.need_digest) line.names line.rounds) line
         ≡ run_of (map string_bytes words.entry.now)) }
 {
     let [program, command, rest @ ..] = words else {
@@ -283,17 +183,15 @@ pub(crate) fn run_line<'a>(
 /// What a run is to do, by its command line.
 fn plan_of(alloc: Global, line: RunLine<'_>) -> Result<Plan, OutOfMemory>
     ensures { IfOk result (λ plan. plan
-        ≡ (run_words line.entry.store.now line.entry.server.now line.entry.names line.entry.rounds line.entry.key.now
-        line.entry.options line.entry.need_digest).plan) }
+        ≡ (run_words (asking_of line.entry.asking.store.now line.entry.asking.server.now line.entry.asking.key.now line.entry.asking.options line.entry.asking.need_digest) line.entry.names line.entry.rounds).plan) }
 {
-    let host = Text::from_str(alloc, line.server)?;
-    let key = Text::from_str(alloc, line.key)?;
+    let target = target_of(alloc, &line.asking)?;
     Ok(Plan {
         names: line.names,
         rounds: line.rounds,
-        options: line.options,
-        target: Target { host, key },
-        need_digest: line.need_digest,
+        options: line.asking.options,
+        target,
+        need_digest: line.asking.need_digest,
     })
 }
 
@@ -305,6 +203,19 @@ fn run_command(alloc: Global, words: &[String]) -> Result<Option<Command>, OutOf
 {
     match run_line_of(alloc, words) {
         Ok(Some(line)) => Ok(Some(Command::Run(plan_of(alloc, line)?))),
+        Ok(None) => Ok(None),
+        Err(OutOfMemory) => Err(OutOfMemory),
+    }
+}
+
+/// The run that judges URLs that the words after `judge` ask for.
+fn judge_command(alloc: Global, words: &[String]) -> Result<Option<Command>, OutOfMemory>
+    ensures { IfOk result (λ command. command
+        ≡ option_map Command.Judge (option_map (λ (line : JudgeWords). line.plan)
+        (option_and_then judge_given (given_of judge_shape (map string_bytes words.now))))) }
+{
+    match judge_plan(alloc, words) {
+        Ok(Some(plan)) => Ok(Some(Command::Judge(plan))),
         Ok(None) => Ok(None),
         Err(OutOfMemory) => Err(OutOfMemory),
     }
@@ -337,13 +248,6 @@ fn bare_command(
     }
 }
 
-/// Whether the first two words are these.
-fn are_words(program: &String, command: &String, first: &str, second: &str) -> bool
-    ensures { result ≡ (bytes_eq (string_bytes program.now) first.now && bytes_eq (string_bytes command.now) second.now) }
-{
-    program.as_str() == first && command.as_str() == second
-}
-
 /// The command that the words are; `None` where they are none.
 pub(crate) fn command_of(alloc: Global, words: &[String]) -> Result<Option<Command>, OutOfMemory>
     ensures { IfOk result (λ command. IsCommandOf (map string_bytes words.now) command) }
@@ -356,6 +260,9 @@ pub(crate) fn command_of(alloc: Global, words: &[String]) -> Result<Option<Comma
     }
     if are_words(program, command, "sbupdate", "run") {
         return run_command(alloc, rest);
+    }
+    if are_words(program, command, "sbcheck", "judge") {
+        return judge_command(alloc, rest);
     }
     if are_words(program, command, "sbcheck", "show") {
         return bare_command(alloc, rest, Command::Show);

@@ -53,6 +53,26 @@ fn a_run_has_a_store_and_a_server(rt: HostRuntime) -> Result<(), Fail> {
     Ok(())
 }
 
+#[test]
+fn a_judging_has_both_and_does_not_replace_the_store(rt: HostRuntime) -> Result<(), Fail> {
+    let words = words(
+        rt.alloc(),
+        &[
+            "sbcheck",
+            "judge",
+            "--patience=0",
+            "--server=h:1",
+            LIST,
+            "--store",
+            "s",
+        ],
+    )?;
+    let found = targets(rt.alloc(), words.as_slice())?;
+    has_both(&rt, &found, "s", "h:1");
+    assert!(rt; !found.replaces);
+    Ok(())
+}
+
 // Sees that words have neither a store nor a server.
 fn has_none(rt: &impl Abort, alloc: Global, texts: &[&str]) -> Result<(), Fail> {
     let words = words(alloc, texts)?;

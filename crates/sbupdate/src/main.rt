@@ -19,7 +19,13 @@ use std::{env, io};
 fn words_of(rt: &HostRuntime, alloc: Global) -> io::Result<Vec<String>> {
     let mut words = Vec::new(alloc);
     words.push(String::from_str(alloc, "sbupdate")?)?;
-    for word in env::args(rt)?.skip(1) {
+    let given = match env::args(rt) {
+        Ok(given) => given,
+        // A word that is not UTF-8 is none that the program takes: with its name alone it tells its usage.
+        Err(fault) if fault.kind() == ErrorKind::InvalidData => return Ok(words),
+        Err(fault) => return Err(fault),
+    };
+    for word in given.skip(1) {
         words.push(word)?;
     }
     Ok(words)
@@ -100,8 +106,6 @@ fn main(rt: HostRuntime) -> ExitCode {
     let alloc = rt.alloc();
     let words = match words_of(&rt, alloc) {
         Ok(words) => words,
-        // A word that is not UTF-8 is none that the program takes: without words it tells its usage.
-        Err(fault) if fault.kind() == ErrorKind::InvalidData => Vec::new(alloc),
         Err(_) => return ExitCode::from(8),
     };
     match run(&rt, &rt, alloc, words.as_slice()) {

@@ -1,10 +1,10 @@
 -- The hits of one hash on one list, size by size.
-use Rattle.std.proofs.Common.{◌≡◌, ℕ, zero, suc, ◌+◌, ◌-◌, ◌≤◌, Bool, true, false, cond, List, [], ◌∷◌, ◌++◌, take, map, refl, sym, ap, ◌∙◌, subst, arith, append-nil, append_assoc}
-use Rattle.std.specs.Prelude.{filter, IsTrue, ◌↔◌, Contains}
+use Rattle.std.proofs.Common.{◌≡◌, ℕ, zero, suc, ◌+◌, ◌-◌, ◌<◌, ◌≤◌, Bool, true, false, cond, List, [], ◌∷◌, ◌++◌, take, map, refl, sym, ap, ◌∙◌, subst, arith, append-nil, append_assoc}
+use Rattle.std.specs.Prelude.{filter, length, slice_index_or, IsTrue, ◌↔◌, Contains}
 use Rattle.std.specs.List.{range_with_len}
 use Rattle.std.specs.Cmp.Lexicographic.{nat_list_eq_equiv}
 use Rattle.std.proofs.lemmas.Bool.{false≢true}
-use Rattle.std.proofs.lemmas.List.{map-append}
+use Rattle.std.proofs.lemmas.List.{map-append, length-take-le}
 use Rattle.sb_model.specs.declared.names.ListName.{ListName}
 use Rattle.std.proofs.lemmas.List.Elements.{filter-append}
 use Rattle.std.proofs.lemmas.Map.Views.{Contains-from_any, list_any-from_Contains}
@@ -12,7 +12,7 @@ use Rattle.std.proofs.lemmas.Slice.Eq.{bytes_eq-Decides}
 use Rattle.hash_prefixes.specs.declared.hashes.FullHash.{FullHash}
 use Rattle.update_client.specs.Held.{Held}
 use Rattle.url_checker.specs.declared.findings.Hit.{Hit}
-use Rattle.url_checker.specs.Hits.{has_front, hit_of, hits_at}
+use Rattle.url_checker.specs.Hits.{has_front, hit_of, hits_at, Marks}
 
 range_push : (a n : ℕ) → range_with_len a (n + 1) ≡ range_with_len a n ++ (a + n) ∷ []
 range_push a zero = ap (λ k. k ∷ []) (omega arith)
@@ -91,3 +91,19 @@ one_pushed held hash size set prefix b list old new own front says is_there name
     ∙ ap (λ (n : ListName). old ++ hit_with n prefix hash ∷ []) name
     ∙ ap (λ (p : List ℕ). old ++ hit_with held.name p hash ∷ []) front
     ∙ sym (ap (λ (hits : List Hit). old ++ hits) (one_there held hash size (has_it held hash size set prefix own front (says.0 is_there))))
+
+-- ---- one size is not looked up
+
+unmarked : (marks : List Bool) (held : Held) (hash : FullHash) (size : ℕ) → Marks marks held → length hash.bytes ≡ 32 → size ≤ 32 → slice_index_or marks size false ≡ false
+    → hits_at held hash (size ∷ []) ≡ []
+unmarked marks held hash size marked whole small unset =
+    let fits : size ≤ length hash.bytes = omega (arith, whole, small) in
+    let long : length (take size hash.bytes) ≡ size = length-take-le size hash.bytes fits in
+    let short : length (take size hash.bytes) < 33 = omega (arith, long, small) in
+    none_there held hash size (λ h. false≢true (sym unset ∙ sym (ap (λ n. slice_index_or marks n false) long) ∙ marked (take size hash.bytes) h short))
+
+pub hits_left : (marks : List Bool) (held : Held) (hash : FullHash) (size : ℕ) (first old new : List Hit) → 4 ≤ size → size ≤ 32 → Marks marks held → length hash.bytes ≡ 32
+    → slice_index_or marks size false ≡ false → old ≡ first ++ hits_at held hash (sizes_below size) → new ≡ old → new ≡ first ++ hits_at held hash (sizes_below (size + 1))
+hits_left marks held hash size first old new low small marked whole unset before same =
+    hits_pushed held hash size first old new low before
+    (same ∙ sym (ap (λ (hits : List Hit). old ++ hits) (unmarked marks held hash size marked whole small unset) ∙ append-nil old))

@@ -6,3 +6,4 @@ pub mod FindFacts
 pub mod ResolveFacts
 pub mod TypeFacts
 pub mod RunOfFindings
+pub mod SizeFacts

@@ -1,6 +1,6 @@
 -- The hits of a URL: which prefixes on the lists of a client begin the full hashes of its expressions (Safe Browsing v4,
 -- "URLs and Hashing").
-use Rattle.std.specs.Prelude.{◌≡◌, ℕ, ◌≤◌, Bool, List, length, take, map, filter, All}
+use Rattle.std.specs.Prelude.{◌≡◌, ℕ, ◌<◌, ◌≤◌, Bool, true, false, List, length, take, map, filter, All, Contains, slice_index_or}
 use Rattle.std.specs.List.{flat_map, list_any, range_with_len}
 use Rattle.std.specs.Str.{bytes_eq}
 use Rattle.sha2.specs.Sha256.{sha256}
@@ -46,6 +46,20 @@ hits_on hashes held = flat_map (hits_with held) hashes
 -- the hits of a URL: for each list in order, and each expression in order
 abbrev pub hits_of : List Held → Url → List Hit
 hits_of lists url = flat_map (hits_on (hashes_of url)) lists
+
+-- ---- which sizes are looked up
+
+-- a full hash has 32 bytes
+abbrev pub IsWhole : FullHash → Type 0
+IsWhole hash = length hash.bytes ≡ 32
+
+-- each size up to 32 that a member of a list's set has is marked
+abbrev pub Marks : List Bool → Held → Type 0
+Marks marks held = (member : List ℕ) → Contains held.set member → length member < 33 → slice_index_or marks (length member) false ≡ true
+
+-- those of each list are
+abbrev pub MarksAll : List Bool → List Held → Type 0
+MarksAll marks lists = All (Marks marks) lists
 
 -- ---- what is asked of hits
 

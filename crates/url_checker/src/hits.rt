@@ -1,10 +1,11 @@
-ghost use Rattle.std.specs.Prelude.{◌≡◌, ◌≢◌, ◌≤◌, ◌<◌, ◌↔◌, [], ◌∷◌, ◌++◌, length, map, Err, Contains, IsTrue, IfOk, OnOk};
+ghost use Rattle.std.specs.Prelude.{◌≡◌, ◌≢◌, ◌≤◌, ◌<◌, ◌↔◌, [], ◌∷◌, ◌++◌, length, map, Err, All, Contains, IsTrue, IfOk, OnOk};
 ghost use Rattle.std.specs.List.{flat_map};
 ghost use Rattle.url_canon.specs.Url.{text_of};
 ghost use Rattle.url_canon.specs.Canonical.{canonical_of};
-ghost use Rattle.url_checker.specs.Hits.{full_hash_of, hashes_of, hits_at, hits_with, hits_on, hits_of, AreAskable, prefixes_hit};
+ghost use Rattle.url_checker.specs.Hits.{full_hash_of, hashes_of, hits_at, hits_with, hits_on, hits_of, AreAskable, prefixes_hit, IsWhole, Marks, MarksAll};
 ghost use Rattle.url_checker.specs.Checking.{IsFindingOf};
 
+use crate::sizes::{Sizes, sizes_on};
 use crate::{CheckFault, Finding, Hit};
 use hash_prefixes::{FullHash, Prefix, full_hash};
 use prefix_set::{PrefixSet, sets_go_by_members};
@@ -59,12 +60,21 @@ fn push_hit(
 
 // Appends the hits of a hash on a list, one for each size at which the list has its first bytes.
 //
-// Each size is looked up: a look-up is cheaper than to ask a set of several sizes which it has, which reads its members.
-fn push_hits(hits: &mut Row<Hit>, held: &HeldList, hash: &FullHash) -> Result<(), OutOfMemory>
+// A size that no list has is not looked up.
+fn push_hits(
+    hits: &mut Row<Hit>,
+    held: &HeldList,
+    sizes: &[bool; 33],
+    hash: &FullHash,
+) -> Result<(), OutOfMemory>
+    requires marked { Marks sizes.now held.now }
+    requires whole { IsWhole hash.now }
     ensures { OnOk result (hits.new ≡ hits.old ++ hits_with held.now hash.now) }
 {
     for size in 4..33 {
-        push_hit(hits, held, hash, size)?;
+        if sizes[size as usize] {
+            push_hit(hits, held, hash, size)?;
+        }
     }
     Ok(())
 }
@@ -73,12 +83,15 @@ fn push_hits(hits: &mut Row<Hit>, held: &HeldList, hash: &FullHash) -> Result<()
 fn push_hits_on(
     hits: &mut Row<Hit>,
     held: &HeldList,
+    sizes: &[bool; 33],
     hashes: &[FullHash],
 ) -> Result<(), OutOfMemory>
+    requires marked { Marks sizes.now held.now }
+    requires whole { All IsWhole hashes.now }
     ensures { OnOk result (hits.new ≡ hits.old ++ hits_on hashes.now held.now) }
 {
     for hash in hashes {
-        push_hits(hits, held, hash)?;
+        push_hits(hits, held, sizes, hash)?;
     }
     Ok(())
 }
@@ -87,13 +100,16 @@ fn push_hits_on(
 fn hits_on_lists(
     alloc: Global,
     lists: &[HeldList],
+    sizes: &[bool; 33],
     hashes: &[FullHash],
 ) -> Result<Row<Hit>, OutOfMemory>
+    requires marked { MarksAll sizes.now lists.now }
+    requires whole { All IsWhole hashes.now }
     ensures { IfOk result (λ hits. hits ≡ flat_map (hits_on hashes.now) lists.now) }
 {
     let mut hits = Row::new(alloc);
     for held in lists {
-        push_hits_on(&mut hits, held, hashes)?;
+        push_hits_on(&mut hits, held, sizes, hashes)?;
     }
     Ok(hits)
 }
@@ -126,14 +142,20 @@ fn hashes(alloc: Global, url: &CanonicalUrl) -> Result<Row<FullHash>, OutOfMemor
 }
 
 // The hits of a URL on some lists.
-fn hits(alloc: Global, lists: &ClientLists, url: &CanonicalUrl) -> Result<Row<Hit>, OutOfMemory>
+fn hits(
+    alloc: Global,
+    lists: &ClientLists,
+    sizes: &Sizes,
+    url: &CanonicalUrl,
+) -> Result<Row<Hit>, OutOfMemory>
+    requires marked { MarksAll sizes.now.marks lists.now }
     ensures value { IfOk result (λ hits. hits ≡ hits_of lists.now url.now) }
     ensures askable { IfOk result AreAskable }
     ensures few { IfOk result (λ hits. length (prefixes_hit hits) ≤ 870) }
 {
     sets_go_by_members();
     let hashes = hashes(alloc, url)?;
-    let hits = hits_on_lists(alloc, lists.lists(), hashes.as_slice())?;
+    let hits = hits_on_lists(alloc, lists.lists(), &sizes.marks, hashes.as_slice())?;
     Ok(hits)
 }
 
@@ -141,9 +163,11 @@ fn hits(alloc: Global, lists: &ClientLists, url: &CanonicalUrl) -> Result<Row<Hi
 fn finding(
     alloc: Global,
     lists: &ClientLists,
+    sizes: &Sizes,
     number: u64,
     url: &CanonicalUrl,
 ) -> Result<Finding, OutOfMemory>
+    requires marked { MarksAll sizes.now.marks lists.now }
     ensures number { IfOk result (λ finding. finding.number ≡ number) }
     ensures text { IfOk result (λ finding. finding.text ≡ text_of url.now) }
     ensures hits { IfOk result (λ finding. finding.hits ≡ hits_of lists.now url.now) }
@@ -151,11 +175,12 @@ fn finding(
     ensures few { IfOk result (λ finding. length (prefixes_hit finding.hits) ≤ 870) }
 {
     let text = url.text(alloc)?;
-    let hits = hits(alloc, lists, url)?;
+    let hits = hits(alloc, lists, sizes, url)?;
     Ok(Finding { number, text, hits })
 }
 
-/// Looks a URL up on the lists of a client, which are the publication of this number.
+/// Looks a URL up on the lists of a client, which are the publication of this number. `local_check_with` does so for many URLs
+/// on the same lists.
 ///
 /// The hits are, for each list in order, each expression of the URL in order and each size from 4 to 32 bytes, those where the
 /// first bytes of the expression's full hash are on the list.
@@ -176,6 +201,29 @@ pub fn local_check_on(
     ensures askable { IfOk result (λ finding. AreAskable finding.hits) }
     ensures few { IfOk result (λ finding. length (prefixes_hit finding.hits) ≤ 870) }
 {
+    local_check_with(alloc, lists, &sizes_on(lists), number, url)
+}
+
+/// Looks a URL up as `local_check_on` does, where the sizes of the lists are known.
+pub fn local_check_with(
+    alloc: Global,
+    lists: &ClientLists,
+    sizes: &Sizes,
+    number: u64,
+    url: &[u8],
+) -> Result<Finding, CheckFault>
+    requires marked { MarksAll sizes.now.marks lists.now }
+    ensures finding { IfOk result (IsFindingOf lists.now number url.now) }
+
+    // A fault of the URL comes exactly where it has no canonical form, and is the fault that stands there; unless memory is refused.
+    ensures refused { (fault : UrlFault) → result ≡ Err (CheckFault.Url fault)
+        → canonical_of url.now ≡ Err fault }
+    ensures no_memory { result ≢ Err (CheckFault.Url UrlFault.OutOfMemory) }
+
+    // One request can ask for the hits, and they have at most 870 prefixes: 29 sizes of 30 hashes.
+    ensures askable { IfOk result (λ finding. AreAskable finding.hits) }
+    ensures few { IfOk result (λ finding. length (prefixes_hit finding.hits) ≤ 870) }
+{
     let canonical = canonical(alloc, url)?;
-    Ok(finding(alloc, lists, number, &canonical)?)
+    Ok(finding(alloc, lists, sizes, number, &canonical)?)
 }

@@ -7,9 +7,10 @@
 
 pub use fault::CheckFault;
 pub use findings::{Checked, Finding, Hit};
-pub use hits::local_check_on;
+pub use hits::{local_check_on, local_check_with};
 pub use laws::{findings_go_on, findings_keep_to_waits};
 pub use resolving::resolve;
+pub use sizes::{Sizes, sizes_on};
 
 mod asking;
 mod fault;
@@ -20,3 +21,4 @@ mod looking;
 mod naming;
 mod request;
 mod resolving;
+mod sizes;

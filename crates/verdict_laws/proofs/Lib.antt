@@ -10,3 +10,4 @@ pub mod Steps
 pub mod Finds
 pub mod ExampleHits
 pub mod ExamplePremises
+pub mod Decided

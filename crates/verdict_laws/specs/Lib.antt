@@ -3,3 +3,4 @@ pub mod Rulings
 pub mod Faithful
 pub mod Resolved
 pub mod Example
+pub mod Decided

@@ -1,4 +1,4 @@
-ghost use Rattle.std.specs.Prelude.{◌≡◌, ◌↔◌, ℕ, List, [], Contains, None, Ok, IsTrue};
+ghost use Rattle.std.specs.Prelude.{◌≡◌, ◌↔◌, ℕ, Bool, List, [], Contains, None, Ok, IsTrue};
 ghost use Rattle.sb_model.specs.declared.names.ListName.{ListName};
 ghost use Rattle.sb_model.specs.declared.time.Moment.{Moment};
 ghost use Rattle.sb_model.specs.History.{History, IsWellFormed, declares, full_hashes_at, version_count};
@@ -12,12 +12,14 @@ ghost use Rattle.update_client.specs.Held.{Held};
 ghost use Rattle.update_client.specs.Replica.{AreReplicas};
 ghost use Rattle.wait_rules.specs.declared.waits.WaitState.{WaitState};
 ghost use Rattle.full_hash_cache.specs.declared.pair.Pair.{Pair};
-ghost use Rattle.full_hash_cache.specs.Cache.{answer_of, pair_of};
+ghost use Rattle.full_hash_cache.specs.Cache.{Pairs, answer_of, pair_of};
+ghost use Rattle.http_edge.specs.declared.messages.Target.{Target};
 ghost use Rattle.full_hash_cache.specs.Law.{Step, after_steps};
 ghost use Rattle.url_checker.specs.Hits.{hashes_of, hits_of};
-ghost use Rattle.url_checker.specs.Resolving.{Resolution, answer_in, cause_of, find_asked, hits_asked, pairs_after, verdict_of};
+ghost use Rattle.url_checker.specs.Resolving.{IsResolution, Resolution, answer_in, cause_of, find_asked, hits_asked, pairs_after, verdict_of};
 ghost use Rattle.url_checker.specs.declared.findings.Hit.{Hit};
 ghost use Rattle.verdict_laws.specs.Full.{HasHit, IsFullOf, IsListed};
+ghost use Rattle.verdict_laws.specs.Decided.{IsComplete};
 ghost use Rattle.verdict_laws.specs.Rulings.{Rulings, IsRight, AreRight, AreAllSafe, IsNoneOpen, IsCalledUnsafe};
 ghost use Rattle.verdict_laws.specs.Faithful.{AgreeUnder, Begins, IsFaithfulFor, RestsOnFaithful, KeptAreFaithful, IsFaithful, TakenAreFaithful, said_after};
 ghost use Rattle.verdict_laws.specs.Resolved.{IsLookup, IsBorneOut, IsDecidedFaithfully, said_in, steps_after};
@@ -152,4 +154,12 @@ pub fn resolutions_are_steps()
     ensures { (steps : List Step) (states : List (List ℕ)) (hits : List Hit) (r : Resolution)
         → pairs_after states hits (after_steps [] steps) r
         ≡ after_steps [] (steps_after steps states hits r) }
+{}
+
+/// A verdict is decided where nothing had to be asked, and where the find was made, passed and was read. One that is left undecided
+/// names its cause: the find was not allowed in time, or its session or its message failed.
+pub fn resolutions_are_complete()
+    ensures { (states : List (List ℕ)) (patience : ℕ) (target : Target) (need : Bool) (hits : List Hit) (pairs : Pairs)
+        (waits : WaitState) (r : Resolution) → IsResolution states patience target need hits pairs waits r
+        → IsComplete patience pairs waits hits r (verdict_of pairs waits hits r) }
 {}

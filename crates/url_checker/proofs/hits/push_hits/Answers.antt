@@ -1,12 +1,18 @@
 use Rattle.std.proofs.Common.{◌≡◌, ◌-◌, ◌++◌, ap, ◌∙◌, arith}
 use Rattle.std.specs.List.{range_with_len}
 use Rattle.url_checker.specs.Hits.{hits_at}
-use Rattle.url_checker.proofs.HitFacts.{hits_pushed}
+use Rattle.url_checker.proofs.HitFacts.{hits_left, hits_pushed}
 use Rattle.url_checker.proofs.hits.push_hits.Goals as goal
+use Rattle.url_checker.proofs.hits.push_hits.Goals.{then-sizes-size+in_ok-push_hit, else-sizes-size}
 
 pub loop-size-preserved : goal.loop-size-preserved
 loop-size-preserved c =
-    hits_pushed c.args.held.now c.args.hash.now c.loop-size.size c.args.hits.now c.loop-size.hits c.push_hit.new.hits c.loop-size.auto.size c.loop-size.invariant c.in_ok-push_hit.ensures
+    elim c.if-sizes-size.branch [
+      | then-sizes-size+in_ok-push_hit w ↦
+          hits_pushed c.args.held.now c.args.hash.now c.loop-size.size c.args.hits.now c.loop-size.hits c.if-sizes-size.hits c.loop-size.auto.size c.loop-size.invariant (w.hits-is ∙ w.in_ok-push_hit.ensures)
+      | else-sizes-size w ↦
+          hits_left c.args.sizes.now c.args.held.now c.args.hash.now c.loop-size.size c.args.hits.now c.loop-size.hits c.if-sizes-size.hits c.loop-size.auto.size (omega arith) c.requires.marked c.requires.whole w.if-sizes-size.false c.loop-size.invariant w.hits-is
+    ]
 
 pub returns : goal.returns
 returns c =

@@ -1,0 +1,72 @@
+ghost use Rattle.std.specs.Prelude.{◌≡◌, ◌⊎◌, ◌≤◌, ◌<◌, length};
+ghost use Rattle.http_edge.specs.Exchanges.{IsTarget};
+ghost use Rattle.timed_sessions.specs.Told.{outside};
+ghost use Rattle.update_client.specs.Held.{most_lists};
+ghost use Rattle.update_run.specs.Saved.{keeping};
+ghost use Rattle.judge_run.specs.Run.{seen as judging};
+ghost use Rattle.sb_client.specs.Ending.{judge_status_after, judge_status_of, judgement_status};
+ghost use Rattle.sb_client.specs.Runs.{IsFaultOf, IsJudgeRun};
+
+use judge_run::{JudgePlan, JudgeStop, Judgement, judge};
+use sb_outside::{Clock, Dice, Keeper, Link, Sink, Source};
+use std::alloc::Global;
+
+/// The exit status of what URLs come to.
+fn status_of_judgement(judgement: Judgement) -> u8
+    ensures { result ≡ judgement_status judgement }
+{
+    match judgement {
+        Judgement::Safe => 0,
+        Judgement::Unsafe => 20,
+        Judgement::Open => 21,
+    }
+}
+
+/// The exit status of a judging's stop.
+fn status_of_judge_stop(stop: JudgeStop) -> u8
+    ensures { result ≡ judge_status_after stop }
+{
+    match stop {
+        JudgeStop::ReadFault => 2,
+        JudgeStop::PastLimits => 6,
+        JudgeStop::WriteFault => 3,
+        JudgeStop::KeepFault => 4,
+        JudgeStop::OutOfMemory => 8,
+    }
+}
+
+/// The exit status of a run that judges URLs.
+fn judge_exit_status(ending: Result<Judgement, JudgeStop>) -> u8
+    ensures { result ≡ judge_status_of ending }
+{
+    match ending {
+        Ok(judgement) => status_of_judgement(judgement),
+        Err(stop) => status_of_judge_stop(stop),
+    }
+}
+
+/// Judges the URLs of the input, and answers the exit status.
+pub(crate) fn judge_status<S: Source, O: Sink, K: Keeper, L: Link, C: Clock, D: Dice>(
+    alloc: Global,
+    plan: &JudgePlan,
+    input: &mut S,
+    out: &mut O,
+    keep: &mut K,
+    link: &mut L,
+    clock: &mut C,
+    dice: &mut D,
+) -> u8
+    requires few { length plan.now.names ≤ most_lists }
+    requires target { IsTarget plan.now.target }
+    ensures judges { IsJudgeRun plan.now result
+        (judging (S.left input.old) (outside (L.log link.old) (C.answers clock.old) (C.waits clock.old) (D.given dice.old))
+        (L.faults link.old) (keeping (K.handed keep.old) (K.kept keep.old)) (O.contents out.old))
+        (judging (S.left input.new) (outside (L.log link.new) (C.answers clock.new) (C.waits clock.new) (D.given dice.new))
+        (L.faults link.new) (keeping (K.handed keep.new) (K.kept keep.new)) (O.contents out.new)) }
+    ensures unwritten { (result ≡ 2) ⊎ (result ≡ 6) → out.new ≡ out.old }
+    ensures read { IsFaultOf 2 result (S.faults input.old) (S.faults input.new) }
+    ensures written { IsFaultOf 3 result (O.faults out.old) (O.faults out.new) }
+    ensures saved { IsFaultOf 4 result (K.faults keep.old) (K.faults keep.new) }
+{
+    judge_exit_status(judge(alloc, plan, input, out, keep, link, clock, dice))
+}
