@@ -24,6 +24,7 @@ import time
 
 REPOSITORY = os.path.dirname(os.path.dirname(os.path.abspath(__file__)))
 SBUPDATE = os.path.join(REPOSITORY, "bin", "sbupdate")
+SBCHECK = os.path.join(REPOSITORY, "bin", "sbcheck")
 SBLISTD = os.path.join(REPOSITORY, "bin", "sblistd")
 KERNELS = os.path.join(REPOSITORY, "bin", "kernels")
 
@@ -39,6 +40,8 @@ JOURNAL_CHANGES = 65_536
 LONG_CHANGES = 2_048
 LONG_HASHES = 1_024
 GENERATED = 65_536
+JUDGED_URLS = 60_000
+JUDGED_HITS = 2_000
 SERVED_CHANGES = 1_023
 CACHE_ANSWERS = 1_000_000
 FOUND_HASHES = 1_048_576
@@ -134,15 +137,15 @@ def yardstick(path, sort, runs):
     return best
 
 
-def run(words, stdin=os.devnull):
-    """Runs a program to its end: the wall time and the processor time that it takes."""
+def run(words, stdin=os.devnull, wanted=0):
+    """Runs a program to its end, with this status: the wall time and the processor time that it takes."""
     with open(stdin, "rb") as given:
         start = time.perf_counter()
         ran = subprocess.Popen(words, stdin=given, stdout=subprocess.DEVNULL)
         _, status, usage = os.wait4(ran.pid, 0)
         wall = time.perf_counter() - start
     ran.returncode = os.waitstatus_to_exitcode(status)
-    if ran.returncode != 0:
+    if ran.returncode != wanted:
         raise SystemExit(f"{' '.join(words)}: status {ran.returncode}")
     return wall, usage.ru_utime + usage.ru_stime
 
@@ -260,6 +263,66 @@ def bench_generated(runs):
         tell(name, f"{took * 1e3:.1f} ms", f"{peak_memory(words, os.devnull) / MIB:.1f} MiB at most")
 
 
+def generated_hosts(seed):
+    """The hosts of the numbers of a seed, from place 1 on."""
+    for _ in range(GENERATED):
+        seed = (seed * 6364136223846793005 + 1442695040888963407) % (1 << 64)
+        yield b"h%d.example" % (seed >> 48)
+
+
+def write_judged(folder):
+    """A generated load: its journal, a store of its newest list, URLs of which no prefix is listed, and URLs whose host is listed. The
+    number of prefixes."""
+    journal = subprocess.run([SBLISTD, "generate", str(GENERATED), "0"], stdout=subprocess.PIPE, check=True).stdout
+    hashes = set()
+    for line in journal.splitlines():
+        if line.startswith(b"+"):
+            hashes.add(bytes.fromhex(line[1:65].decode()))
+        elif line.startswith(b"-"):
+            hashes.discard(bytes.fromhex(line[1:65].decode()))
+    members = sorted({one[:4] for one in hashes})
+    store = b"SBST\x02\x01" + bytes([1, 6, 1, 0, 0, 1, 1]) + len(members).to_bytes(4, "big") + b"".join(b"\x04" + one for one in members)
+    hosts = dict.fromkeys(host for host in generated_hosts(0) if hashlib.sha256(host + b"/").digest() in hashes)
+    with_hits = [b"http://%s/p%d\n" % (host, place) for place, host in enumerate(list(hosts)[:JUDGED_HITS])]
+    listed, without, place = set(members), [], 0
+    while len(without) < JUDGED_URLS:
+        place += 1
+        ends = [b"/a/b%d.html?c=%d" % (place, place), b"/a/b%d.html" % place, b"/", b"/a/"]
+        expressions = [host + end for host in (b"www.n%d.example" % place, b"n%d.example" % place) for end in ends]
+        if all(hashlib.sha256(one).digest()[:4] not in listed for one in expressions):
+            without.append(b"http://%s\n" % expressions[0])
+    texts = {"journal": journal, "store": store + hashlib.sha256(store).digest(), "without": b"".join(without), "with": b"".join(with_hits)}
+    for name, text in texts.items():
+        with open(os.path.join(folder, name), "wb") as file:
+            file.write(text)
+    return len(members)
+
+
+def free_port():
+    with socket.socket() as free:
+        free.bind(("127.0.0.1", 0))
+        return free.getsockname()[1]
+
+
+def bench_judged(folder, runs):
+    """URLs that are judged on a generated load. Of those with hits each asks for a find of its own, which the server answers; the first
+    one waits for up to 60 seconds, at random, in which no time of a processor is taken."""
+    count = in_child(write_judged, folder)
+    print(f"sbcheck judge, by the {count:,} prefixes of a generated load")
+    store, port = os.path.join(folder, "store"), free_port()
+    words = [SBCHECK, "judge", "--store", store, "--server", f"127.0.0.1:{port}", LIST]
+    without, with_hits = os.path.join(folder, "without"), os.path.join(folder, "with")
+    took = min(run(words, without)[1] for _ in range(runs))
+    remark = f"{took / JUDGED_URLS * 1e6:.2f} µs a URL, {peak_memory(words, without) / MIB:.1f} MiB at most"
+    tell(f"{JUDGED_URLS:,} URLs without hits", f"{took * 1e3:.1f} ms", remark)
+    served = ["--journal", os.path.join(folder, "journal"), "--listen", f"127.0.0.1:{port}", "--find-wait", "0"]
+    with subprocess.Popen([SBLISTD, "serve", *served], stdout=subprocess.DEVNULL) as server:
+        time.sleep(1)
+        took = run(words, with_hits, 20)[1]
+        server.kill()
+    tell(f"{JUDGED_HITS:,} URLs with a find each", f"{took * 1e3:.1f} ms", f"{took / JUDGED_HITS * 1e6:.1f} µs a URL")
+
+
 def ask(port, request):
     """One connection: sends a request, and reads to the end of the response."""
     with socket.create_connection(("127.0.0.1", port)) as wire:
@@ -270,9 +333,7 @@ def ask(port, request):
 
 def serve(journal, request, connections):
     """Serves connections one after the other: the wall time from the second to the last, and the server's processor times."""
-    with socket.socket() as free:
-        free.bind(("127.0.0.1", 0))
-        port = free.getsockname()[1]
+    port = free_port()
     words = ["--journal", journal, "--listen", f"127.0.0.1:{port}", "--connections", str(connections)]
     ran = subprocess.Popen([SBLISTD, "serve", *words], stdout=subprocess.DEVNULL)
     for _ in range(1_000):
@@ -413,6 +474,7 @@ def main():
         bench_replay(f"{MANY_LINES:,} updates of 64 to 256 prefixes", small, words.runs)
         bench_answers(folder, words.runs)
         bench_generated(words.runs)
+        bench_judged(folder, words.runs)
         bench_serve(folder)
     bench_sets(words.kernel_runs)
     bench_cache(words.kernel_runs)

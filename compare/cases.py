@@ -1,10 +1,13 @@
 #!/usr/bin/env python3
 """Runs the second program over the stored cases, as docs/FORMATS.md says how a case is written.
 
-A case is left out where it holds sessions or connections (`sbupdate run`, `sblistd serve`), where an object fails at a call with a number,
-for another program makes other calls, or where the host of a URL has bytes from 128 on. The last case is wrong on purpose, so exactly that one has to differ: else the exit status is 1.
+A run of a case is left out where it holds sessions of updates or connections (`sbupdate run`, `sblistd serve`), where an object fails at
+a call with a number, for another program makes other calls, or where the host of a URL has bytes from 128 on. What a run that is
+left out keeps is what its case says. Of runs that judge also what their sessions send and their moments are compared. The last case
+is wrong on purpose, so exactly that one has to differ: else the exit status is 1.
 """
 
+import argparse
 import base64
 import hashlib
 import itertools
@@ -12,6 +15,8 @@ import os
 import re
 import sys
 
+import exchanges
+import judging
 import loads
 import server
 import urls
@@ -22,12 +27,6 @@ CASES = os.path.join(REPOSITORY, "crates", "stored_cases", "stdin")
 MOST_INPUT = 201_326_592
 MOST_LINES = 65_536
 SIGNS = "|:~=@%&()"
-
-
-def response(body):
-    digest = base64.b64encode(hashlib.sha256(body).digest())
-    head = b"HTTP/1.1 200 OK\r\nContent-Type: application/json\r\nContent-Length: %d\r\n" % len(body)
-    return head + b"Content-Digest: sha-256=:" + digest + b":\r\nConnection: close\r\n\r\n" + body
 
 
 def expression(text):
@@ -112,7 +111,7 @@ class Writer:
             b"hex": lambda text: text.hex().encode(),
             b"sha256": lambda text: hashlib.sha256(text).digest(),
             b"sealed": lambda text: text + hashlib.sha256(text).digest(),
-            b"response": response,
+            b"response": exchanges.response,
             b"front": lambda text: text[: int(count)],
             b"without": lambda text: text[: max(0, len(text) - int(count))],
             b"each-front": lambda text: text[: self.cut],
@@ -165,6 +164,30 @@ def answer_words(words):
     return found[0]["--kind"], {name: int(seconds) for name, seconds in times.items()}
 
 
+NUMBER = "0|[1-9][0-9]{0,9}"
+HOST_AND_PORT = r"([A-Za-z0-9.][A-Za-z0-9.-]*):([1-9][0-9]{0,4})"
+JUDGED = ("--store", "--server", "--update", "--workers", "--patience", "--key", "--max-update", "--max-database")
+
+
+def judge_words(words):
+    """What the words of `sbcheck judge` plan, or None."""
+    found = options_of(words, JUDGED, ("--raw-only", "--no-digest"))
+    if found is None or lists_of(["--", *found[1]]) is None or not {"--store", "--server"} <= set(found[0]):
+        return None
+    said = found[0]
+    ranges = {"update": (0, 0), "workers": (1, 1), "patience": (60, 86_400), "max-update": (0, 2**31 - 1), "max-database": (2**20, 2**31 - 1)}
+    for name, (unsaid, most) in ranges.items():
+        text = said.setdefault("--" + name, str(unsaid))
+        least = 1 if name == "workers" else 0
+        if re.fullmatch(NUMBER, text) is None or not least <= int(text) <= most:
+            return None
+    address, key = re.fullmatch(HOST_AND_PORT, said["--server"]), said.get("--key", "")
+    if address is None or int(address[2]) > 65_535 or re.fullmatch("[A-Za-z0-9_-]*", key) is None:
+        return None
+    plan = {"names": found[1], "server": said["--server"], "key": key}
+    return plan | {"need_digest": "--no-digest" not in said, "patience": int(said["--patience"])}
+
+
 def load_words(words, flags=()):
     found = options_of(words, (), flags)
     if found is None or len(found[1]) != 2 or any(not re.fullmatch("0|[1-9][0-9]{0,19}", word) for word in found[1]):
@@ -178,9 +201,14 @@ def lines_of(text):
     return lines[:-1] if lines[-1] == b"" else lines
 
 
-def answer(words, text, journal):
-    """What the second program prints, and its status. None stands for the usage text."""
+def answer(words, text, journal, judge):
+    """What the second program prints, and its status. None stands for the usage text. `judge` makes a run that judges by its plan."""
     command, rest = words[:2], words[2:]
+    if command == ["sbcheck", "judge"]:
+        plan = judge_words(rest)
+        if plan is None:
+            return None, 1
+        return judge(plan) if len(text) <= MOST_INPUT and len(lines_of(text)) <= MOST_LINES else (b"", 6)
     if command == ["sblistd", "answer"]:
         found = answer_words(rest)
         return server.answer(journal, text, *found) if found else (None, 1)
@@ -207,6 +235,7 @@ def answer(words, text, journal):
 
 KNOWN = (
     ["sbupdate", "replay"],
+    ["sbcheck", "judge"],
     ["sbcheck", "show"],
     ["sbcheck", "vectors"],
     ["sblistd", "answer"],
@@ -219,20 +248,30 @@ LEFT_OUT = (["sbupdate", "run"], ["sblistd", "serve"])
 class Run:
     """A run of a case: the lines of its fields, its own or those of its group."""
 
-    def __init__(self, book, own, group, before):
-        self.book, self.own, self.group, self.before = book, own, group, before
+    def __init__(self, book, own, group, before, earlier):
+        self.book, self.own, self.group, self.before, self.earlier = book, own, group, before, earlier
+
+    def all_in(self, span, names):
+        return [number for number in span if self.book.lines[number].split(b" ")[0] in names]
 
     def find(self, name, spans):
         for span in spans:
-            found = [number for number in span if self.book.lines[number].split(b" ")[0] == name]
+            found = self.all_in(span, [name])
             if found:
                 return found[-1]
         return None
 
+    def every(self, *names):
+        """The lines of fields that may stand several times."""
+        return self.all_in(self.own, names) or self.all_in(self.group, names)
+
+    def rest(self, number):
+        return self.book.lines[number].partition(b" ")[2]
+
     def words(self):
         spans = (self.own, self.before, self.group)
         number = max(self.find(name, spans) or -1 for name in (b"client", b"server"))
-        words = self.book.lines[number].decode().split(" ")[1:]
+        words = self.rest(number).decode().split(" ")
         return ["" if word == '""' else word for word in words]
 
     def is_known(self):
@@ -243,16 +282,69 @@ class Run:
         number = self.find(name, (self.own, self.group))
         return (b"", 0) if number is None else self.book.text(number, cut)
 
+    def numbers(self, name):
+        number = self.find(name, (self.own, self.before, self.group))
+        return [] if number is None else [int(word.replace(b",", b"")) for word in self.rest(number).split(b" ")]
+
+    def store(self, cut):
+        """What the keeper keeps at first, or None."""
+        number = self.find(b"store", (self.own,) if self.earlier else (self.own, self.group))
+        if number is not None:
+            return self.book.text(number, cut)[0]
+        return self.earlier.kept(cut) if self.earlier else None
+
+    def kept(self, cut):
+        """What it keeps at the end. A run that judges keeps what it found."""
+        number = self.find(b"kept", (self.own, self.group))
+        if number is None:
+            return self.store(cut)
+        return None if self.rest(number) == b"none" else self.book.text(number, cut)[0]
+
+    def link(self, cut):
+        """The link, and how many fronts its texts are to be run for."""
+        plays, fronts = [], [0]
+        for number in self.every(b"session", b"serve", b"append"):
+            kind, _, harm = self.book.lines[number].partition(b" ")
+            text, more = (b"", 0) if kind == b"serve" else self.book.text(number, cut)
+            plays.append((kind, harm, text))
+            fronts.append(more)
+        wait, cache, negative = self.numbers(b"settings") or (1_800, 300, 300)
+        times = {"wait": wait, "find-wait": wait, "cache": cache, "negative": negative}
+        return judging.Link(plays, self.text(b"journal", cut)[0], times), max(fronts)
+
+    def told(self, cut):
+        """What the case says of the sessions' requests and of the moments, where it does."""
+        sent = [number for number in self.every(b"sent") if self.rest(number) != b"none"]
+        moments = self.find(b"moments", (self.own, self.group))
+        none = moments is None or self.rest(moments) == b"none"
+        return (
+            [self.book.text(number, cut)[0] for number in sent] if self.every(b"sent") else None,
+            None if moments is None else [] if none else [int(word) for word in self.rest(moments).split(b" ")],
+        )
+
     def differs(self, cut):
         """What is to come, and what comes of the second program, where they differ; and the fronts to run for."""
         texts = [self.text(name, cut) for name in (b"input", b"journal", b"out")]
         (text, _), (journal, _), (wanted, _) = texts
         number = self.find(b"status", (self.own, self.group))
         status = 0 if number is None else int(self.book.lines[number].split(b" ")[1])
-        printed, found = answer(self.words(), text, journal)
+        link, more = self.link(cut)
+        reports = []
+
+        def judge(plan):
+            clock, dice = judging.Clock(self.numbers(b"clock")), judging.Dice(self.numbers(b"dice"))
+            reports.append(judging.judge(plan, lines_of(text), self.store(cut), clock, dice, link.session))
+            return reports[0].printed, reports[0].status
+
+        printed, found = answer(self.words(), text, journal, judge)
         usage = printed is None and wanted.startswith(b"usage: ")
         same = status == found and (usage or printed == wanted)
-        return None if same else (status, wanted, found, printed), max(fronts for _, fronts in texts)
+        fronts = max(more, *(fronts for _, fronts in texts))
+        if same and reports:
+            for says, came in zip(self.told(cut), (reports[0].sent, reports[0].moments)):
+                if says is not None and says != came:
+                    return ("sessions or moments", repr(says).encode(), "these", came), fronts
+        return None if same else (status, wanted, found, printed), fronts
 
 
 def cases_of(book):
@@ -265,8 +357,11 @@ def cases_of(book):
             group = lines
             continue
         cuts = [head] + [number for number in lines if book.lines[number] == b"again"] + [end]
-        spans = [range(begin + 1, stop) for begin, stop in zip(cuts, cuts[1:])]
-        yield book.lines[head][3:].decode(), [Run(book, own, group, range(head + 1, own.start)) for own in spans]
+        runs = []
+        for begin, stop in zip(cuts, cuts[1:]):
+            own = range(begin + 1, stop)
+            runs.append(Run(book, own, group, range(head + 1, own.start), runs[-1] if runs else None))
+        yield book.lines[head][3:].decode(), runs
 
 
 def difference(runs):
@@ -282,15 +377,22 @@ def difference(runs):
 
 
 def main():
+    parser = argparse.ArgumentParser(description=__doc__.splitlines()[0])
+    parser.add_argument("--only", default="", help="only cases whose name has this, and the last one")
+    options = parser.parse_args()
     with open(CASES, "rb") as data:
         book = Book(data.read())
     names, ran, differing = [], 0, []
-    for name, runs in cases_of(book):
+    cases = list(cases_of(book))
+    for name, runs in cases:
         names.append(name)
-        if not all(run.is_known() for run in runs):
+        if options.only not in name and name != cases[-1][0]:
+            continue
+        known = [run for run in runs if run.is_known()]
+        if not known:
             continue
         try:
-            found = difference(runs)
+            found = difference(known)
         except urls.Skipped:
             continue
         ran += 1

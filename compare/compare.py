@@ -5,7 +5,8 @@ The second program is the first part of this file. It follows docs/FORMATS.md wi
 base64 and SHA-256, and shares nothing with the crates. First come the recordings of compare/recordings.py, whose
 texts are known; then seeded inputs: bodies that are right, bodies with changed fields, and bodies with changed
 bytes, and texts that stand at the limits of lists, objects and values. `sbcheck show` runs beside compare/urls.py on seeded URLs, and `sblistd answer` beside compare/server.py on seeded
-journals, fetch requests and find requests. The exit status is 1 where a run differs.
+journals, fetch requests and find requests. Runs of `sbcheck judge` are seeded with their stores, URLs, clocks and finds, which are
+scripted or served: they are cases for `stored_cases`. The exit status is 1 where a run differs.
 """
 
 import argparse
@@ -20,6 +21,7 @@ import sys
 import tempfile
 
 import dense
+import judged
 import server
 import urls
 from changing import change_bytes, change_field
@@ -30,6 +32,7 @@ REPOSITORY = os.path.dirname(os.path.dirname(os.path.abspath(__file__)))
 SBUPDATE = os.path.join(REPOSITORY, "bin", "sbupdate")
 SBCHECK = os.path.join(REPOSITORY, "bin", "sbcheck")
 SBLISTD = os.path.join(REPOSITORY, "bin", "sblistd")
+STORED_CASES = os.path.join(REPOSITORY, "bin", "stored_cases")
 
 MOST_VALUES = 1_048_576
 MOST_BYTES = 8_388_608
@@ -333,9 +336,21 @@ def compare_dense(rand, count):
         refused += outcomes["too dense"]
         differing += differs(f"dense text {number}", ["MALWARE/ANY_PLATFORM/URL"], text, (wanted, status))
         for kind in ("fetch", "find"):
-            question = b"sblist 1 0000000000000001\n", text, kind, {"wait": 1, "cache": 1, "negative": 1}
+            question = b"sblist 1 0000000000000001\n", text, kind, {"wait": 1, "find-wait": 1, "cache": 1, "negative": 1}
             differing += answers_differ(f"to dense text {number}", question)
     print(f"{count:,} texts about the limits of lists, objects and values, {refused:,} of them too dense")
+    return differing
+
+
+def compare_judged(rand, count):
+    """Runs seeded cases of `sbcheck judge`: how many differ."""
+    text, kinds = judged.some_runs(rand, count)
+    found = subprocess.run([STORED_CASES], input=text, stdout=subprocess.PIPE, check=False)
+    differing = 0 if (found.stdout, found.returncode) == (b"%d cases, 0 differ\n" % count, 0) else 1
+    if differing:
+        print(f"runs that judge: status {found.returncode}\n{found.stdout.decode('utf-8', 'replace'):.4000}")
+    told = ", ".join(f"{number:,} {kind}" for kind, number in sorted(kinds.items()))
+    print(f"{count:,} runs that judge: {told}")
     return differing
 
 
@@ -354,6 +369,7 @@ def main():
     parser.add_argument("--dense", type=int, default=300, help="how many texts about the limits of density (300)")
     parser.add_argument("--urls", type=int, default=20_000, help="how many URLs (20000)")
     parser.add_argument("--answers", type=int, default=3_000, help="how many journals and requests of each kind (3000)")
+    parser.add_argument("--judged", type=int, default=2_000, help="how many runs that judge (2000)")
     parser.add_argument("--seed", type=int, default=20_240_229, help="where they begin")
     options = parser.parse_args()
     differing = 0
@@ -383,6 +399,7 @@ def main():
     print(f"{options.urls // 1_000 * 1_000:,} URLs, {refused:,} of them refused")
     for kind in ("fetch", "find"):
         differing += compare_answers(rand, kind, options.answers)
+    differing += compare_judged(rand, options.judged)
     print(f"{differing} differ")
     return 1 if differing else 0
 

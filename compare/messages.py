@@ -262,15 +262,27 @@ class Reader:
         return data
 
     def duration(self, holder, name):
+        """The nanoseconds of a duration."""
         value = holder.get(name)
         if value is None:
-            return
+            return 0
         form = re.fullmatch(r"([0-9]+)(?:\.([0-9]{1,9}))?s", self.string(value, name), re.ASCII)
         if form is None:
             self.refuse("duration", name)
         nanos = int((form[2] or "").ljust(9, "0"))
         if int(form[1]) * 10**9 + nanos > MOST_SECONDS * 10**9:
             self.refuse("duration", name)
+        return int(form[1]) * 10**9 + nanos
+
+    def match(self, value):
+        """The list of a match, its full hash, and for how many nanoseconds it may be kept."""
+        entry = self.object(value, "matches")
+        name = self.list_name(entry)
+        threat = self.inner(entry, "threat")
+        full = self.bytes(self.needed(threat, "hash", "threat.hash"), "threat.hash")
+        if len(full) != 32:
+            self.refuse(f"size {len(full)}", "threat.hash")
+        return name, full, self.duration(entry, "cacheDuration")
 
 
 def read_body(line):
@@ -315,3 +327,12 @@ def read_find(text):
     if len(items) > MOST_PREFIXES:
         raise Unreadable(f"too-many-items {len(items)}")
     return words, [Reader(number).prefix(item) for number, item in enumerate(items, 1)]
+
+
+def read_find_answer(text):
+    """The matches of the answer to a find, and its two times in nanoseconds: how long finds wait, and how long there is no further match."""
+    outside = Reader(0)
+    body = outside.object(read_json(text), "message")
+    matches = [Reader(number).match(one) for number, one in enumerate(outside.list(body, "matches"), 1)]
+    wait = outside.duration(body, "minimumWaitDuration")
+    return {"matches": matches, "wait": wait, "negative": outside.duration(body, "negativeCacheDuration")}
