@@ -1,0 +1,4 @@
+pub mod Prefixes
+pub mod Steps
+pub mod Newest
+pub mod Boxes

@@ -1,0 +1,4 @@
+pub mod Publications
+pub mod Rule
+pub mod Publishing
+pub mod Kept
