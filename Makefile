@@ -6,9 +6,14 @@
 SHELL := /bin/bash
 LIST := MALWARE/ANY_PLATFORM/URL
 PROGRAMS := sbupdate sbcheck sblistd kernels
+INSTALLED := sbupdate sbcheck sblistd
 BUILT := $(wildcard bin/sbupdate bin/sblistd)
 
-.PHONY: all test check gate wrong-bodies demo compare try-http try-run try-memory try-readme bench clean
+PREFIX ?= /usr/local
+BINDIR ?= $(PREFIX)/bin
+MANDIR ?= $(PREFIX)/share/man/man1
+
+.PHONY: all test check gate wrong-bodies install uninstall demo compare try-http try-run try-memory try-readme bench clean
 
 all:
 	python3 tools/build.py $(PROGRAMS)
@@ -16,7 +21,7 @@ all:
 test:
 	.ci/run
 
-# The repository's own checks alone, without a proof: wrong bodies, and what the documents name.
+# The repository's own checks alone, without a proof: wrong bodies, what the documents name, and the man pages.
 check:
 	tools/check.sh
 
@@ -27,6 +32,19 @@ gate:
 # Tries the wrong bodies that the gate leaves alone: those of the crates in NAMES, or all.
 wrong-bodies:
 	python3 tools/wrong_bodies.py try $(NAMES)
+
+# Copies the programs of bin/ and the man pages below PREFIX, which DESTDIR may stand before, as packages use it. It builds
+# nothing: run make first.
+install:
+	@for program in $(INSTALLED); do \
+	  test -x bin/$$program || { echo "bin/ has no $$program yet: make proves and builds it"; exit 1; }; done
+	install -d "$(DESTDIR)$(BINDIR)" "$(DESTDIR)$(MANDIR)"
+	install -m 755 $(INSTALLED:%=bin/%) "$(DESTDIR)$(BINDIR)"
+	install -m 644 $(INSTALLED:%=man/%.1) "$(DESTDIR)$(MANDIR)"
+
+# Removes what install copied, and leaves the folders.
+uninstall:
+	rm -f $(INSTALLED:%="$(DESTDIR)$(BINDIR)/%") $(INSTALLED:%="$(DESTDIR)$(MANDIR)/%.1")
 
 # The recording has an update with a wrong checksum, the same update with the right one, a later one whose
 # prefixes come in no order, and a partial one. The first is refused, so the replay ends with status 5. Where the programs
@@ -43,8 +61,9 @@ else
 endif
 
 # A second program of the same rules, in Python, has to print what sbupdate, sbcheck and sblistd print, and what the stored
-# cases say.
+# cases say. Runs that judge are compared by the program that runs the stored cases.
 compare: all
+	python3 tools/build.py $(PROGRAMS) stored_cases
 	python3 compare/cases.py
 	python3 compare/compare.py
 
@@ -53,9 +72,10 @@ try-http: all
 	bash try/http.sh
 
 # Kills fifty clients in mid-run, and sees that the next run of each comes to the server's set; then pipes, closed
-# descriptors, and stores that are held or taken.
+# descriptors, and stores that are held or taken. Last, URLs are judged against a server.
 try-run: all
 	bash try/run.sh
+	bash try/judge.sh
 
 # Measures the memory that sbupdate and sblistd take for hostile JSON, and fails where it is more than the limits allow.
 try-memory: all

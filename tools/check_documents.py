@@ -97,7 +97,7 @@ class Code:
         for path in glob.glob(os.path.join(CRATES, "*", "s*", "*.*")):
             self.words.add(os.path.splitext(os.path.basename(path))[0])
         self.words.update(re.findall(r"[\w-]+", text_of("crates.txt")))
-        self.files = {os.path.basename(it) for folder in ("crates", "tools", "try", "compare", "bench", "demo", "docs") for it in self.walk(folder)}
+        self.files = {os.path.basename(it) for folder in ("crates", "tools", "try", "compare", "bench", "demo", "docs", "man") for it in self.walk(folder)}
         self.files.update(os.listdir(REPOSITORY))
         self.clauses = {}
         for crate in self.crates:
@@ -162,7 +162,7 @@ def fault_of_span(span, code, targets):
         return None if target in targets else f"the Makefile has no target {target}"
     if re.fullmatch(r"[\w.*-]+(/[\w.*-]+)+/?", span):
         first = span.split("/")[0]
-        known = first in code.crates or first in ("crates", "docs", "tools", "try", "compare", "bench", "demo", "specs", "src", "proofs")
+        known = first in code.crates or first in ("crates", "docs", "tools", "try", "compare", "bench", "demo", "man", "specs", "src", "proofs")
         if known and not stands(span):
             return f"no file {span}"
         return None
@@ -198,6 +198,14 @@ def faults_of_clauses(page, code):
             for name in re.findall(r"`(\w+)`", names):
                 if name not in known:
                     yield f"{call} has no clause {name}"
+
+
+def faults_of_claims(readme, code):
+    """Each claim under *What is proved* names a clause of a call."""
+    for claim in re.findall(r"^- .*(?:\n  .*)*", readme.section("What is proved") or "", re.M):
+        calls = re.findall(r"`([\w:]+)`\s\(`\w+`", claim)
+        if not any(code.clauses_of(it) for it in calls):
+            yield f"a claim names no clause: {claim[:40]}.."
 
 
 def faults_of_clause_lists(page, code):
@@ -272,9 +280,13 @@ def faults_of_form(readme):
 
 
 def faults_of_sections(formats):
-    """Each section of the page of formats begins with its standard and the files that hold it."""
-    for section in re.split(r"^## ", formats.text, flags=re.M)[1:]:
+    """Each section of the page of formats is among the subjects above the first, and begins with its standard and the files
+    that hold it."""
+    subjects, *sections = re.split(r"^## ", formats.text, flags=re.M)
+    for section in sections:
         heading, _, rest = section.partition("\n")
+        if f"](#{anchor(heading)})" not in subjects:
+            yield f'"{heading}" is not among the subjects'
         front = rest.strip().split("\n\n")[0]
         if not front.startswith("*Standard: ") or not re.search(r"(?:Definitions?|Code):\s", front):
             yield f'"{heading}" does not begin with its standard and the files of its definitions'
@@ -307,6 +319,7 @@ def faults():
         if page.path in (README, PROMISES):
             found += faults_of_clauses(page, code)
         yield from ((page.path, it) for it in found)
+    yield from ((README, it) for it in faults_of_claims(by_path[README], code))
     yield from ((PROMISES, it) for it in faults_of_clause_lists(by_path[PROMISES], code))
     yield from ((FORMATS, it) for it in faults_of_sections(by_path[FORMATS]))
     yield from faults_of_options(pages)

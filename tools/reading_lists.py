@@ -1,18 +1,18 @@
 #!/usr/bin/env python3
 """Which definitions one has to read to know what a clause says.
 
-For each clause of `run_client` and of `run_server` this goes from the clause's words, by the `use` lines of the files in
-`specs/`, to every definition that these words stand for, and to those that these cite. What comes of it stands in
-docs/PROMISES.md between two markers: for each clause the files, each after those that it cites, with how many lines of
-it the clause takes (comments above a definition included), of how many it has.
+For each clause of the top calls this goes from the clause's words, by the `use` lines of the files in `specs/`, to every
+definition that these words stand for, and to those that these cite. What comes of it stands in docs/READING.md between
+two markers: for each clause the files, each after those that it cites, with how many lines of it the clause takes
+(comments above a definition included), of how many it has.
 
 Types and constants of `src/` (imports of `declared`) and definitions of the toolchain's crates are not followed; the
 latter are named by their crates. A name that a definition binds in sight, as a parameter with its type, is not taken for
 a definition of that name; one that it binds otherwise is, so a list may name a little too much.
 
     reading_lists.py            prints the lists
-    reading_lists.py --write    puts them into docs/PROMISES.md
-    reading_lists.py --check    fails where docs/PROMISES.md has others
+    reading_lists.py --write    puts them into docs/READING.md
+    reading_lists.py --check    fails where docs/READING.md has others
 """
 
 import os
@@ -22,10 +22,14 @@ import textwrap
 
 REPOSITORY = os.path.dirname(os.path.dirname(os.path.abspath(__file__)))
 CRATES = os.path.join(REPOSITORY, "crates")
-PAGE = os.path.join(REPOSITORY, "docs", "PROMISES.md")
+PAGE = os.path.join(REPOSITORY, "docs", "READING.md")
 BEGIN = "<!-- tools/reading_lists.py writes what follows -->"
 END = "<!-- tools/reading_lists.py wrote what stands above -->"
-CALLS = (("run_client", "sb_client", "src/client.rt"), ("run_server", "sb_service", "src/service.rt"))
+CALLS = (
+    ("run_client", "sb_client", "src/client.rt"),
+    ("run_server", "sb_service", "src/service.rt"),
+    ("serve_connection", "sb_service", "src/connection.rt"),
+)
 
 USE = re.compile(r"^(?:ghost )?use Rattle\.([\w.]+?)(?:\.\{([^}]*)\}| as (\w+))?;?\s*$", re.M)
 DECLARED = re.compile(r"^(?:abbrev |unfoldable |infixl \d+ )*(?:pub )?(?:abbrev |record |data )?([^\s:({]+)")
@@ -239,7 +243,7 @@ def lists():
     for function, crate, source in CALLS:
         path = os.path.join(CRATES, crate, source)
         imports = imports_of(text_of(path))
-        out += [f"### What the clauses of `{function}` take", ""]
+        out += [f"## What the clauses of `{function}` take", ""]
         same = {}
         for name, text in clauses_of(path, function):
             found, edges, kit = reader.closure(words_in(text), imports)
@@ -266,7 +270,7 @@ def lists():
 
 def parts_of(page):
     if page.count(BEGIN) != 1 or page.count(END) != 1:
-        raise ValueError(f"docs/PROMISES.md has not each of the two markers once: {BEGIN}, {END}")
+        raise ValueError(f"docs/READING.md has not each of the two markers once: {BEGIN}, {END}")
     front, _, rest = page.partition(BEGIN)
     middle, _, back = rest.partition(END)
     return front, middle, back
@@ -279,7 +283,7 @@ def faults():
     except ValueError as fault:
         return [str(fault)]
     if middle.strip() != lists().strip():
-        return ["docs/PROMISES.md: what one has to read is stale; python3 tools/reading_lists.py --write"]
+        return ["docs/READING.md: what one has to read is stale; python3 tools/reading_lists.py --write"]
     return []
 
 

@@ -1,0 +1,321 @@
+#!/usr/bin/env python3
+"""Makes the man pages of the programs, man/PROGRAM.1, of what stands elsewhere.
+
+    man_pages.py write    writes them
+    man_pages.py check    fails where one is another, and where what they are made of does not fit together
+
+NAME is the first line of a program's `main.rt`, SYNOPSIS and COMMANDS are its usage text as the code has it, DESCRIPTION
+is what README begins with, OPTIONS and EXIT STATUS are tables of docs/FORMATS.md, and EXAMPLES are those steps of
+README's sessions that run the program. A table of options begins with "Option of" and the commands that have them, and
+one of statuses with "Status of" and the commands. Each command of a usage text has exactly one table of statuses, and its
+tables of options have each option of its line once; they may have more that a command takes. docs/FORMATS.md has each
+usage text, word for word, and README.md has of each program the statuses of its commands.
+"""
+
+import os
+import re
+import sys
+
+import check_documents
+import reading_lists
+
+REPOSITORY = reading_lists.REPOSITORY
+README, FORMATS = check_documents.README, check_documents.FORMATS
+MAN = os.path.join(REPOSITORY, "man")
+
+# each program: the crate and the constant that have its usage text
+PROGRAMS = {
+    "sblistd": ("sb_service", "USAGE"),
+    "sbupdate": ("sb_client", "UPDATE_USAGE"),
+    "sbcheck": ("sb_client", "CHECK_USAGE"),
+}
+
+# a session reads files of the repository; whoever installed the programs has others
+OTHER_NAMES = {"crates/sblistd/data/journal": "lists", "crates/sblistd/stdin": "request", "bin/": ""}
+LONGEST_LINE = 120
+
+
+class Fault(Exception):
+    """Why no page can be made."""
+
+
+def text_of(path):
+    return reading_lists.text_of(os.path.join(REPOSITORY, path))
+
+
+def literal_of(crate, name):
+    """A constant text of a crate, as the program has it."""
+    source = check_documents.Code.texts(crate, "src", "rt")
+    found = re.search(rf'^pub const {name}: &str =\s*"((?:[^"\\]|\\.)*)";', source, re.M | re.S)
+    if not found:
+        raise Fault(f"{crate} has no constant text {name}")
+    joined = re.sub(r"\\\n\s*", "", found[1])
+    return re.sub(r"\\(.)", lambda it: {"n": "\n"}.get(it[1], it[1]), joined)
+
+
+class Command:
+    """A command of a usage text: its line, and the sentence below it."""
+
+    def __init__(self, line, sentence):
+        self.line, self.sentence = line, sentence
+        self.name = line.split()[1]
+        self.options = {found[1]: found[2] for found in re.finditer(r"(--[a-z-]+)(?: ([^\s\]-][^\s\]]*))?", line)}
+
+
+def commands_of(program, usage):
+    """The commands of a usage text: `usage: PROGRAM COMMAND`, an empty line, and for each its line and its sentence."""
+    first, *rest = usage.rstrip("\n").split("\n")
+    if first != f"usage: {program} COMMAND" or not rest or rest[0]:
+        raise Fault(f"the usage text of {program} does not begin with its line and an empty one")
+    commands = []
+    for line in rest[1:]:
+        if re.match(rf"  {program} \S", line):
+            commands.append(Command(line.strip(), ""))
+        elif re.match(r" {6}\S", line) and commands:
+            commands[-1].sentence = f"{commands[-1].sentence} {line.strip()}".strip()
+        else:
+            raise Fault(f"the usage text of {program} has a line that is no command and no sentence: {line}")
+    for command in commands:
+        if not command.sentence:
+            raise Fault(f"the usage text of {program} says nothing of {command.name}")
+    return commands
+
+
+class Tables:
+    """The tables of options and statuses, by the commands that their heads name."""
+
+    def __init__(self, page):
+        self.options, self.statuses = [], []
+        for table in check_documents.tables_of(page.text):
+            head = table[0][0]
+            for begins, tables in (("Option of ", self.options), ("Status of ", self.statuses)):
+                if head.startswith(begins):
+                    tables.append((re.findall(r"`([\w-]+)`", head), table[1:]))
+
+    def statuses_for(self, names):
+        """The tables of these commands, in order."""
+        for name in names:
+            count = sum(name in of for of, _ in self.statuses)
+            if count != 1:
+                raise Fault(f"{FORMATS} has {count} tables of statuses for the command {name}")
+        return [it for it in self.statuses if any(name in it[0] for name in names)]
+
+    def options_for(self, commands):
+        known = check_documents.known_options()
+        for command in commands:
+            named = [row[0].strip("`") for of, table in self.options if command.name in of for row in table]
+            for option in sorted(set(named) | set(command.options)):
+                if named.count(option) != 1:
+                    raise Fault(f"{FORMATS} tells {named.count(option)} times of the option {option} of {command.name}")
+                if option not in command.options and option not in known:
+                    raise Fault(f"{FORMATS} tells of {option}, which {command.name} does not take")
+        names = [it.name for it in commands]
+        return [it for it in self.options if any(name in it[0] for name in names)]
+
+
+def escaped(text):
+    """Text for the formatter, whose hyphens and quotes can be copied from the page."""
+    return text.replace("\\", "\\e").replace("-", "\\-").replace("'", "\\(aq").replace("`", "\\(ga")
+
+
+def plain(text):
+    """Markdown in a line: words in backquotes and in stars are bold, a link is its heading in quotes."""
+    text = re.sub(r"<code>(.*?)</code>", r"`\1`", text).replace("&#124;", "|")
+    text = re.sub(r"\[([^\]]*)\]\([^)]*\)", r'"\1"', text)
+    parts = re.split(r"`([^`]*)`|\*\*([^*]*)\*\*", text)
+    out = ""
+    for at in range(0, len(parts), 3):
+        out += escaped(parts[at])
+        bold = parts[at + 1] or parts[at + 2] if at + 2 < len(parts) else None
+        if bold:
+            out += f"\\fB{escaped(bold)}\\fP"
+    return out
+
+
+def of_line(line):
+    """A command line: what is typed is bold, what stands for something is slanted, and a bracket is not broken."""
+
+    def word(one):
+        found = re.fullmatch(r"([\[(|]*)([^\[\]()|.]+(?:\|[^\[\]()|.]+)*)([\])|.]*)", one)
+        if not found:
+            return escaped(one)
+        font = "I" if re.fullmatch(r"[A-Z][A-Z:|]*", found[2]) else "B"
+        return f"{found[1]}\\f{font}{escaped(found[2])}\\fP{found[3]}"
+
+    out, depth = [], 0
+    for one in line.split():
+        gap = "\\ " if depth else " "
+        depth += one.count("[") - one.count("]")
+        out.append((gap if out else "") + word(one))
+    return re.sub(r"(\\fB\\-\\-[^ ]*?\\fP) (\\fI)", r"\1\\ \2", "".join(out))
+
+
+def sentence(text):
+    """A cell as a sentence of its own."""
+    return text[:1].upper() + text[1:] + ("" if text.endswith(".") else ".")
+
+
+def option_lines(tables, commands):
+    placed = {name: value for command in commands for name, value in command.options.items()}
+    for of, rows in tables:
+        known = [it.name for it in commands if it.name in of]
+        yield f".SS \"Of {' and '.join(known)}\""
+        for row in rows:
+            name = row[0].strip("`")
+            value = f" \\fI{escaped(placed[name])}\\fP" if placed.get(name) else ""
+            yield from (".TP", f"\\fB{escaped(name)}\\fP{value}")
+            yield plain(sentence(row[1]))
+            yield "It is needed." if row[2] == "refused" else f"Where it is not given: {plain(row[2])}."
+
+
+def status_lines(tables, names):
+    for of, rows in tables:
+        yield f".SS \"Of {' and '.join(it for it in of if it in names)}\""
+        for row in rows:
+            yield from (".TP", f"\\fB{row[0]}\\fP", plain(sentence(row[1])))
+            if len(row) > 2 and row[2]:
+                yield f"Printed: {plain(row[2])}."
+
+
+def sessions_of(text):
+    """Each step of README's sessions: the command, and the lines that it prints before the next one is given."""
+    for block in re.findall(r"^```console\n(.*?)^```", text, re.M | re.S):
+        steps = []
+        for line in block.splitlines():
+            if line.startswith("$ "):
+                steps.append([line])
+            elif steps:
+                steps[-1].append(line)
+        yield from steps
+
+
+def example_lines(program, readme):
+    for step in sessions_of(readme.whole):
+        if f"bin/{program} " not in step[0]:
+            continue
+        yield from (".PP", ".nf", ".RS 4")
+        for line in step:
+            for old, new in OTHER_NAMES.items():
+                line = line.replace(old, new)
+            cut = line if len(line) <= LONGEST_LINE else f"{line[:LONGEST_LINE - 3]}..."
+            yield f"\\&{escaped(cut)}"
+        yield from (".RE", ".fi")
+
+
+def first_paragraph(readme):
+    """What README begins with, below its heading."""
+    return " ".join(readme.whole.split("\n\n")[1].split())
+
+
+def sentences(text):
+    """Lines for the formatter, one for each sentence."""
+    return [plain(it) for it in re.split(r"(?<=[.:]) (?=[A-Z`])", text)]
+
+
+def page_of(program, readme, formats):
+    crate, constant = PROGRAMS[program]
+    commands = commands_of(program, literal_of(crate, constant))
+    names = [it.name for it in commands]
+    tables = Tables(formats)
+    about = re.match(r"//! (.*)", text_of(f"crates/{program}/src/main.rt"))[1].rstrip(".")
+    others = [f"\\fB{it}\\fP(1)" for it in sorted(PROGRAMS) if it != program]
+    options = tables.options_for(commands)
+    lines = [
+        '.\\" Written by tools/man_pages.py of the usage text, README.md and docs/FORMATS.md.',
+        f'.TH {program.upper()} 1 "" "Kestrelplumb" "User Commands"',
+        ".nh",
+        ".ad l",
+        ".SH NAME",
+        f"{program} \\- {plain(about[:1].lower() + about[1:])}",
+        ".SH SYNOPSIS",
+    ]
+    for at, command in enumerate(commands):
+        lines += ([".br"] if at else []) + [of_line(command.line)]
+    lines += [".SH DESCRIPTION", *sentences(first_paragraph(readme)), ".SH COMMANDS"]
+    for command in commands:
+        lines += [".TP", f"\\fB{escaped(command.name)}\\fP", plain(sentence(command.sentence))]
+    if options:
+        lines += [".SH OPTIONS", *option_lines(options, commands)]
+    lines += [".SH \"EXIT STATUS\"", *status_lines(tables.statuses_for(names), names)]
+    examples = list(example_lines(program, readme))
+    lines += [".SH EXAMPLES", *examples] if examples else []
+    lines += [
+        '.SH "SEE ALSO"',
+        ", ".join(others),
+        ".PP",
+        "Headings in quotes are those of \\fBdocs/FORMATS.md\\fP in the sources of Kestrelplumb, which has the formats,",
+        "the limits and what each line on standard error means.",
+        "\\fBREADME.md\\fP there goes through first uses, and \\fBdocs/PROMISES.md\\fP says what is proved.",
+    ]
+    return "\n".join(lines) + "\n"
+
+
+def faults_of_quotes(program, formats):
+    usage = literal_of(*PROGRAMS[program])
+    if f"```text\n{usage}```\n" not in formats.whole:
+        yield f"{FORMATS} has not the usage text of {program}, word for word, between fences of its own"
+
+
+def faults_of_statuses(program, readme, formats):
+    """README's table of statuses has for a program those of its commands."""
+    names = [it.name for it in commands_of(program, literal_of(*PROGRAMS[program]))]
+    wanted = {int(row[0]) for _, rows in Tables(formats).statuses_for(names) for row in rows}
+    named = set()
+    for table in check_documents.tables_of(readme.text):
+        if table[0][:2] == ["Program", "Status"]:
+            named |= {int(row[1]) for row in table[1:] if row[0] == "each" or f"`{program}`" in row[0]}
+    for status in sorted(wanted ^ named):
+        yield f"{README} {'lacks' if status in wanted else 'has, and no command has,'} the status {status} of {program}"
+
+
+def pages():
+    """Each program's page, by its path."""
+    readme, formats = check_documents.Page(README), check_documents.Page(FORMATS)
+    return {os.path.join(MAN, f"{it}.1"): page_of(it, readme, formats) for it in PROGRAMS}
+
+
+def faults():
+    readme, formats = check_documents.Page(README), check_documents.Page(FORMATS)
+    try:
+        made = pages()
+        for program in PROGRAMS:
+            yield from faults_of_quotes(program, formats)
+            yield from faults_of_statuses(program, readme, formats)
+    except Fault as fault:
+        yield str(fault)
+        return
+    for path, text in made.items():
+        name = os.path.relpath(path, REPOSITORY)
+        if not os.path.isfile(path):
+            yield f"no {name}; python3 tools/man_pages.py write"
+        elif reading_lists.text_of(path) != text:
+            yield f"{name} is stale; python3 tools/man_pages.py write"
+    for name in sorted(set(os.listdir(MAN)) - {os.path.basename(it) for it in made} if os.path.isdir(MAN) else ()):
+        yield f"man/{name} is of no program"
+
+
+def main(words):
+    if words == ["check"]:
+        found = list(faults())
+        for fault in found:
+            print(f"man pages: {fault}", file=sys.stderr)
+        if not found:
+            print("man pages: they are what they are made of", file=sys.stderr)
+        return 1 if found else 0
+    if words == ["write"]:
+        try:
+            made = pages()
+        except Fault as fault:
+            print(f"man pages: {fault}", file=sys.stderr)
+            return 1
+        os.makedirs(MAN, exist_ok=True)
+        for path, text in made.items():
+            with open(path, "w", encoding="utf-8") as file:
+                file.write(text)
+        return 0
+    print(__doc__, file=sys.stderr)
+    return 2
+
+
+if __name__ == "__main__":
+    sys.exit(main(sys.argv[1:]))
