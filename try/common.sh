@@ -10,3 +10,14 @@ free_port() {
     fi
   done
 }
+
+# the SHA-256 of a text, as a journal has it
+hash_of() {
+  printf '%s' "$1" | sha256sum | cut -d ' ' -f 1
+}
+
+# ends a script of `make try-run`, and says why
+fail() {
+  echo "try-run: $1"
+  exit 1
+}

@@ -13,15 +13,6 @@ folder=$(mktemp -d)
 started=()
 trap 'kill "${started[@]}" 2> /dev/null; rm -rf "$folder"' EXIT
 
-fail() {
-  echo "try-run: $1"
-  exit 1
-}
-
-hash_of() {
-  printf '%s' "$1" | sha256sum | cut -d ' ' -f 1
-}
-
 # judges the lines of its input: the report into `report`, and the status into `status`
 judge() {
   report=$(bin/sbcheck judge --store "$folder/store" --server "127.0.0.1:$port" "$@" "$LIST" 2> "$folder/said")

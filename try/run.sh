@@ -22,11 +22,6 @@ folder=$(mktemp -d)
 started=()
 trap 'kill "${started[@]}" 2> /dev/null; rm -rf "$folder"' EXIT
 
-fail() {
-  echo "try-run: $1"
-  exit 1
-}
-
 # the next of the numbers that the seed gives: below its argument, into `drawn`
 state=$SEED
 draw() {
@@ -35,10 +30,6 @@ draw() {
 }
 
 # ---- the server: version V of its list has counts[V] prefixes
-
-hash_of() {
-  printf '%s' "$1" | sha256sum | cut -d ' ' -f 1
-}
 
 version=0
 counts=(0)
