@@ -81,7 +81,7 @@ try-run: all
 try-memory: all
 	python3 try/memory.py
 
-# Runs the sessions of README in a clean clone, with the programs of bin/, and compares what they print. Up to two minutes.
+# Runs the sessions of README in a clean clone, with the programs of bin/, and compares what they print. Up to four minutes.
 try-readme: all
 	python3 try/readme.py
 

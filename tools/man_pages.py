@@ -31,7 +31,7 @@ PROGRAMS = {
 }
 
 # a session reads files of the repository; whoever installed the programs has others
-OTHER_NAMES = {"crates/sblistd/data/journal": "lists", "crates/sblistd/stdin": "request", "bin/": ""}
+OTHER_NAMES = {"crates/sblistd/data/journal": "lists", "crates/sblistd/stdin": "request", "demo/recording.jsonl": "recording", "bin/": ""}
 LONGEST_LINE = 120
 
 

@@ -22,8 +22,8 @@ import time
 REPOSITORY = os.path.dirname(os.path.dirname(os.path.abspath(__file__)))
 PROGRAMS = ("sbupdate", "sbcheck", "sblistd")
 PORT = "8080"
-# a client waits for up to 60 seconds before its first request
-LONGEST = 90
+# a client waits for up to 60 seconds before its first request, and two may do so one after the other
+LONGEST = 150
 QUIET = 0.5
 MOMENT = re.compile(r"\bat \d{13}\b")
 
