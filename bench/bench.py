@@ -3,7 +3,8 @@
 
 Each time is the best of a few runs. Processor times are less disturbed by what else runs. What a
 kernel takes is the difference of two of them: that of its run, and that of the run that only makes
-its data. The peak of the memory is the largest resident set, as the system counts it.
+its data. The peak of the memory is the largest resident set, as the system counts it. Where `valgrind`
+is installed, the instructions of the work on URLs are counted too: they do not depend on what else runs.
 """
 
 import argparse
@@ -16,6 +17,8 @@ import multiprocessing
 import os
 import platform
 import random
+import re
+import shutil
 import socket
 import subprocess
 import sys
@@ -49,6 +52,7 @@ FOUND_PREFIXES = 1_048_576
 USUAL_URLS = 100_000
 HOSTILE_URLS = 2_000
 HOSTILE_BYTES = 8_192
+COUNTED_URLS = 200
 
 PR_SET_CHILD_SUBREAPER = 36
 MIB = 1 << 20
@@ -447,12 +451,26 @@ def bench_finds(runs):
         tell(name, f"{took * 1e3:.1f} ms", f"{took / finds * 1e6:.1f} µs a find, {took / finds / count * 1e6:.2f} µs a prefix")
 
 
+def instructions_of(words):
+    """How many instructions a program takes, as callgrind counts them. They hang on nothing else that runs."""
+    counted = ["valgrind", "--tool=callgrind", "--callgrind-out-file=/dev/null", *words]
+    ran = subprocess.run(counted, stdout=subprocess.DEVNULL, stderr=subprocess.PIPE, check=True, text=True, errors="replace")
+    return int(re.search(r"Collected : (\d+)", ran.stderr)[1])
+
+
 def bench_urls(title, prefix, count, runs):
+    """Canonical forms, and these with the expressions of each: both beside the run that only makes the URLs, since what the
+    expressions take by themselves is less than what the time of a run varies by. The instructions tell them apart."""
     kernels = [prefix + kernel for kernel in ("urls", "canonical", "expressions")]
-    texts, canonical, expressions = processor_times(kernels, count, runs)
+    texts, canonical, both = processor_times(kernels, count, runs)
     print(f"{count:,} {title}")
-    for name, took in (("canonical", canonical - texts), ("expressions", expressions - canonical)):
+    for name, took in (("canonical", canonical - texts), ("canonical, and their expressions", both - texts)):
         tell(name, f"{took * 1e3:.1f} ms", f"{took / count * 1e6:.2f} µs a URL")
+    if shutil.which("valgrind") is None:
+        return
+    texts, canonical, both = (instructions_of([KERNELS, it, str(COUNTED_URLS), "1"]) for it in kernels)
+    for name, counted in (("instructions of canonical forms", canonical - texts), ("instructions of expressions", both - canonical)):
+        tell(name, f"{counted / 1e6:.2f} million", f"{counted / COUNTED_URLS:,.0f} a URL, of {COUNTED_URLS}")
 
 
 def main():
