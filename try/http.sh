@@ -2,7 +2,7 @@
 # Drives the built sblistd over loopback with curl: updates, each refusal that a client can bring about, clients that stall,
 # and many connections. Prints a line for each step, and ends with status 1 at the first that is not as it should be.
 #
-# A stalling client is given up after 30 seconds, and one that sends a byte a second after 60, so this takes two minutes.
+# Clients that stall or send a byte a second hold nobody up. It takes some minutes.
 set -u
 cd "$(dirname "$0")/.." || exit 1
 source try/common.sh
