@@ -88,17 +88,16 @@ with_folders cs query = append_assoc (path_with_query (path_text cs) query) (pat
 
 -- the pieces of one host more
 pub piece_turn : (text : List ℕ) (n : ℕ) (places lens shown : List ℕ) (i : ℕ) (all new : List (List ℕ)) → i < length places → shown ≡ lens
-    → new ≡ all ++ map (λ len. take (n - get_or places i 0 + len) (take (length text - get_or places i 0) (drop (get_or places i 0) text))) shown
+    → new ≡ all ++ map (λ len. take (n - get_or places i 0 + len) (drop (get_or places i 0) text)) shown
     → all ≡ flat_map (λ place. map (λ len. take (n - place + len) (drop place text)) lens) (take i places)
     → new ≡ flat_map (λ place. map (λ len. take (n - place + len) (drop place text)) lens) (take (i + 1) places)
 piece_turn text n places lens shown i all new inside same grown so_far =
     let each : ℕ → List (List ℕ) = λ place. map (λ len. take (n - place + len) (drop place text)) lens in
     let place : ℕ = get_or places i 0 in
     grown
-    ∙ (ap (λ ls. all ++ map (λ len. take (n - place + len) (take (length text - place) (drop place text))) ls) same
-    ∙ (ap (λ t. all ++ map (λ len. take (n - place + len) t) lens) (take_rest text place)
+    ∙ (ap (λ ls. all ++ map (λ len. take (n - place + len) (drop place text)) ls) same
     ∙ (ap (λ a. a ++ each place) so_far
-    ∙ (flat_map_more each [] (take i places) place ∙ ap (λ ps. flat_map each ps) (sym (take_more places i 0 inside))))))
+    ∙ (flat_map_more each [] (take i places) place ∙ ap (λ ps. flat_map each ps) (sym (take_more places i 0 inside)))))
 
 -- what stands behind the host
 pub behind_host : (host rest text : List ℕ) → text ≡ host ++ rest → take (length text - length host) (drop (length host) text) ≡ rest

@@ -7,3 +7,4 @@ pub mod Pieces
 pub mod Apart
 pub mod Backs
 pub mod Joined
+pub mod SpanFacts

@@ -2,9 +2,11 @@
 //! lists are looked up.
 #![tactic(auto)]
 
-pub use combinations::expressions;
+pub use combinations::{expression_spans, expressions};
+pub use spans::Span;
 
 mod combinations;
 mod hosts;
 mod paths;
 mod places;
+mod spans;
