@@ -12,7 +12,9 @@ use Rattle.std.proofs.lemmas.Slice.Eq.{bytes_eq-Decides}
 use Rattle.hash_prefixes.specs.declared.hashes.FullHash.{FullHash}
 use Rattle.update_client.specs.Held.{Held}
 use Rattle.url_checker.specs.declared.findings.Hit.{Hit}
-use Rattle.url_checker.specs.Hits.{has_front, hit_of, hits_at, Marks}
+use Rattle.url_expressions.specs.Spans.{piece_of}
+use Rattle.url_expressions.specs.declared.spans.Span.{Span}
+use Rattle.url_checker.specs.Hits.{full_hash_of, has_front, hit_of, hits_at, Marks}
 
 range_push : (a n : ℕ) → range_with_len a (n + 1) ≡ range_with_len a n ++ (a + n) ∷ []
 range_push a zero = ap (λ k. k ∷ []) (omega arith)
@@ -107,3 +109,8 @@ pub hits_left : (marks : List Bool) (held : Held) (hash : FullHash) (size : ℕ)
 hits_left marks held hash size first old new low small marked whole unset before same =
     hits_pushed held hash size first old new low before
     (same ∙ sym (ap (λ (hits : List Hit). old ++ hits) (unmarked marks held hash size marked whole small unset) ∙ append-nil old))
+
+-- the hashes of pieces of a text are those of what the pieces are
+pub hashes_of_pieces : (text : List ℕ) (spans : List Span) → map (λ (one : Span). full_hash_of (piece_of text one)) spans ≡ map full_hash_of (map (piece_of text) spans)
+hashes_of_pieces text [] = refl
+hashes_of_pieces text (one ∷ spans) = ap (λ rest. full_hash_of (piece_of text one) ∷ rest) (hashes_of_pieces text spans)

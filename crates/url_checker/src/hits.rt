@@ -2,6 +2,7 @@ ghost use Rattle.std.specs.Prelude.{◌≡◌, ◌≢◌, ◌≤◌, ◌<◌, �
 ghost use Rattle.std.specs.List.{flat_map};
 ghost use Rattle.url_canon.specs.Url.{text_of};
 ghost use Rattle.url_canon.specs.Canonical.{canonical_of};
+ghost use Rattle.url_expressions.specs.Spans.{IsWithin, piece_of};
 ghost use Rattle.url_checker.specs.Hits.{full_hash_of, hashes_of, hits_at, hits_with, hits_on, hits_of, AreAskable, prefixes_hit, IsWhole, Marks, MarksAll};
 ghost use Rattle.url_checker.specs.Checking.{IsFindingOf};
 
@@ -15,7 +16,7 @@ use std::marker::Brand;
 use std::sync::ledger::{Blank, Ledger};
 use update_client::{ClientLists, HeldList};
 use url_canon::{CanonicalUrl, UrlFault, canonical};
-use url_expressions::expressions;
+use url_expressions::{Span, expression_spans};
 
 // Whether a set has a prefix, in counted steps.
 fn looked_up<L: Ledger>(blank: Blank, set: &PrefixSet, prefix: &Prefix) -> bool
@@ -121,24 +122,26 @@ fn hash_of(expression: &[u8]) -> FullHash
     full_hash(expression)
 }
 
-// The full hash of each of some expressions.
-fn hashes_of_each(alloc: Global, all: &[Bytes]) -> Result<Row<FullHash>, OutOfMemory>
-    ensures { IfOk result (λ hashes. hashes ≡ map full_hash_of all.now) }
+// The full hash of each of some pieces of a text.
+fn hashes_of_each(alloc: Global, text: &[u8], spans: &[Span]) -> Result<Row<FullHash>, OutOfMemory>
+    requires { All (IsWithin (length text.now)) spans.now }
+    ensures { IfOk result (λ hashes. hashes ≡ map (λ span. full_hash_of (piece_of text.now span)) spans.now) }
 {
-    let mut hashes = Row::with_capacity(alloc, all.len())?;
-    for expression in all {
-        hashes.push(hash_of(expression.as_slice()))?;
+    let mut hashes = Row::with_capacity(alloc, spans.len())?;
+    for span in spans {
+        hashes.push(hash_of(&text[span.from..span.to]))?;
     }
     Ok(hashes)
 }
 
-// The full hashes of a URL's expressions. Each is made once, however many lists are looked at.
+// The full hashes of a URL's expressions. Each is made once, however many lists are looked at, and no expression is copied.
 fn hashes(alloc: Global, url: &CanonicalUrl) -> Result<Row<FullHash>, OutOfMemory>
     ensures value { IfOk result (λ hashes. hashes ≡ hashes_of url.now) }
     ensures few { IfOk result (λ hashes. length hashes ≤ 30) }
 {
-    let all = expressions(alloc, url)?;
-    hashes_of_each(alloc, all.as_slice())
+    let spans = expression_spans(alloc, url)?;
+    let hashes = hashes_of_each(alloc, url.without_scheme(), spans.as_slice())?;
+    Ok(hashes)
 }
 
 // The hits of a URL on some lists.
