@@ -1,5 +1,5 @@
 -- The printed report of verdicts: a line for each URL, and a summary.
-use Rattle.std.specs.Prelude.{ℕ, ◌+◌, Bool, true, false, List, [], ◌∷◌, ◌++◌, length, codes, decimal}
+use Rattle.std.specs.Prelude.{◌≡◌, ℕ, ◌+◌, ◌<◌, ◌^◌, Bool, true, false, List, [], ◌∷◌, ◌++◌, length, codes, decimal}
 use Rattle.std.specs.List.{count_by, flat_map}
 use Rattle.sb_model.specs.declared.names.ListName.{ListName}
 use Rattle.sb_model.specs.Names.{text_of}
@@ -7,6 +7,7 @@ use Rattle.sb_json.specs.Printed as message
 use Rattle.http_edge.specs.Printed as exchange
 use Rattle.url_canon.specs.Printed.{url_cause}
 use Rattle.input_lines.specs.Lines.{newline, numbered}
+use Rattle.verdict_report.specs.declared.counts.Counts.{Counts}
 use Rattle.verdict_report.specs.declared.verdicts.Cause.{Cause}
 use Rattle.verdict_report.specs.declared.verdicts.Cause.TheVariants.{NotBefore, Exchange, Message}
 use Rattle.verdict_report.specs.declared.verdicts.Verdict.{Verdict}
@@ -98,3 +99,30 @@ kinds_text all = safe_text all ++ unsafe_text all ++ undecided_text all ++ refus
 -- how many URLs there are, and how many of each kind
 abbrev pub summary_text : List Judged → List ℕ
 summary_text all = all_text all ++ kinds_text all
+
+-- ---- the same by counts
+
+-- how many URLs there are, and how many of each kind
+abbrev pub counts_of : List Judged → Counts
+counts_of all = record {
+  urls = length all;
+  safe = count_by is_safe all;
+  found_unsafe = count_by is_unsafe all;
+  undecided = count_by is_undecided all;
+  refused = count_by is_refused all;
+}
+
+-- They are the counts of some URLs, fewer than 2 ^ 63.
+pub record AreCounts (counts : Counts) : Type 0 where
+  pub all : List Judged
+  pub are : counts ≡ counts_of all
+  pub few : length all < 2 ^ 63
+
+abbrev pub kinds_counted : Counts → List ℕ
+kinds_counted counts =
+    (decimal counts.safe ++ codes " safe, ") ++ (decimal counts.found_unsafe ++ codes " unsafe, ")
+    ++ (decimal counts.undecided ++ codes " undecided, ") ++ (decimal counts.refused ++ codes " refused" ++ newline ∷ [])
+
+-- the summary of URLs of these counts
+abbrev pub counts_text : Counts → List ℕ
+counts_text counts = (codes "checked " ++ decimal counts.urls ++ codes ": ") ++ kinds_counted counts

@@ -3,10 +3,12 @@
 //! `specs/Printed.antt` has the text of each.
 #![tactic(auto)]
 
+pub use counts::Counts;
 pub use printing::push_report_line;
-pub use summing::push_summary;
+pub use summing::{push_counts, push_summary};
 pub use verdicts::{Cause, Judged, Verdict};
 
+mod counts;
 mod printing;
 mod summing;
 mod verdicts;
