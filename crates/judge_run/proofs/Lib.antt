@@ -1,4 +1,4 @@
 pub mod Cases
 pub mod Sessions
 pub mod Endings
-pub mod Reports
+pub mod ReportFacts

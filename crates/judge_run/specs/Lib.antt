@@ -4,3 +4,4 @@ pub mod Printed
 pub mod Run
 pub mod Law
 pub mod Stops
+pub mod Reporting

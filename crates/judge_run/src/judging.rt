@@ -6,9 +6,11 @@ ghost use Rattle.update_client.specs.Held.{Held, tokens_of};
 ghost use Rattle.url_checker.specs.Checking.{IsFindingOf};
 ghost use Rattle.url_checker.specs.Hits.{AreAskable, MarksAll};
 ghost use Rattle.url_checker.specs.Resolved.{StopsResolving};
-ghost use Rattle.judge_run.specs.Judging.{find_state, first_finds, JudgesLine, JudgesLines, HasJudged, BreaksOff, StopsJudging};
+ghost use Rattle.judge_run.specs.Judging.{find_state, first_finds, JudgesLine, BreaksOff, StopsJudging};
+ghost use Rattle.judge_run.specs.Reporting.{ReportsLines, HasReported};
 
 use crate::JudgePlan;
+use crate::report::Report;
 use full_hash_cache::FullHashCache;
 use input_lines::first_line;
 use sb_model::{Bytes, OutOfMemory, Row};
@@ -119,33 +121,33 @@ fn judge_lines<L: Link, C: Clock, D: Dice>(
     link: &mut L,
     clock: &mut C,
     dice: &mut D,
-) -> Result<Row<Judged>, OutOfMemory>
+) -> Result<Report, OutOfMemory>
     requires marked { MarksAll sizes.now.marks lists.now }
     requires states { states.now ≡ tokens_of lists.now }
     requires target { IsTarget plan.now.target }
-    ensures judged { IfOk result (λ all. JudgesLines plan.now lists.now (find_state cache.old waits.old) (find_state cache.new waits.new)
+    ensures judged { IfOk result (λ report. ReportsLines plan.now lists.now (find_state cache.old waits.old) (find_state cache.new waits.new)
         (outside (L.log link.old) (C.answers clock.old) (C.waits clock.old) (D.given dice.old))
         (outside (L.log link.new) (C.answers clock.new) (C.waits clock.new) (D.given dice.new))
-        (L.faults link.old) (L.faults link.new) (lines_of input.now) all) }
+        (L.faults link.old) (L.faults link.new) (lines_of input.now) report) }
     ensures stopped { OnErr result (StopsJudging plan.now lists.now (find_state cache.old waits.old)
         (outside (L.log link.old) (C.answers clock.old) (C.waits clock.old) (D.given dice.old))
         (outside (L.log link.new) (C.answers clock.new) (C.waits clock.new) (D.given dice.new))
         (L.faults link.old) (L.faults link.new) (lines_of input.now)) }
 {
     traces_go_on();
-    let mut all = Row::new(alloc);
+    let mut report = Report::new(alloc)?;
     let mut rest = input;
     while !rest.is_empty() {
         let (line, tail) = first_line(rest);
         match judge_line(
             alloc, plan, lists, sizes, states, line, cache, waits, link, clock, dice,
         ) {
-            Ok(one) => all.push(one)?,
+            Ok(one) => report.add(&one)?,
             Err(OutOfMemory) => return Err(OutOfMemory),
         }
         rest = tail;
     }
-    Ok(all)
+    Ok(report)
 }
 
 /// Judges the lines of an input in order, from no kept answer.
@@ -158,12 +160,12 @@ pub(crate) fn judge_all<L: Link, C: Clock, D: Dice>(
     link: &mut L,
     clock: &mut C,
     dice: &mut D,
-) -> Result<Row<Judged>, OutOfMemory>
+) -> Result<Report, OutOfMemory>
     requires { IsTarget plan.now.target }
-    ensures judged { IfOk result (λ all. HasJudged plan.now lists.now waits.old
+    ensures judged { IfOk result (λ report. HasReported plan.now lists.now waits.old
         (outside (L.log link.old) (C.answers clock.old) (C.waits clock.old) (D.given dice.old))
         (outside (L.log link.new) (C.answers clock.new) (C.waits clock.new) (D.given dice.new))
-        (L.faults link.old) (L.faults link.new) (lines_of input.now) all) }
+        (L.faults link.old) (L.faults link.new) (lines_of input.now) report) }
     ensures stopped { OnErr result (StopsJudging plan.now lists.now (first_finds waits.old)
         (outside (L.log link.old) (C.answers clock.old) (C.waits clock.old) (D.given dice.old))
         (outside (L.log link.new) (C.answers clock.new) (C.waits clock.new) (D.given dice.new))
@@ -172,7 +174,8 @@ pub(crate) fn judge_all<L: Link, C: Clock, D: Dice>(
     let states = lists.states(alloc)?;
     let mut cache = FullHashCache::new(alloc)?;
     let sizes = sizes_on(lists);
-    judge_lines(
+    let report = judge_lines(
         alloc, plan, lists, &sizes, &states, input, &mut cache, waits, link, clock, dice,
-    )
+    )?;
+    Ok(report)
 }

@@ -17,6 +17,7 @@ mod judging;
 mod laws;
 mod loading;
 mod plan;
+mod report;
 mod reporting;
 mod running;
 mod stop;

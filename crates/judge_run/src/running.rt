@@ -41,8 +41,8 @@ fn judge_input<O: Sink, L: Link, C: Clock, D: Dice>(
 {
     flush(out, page)?;
     match judge_all(alloc, plan, lists, input, waits, link, clock, dice) {
-        Ok(all) => match print_report(all.as_slice(), out, page) {
-            Ok(()) => Ok(judgement_of(all.as_slice())),
+        Ok(mut report) => match print_report(&mut report, out) {
+            Ok(()) => Ok(judgement_of(&report.counts)),
             Err(stop) => Err(stop),
         },
         Err(OutOfMemory) => Err(JudgeStop::OutOfMemory),
