@@ -13,7 +13,7 @@ PREFIX ?= /usr/local
 BINDIR ?= $(PREFIX)/bin
 MANDIR ?= $(PREFIX)/share/man/man1
 
-.PHONY: all test check gate wrong-bodies install uninstall demo compare try-http try-run try-memory try-readme bench clean
+.PHONY: all test check gate wrong-bodies install uninstall demo compare try-http try-run try-slow try-memory try-readme bench clean
 
 all:
 	python3 tools/build.py $(PROGRAMS)
@@ -77,6 +77,11 @@ try-run: all
 	bash try/run.sh
 	bash try/judge.sh
 
+# Measures how long good clients of sblistd wait beside slow ones, and fails where one waits for more than a second. It takes
+# twenty to thirty minutes, and tries the peers of slowhttptest too where that is installed.
+try-slow: all
+	python3 try/slow.py
+
 # Measures the memory that sbupdate and sblistd take for hostile JSON, and fails where it is more than the limits allow.
 try-memory: all
 	python3 try/memory.py
@@ -87,6 +92,7 @@ try-readme: all
 
 bench: all
 	python3 bench/bench.py
+	python3 bench/door.py
 
 clean:
 	rm -rf bin

@@ -1,8 +1,10 @@
 -- What waits to be sent, and the wire that is handed out, as contracts see them.
-use Rattle.std.specs.Prelude.{◌≡◌, ℕ, ◌<◌, ◌⊎◌, List, [], ◌∷◌, ◌++◌, length, drop}
+use Rattle.std.specs.Prelude.{◌≡◌, ℕ, ◌<◌, ◌⊎◌, Bool, true, List, [], ◌∷◌, ◌++◌, length, drop}
 use Rattle.std.specs.List.{All, concat}
 use Rattle.sb_outside.specs.Wires.{pieces_of}
+use Rattle.http_edge.specs.Deciding.{IsDecided}
 use Rattle.gathering.specs.declared.phases.Ending.{Ending}
+use Rattle.gathering.specs.declared.phases.Ending.TheVariants.{Fault}
 
 -- What of an answer waits to be sent: what is left of its first piece, and the bytes after that piece.
 pub record Waiting : Type 0 where
@@ -38,8 +40,9 @@ pub record WireInHand : Type 0 where
   -- the place of its connection in the house, and the number of the connection there
   pub slot : ℕ
   pub serial : ℕ
-  -- the bytes that were gathered
+  -- the bytes that were gathered, and whether its peer has said that it sends no more
   pub sends : List ℕ
+  pub ended : Bool
   -- what is left of them: they and the end, or nothing after the end was answered
   pub left : List (List ℕ)
   -- what a read answers after them
@@ -55,3 +58,8 @@ pub record IsFreshWire (number : ℕ) (wire : WireInHand) : Type 0 where
   pub unwritten : wire.written ≡ []
   pub read_faults : wire.read_faults ≡ 0
   pub write_faults : wire.write_faults ≡ 0
+
+-- A connection has its turn only where its bytes decide its request, or its peer has ended, or a read fails after its bytes: it
+-- failed, or its time has passed.
+abbrev pub HasItsTurn : WireInHand → Type 0
+HasItsTurn wire = IsDecided wire.sends ⊎ (wire.ended ≡ true) ⊎ (wire.ending ≡ Fault)

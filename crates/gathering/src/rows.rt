@@ -1,5 +1,5 @@
-ghost use Rattle.std.specs.Prelude.{◌≡◌, []};
-ghost use Rattle.gathering.specs.Giving.{first, first_due, gives_way};
+ghost use Rattle.std.specs.Prelude.{◌≡◌, [], OnOk, OnErr};
+ghost use Rattle.gathering.specs.Giving.{first, first_due, gives_way, cut_next, drop_next, place, put, without, with_its_phase, without_its_phase, entered, left, IsRow, AreInOrder, IsHalfEntered};
 
 use crate::phases::due_at;
 use crate::{DoorLimits, Phase};
@@ -26,7 +26,7 @@ pub struct Rows {
 }
 
 impl Model for Rows {
-    ghost use Rattle.gathering.specs.Giving.{Standing};
+    ghost use Rattle.gathering.specs.Giving.{Standing, IsRow};
 
     ghost Value = { Standing };
 
@@ -36,6 +36,8 @@ impl Model for Rows {
       sending = r.sending.entries;
       due = r.due.entries;
     } };
+
+    ghost invariant = { λ r. IsRow r.past.entries × IsRow r.gathering.entries × IsRow r.sending.entries × IsRow r.due.entries };
 }
 
 /// The slot at the first place of a row.
@@ -46,6 +48,31 @@ fn first_of(row: &BTreeMap<Place, usize>) -> Option<usize>
         Some((_, slot)) => Some(*slot),
         None => None,
     }
+}
+
+/// Puts a slot into a row. Where memory is refused, the row stays.
+fn put_in(
+    row: &mut BTreeMap<Place, usize>,
+    at: u64,
+    serial: u64,
+    slot: usize,
+) -> Result<(), OutOfMemory>
+    ensures ok { OnOk result (row.new.entries ≡ put row.old.entries (place at serial) slot) }
+    ensures err { OnErr result (row.new.entries ≡ row.old.entries) }
+    ensures ordered { IsRow row.new.entries }
+{
+    match row.insert(Place { at, serial }, slot) {
+        Ok(_) => Ok(()),
+        Err(_) => Err(OutOfMemory),
+    }
+}
+
+/// Takes what stands at a place out of a row.
+fn take_out(row: &mut BTreeMap<Place, usize>, at: u64, serial: u64)
+    ensures without { row.new.entries ≡ without row.old.entries (place at serial) }
+    ensures ordered { IsRow row.new.entries }
+{
+    row.remove(&Place { at, serial });
 }
 
 impl Rows {
@@ -64,7 +91,8 @@ impl Rows {
     /// The connection that gives way where the house is full: one past its answer, else the one that has gathered longest, else
     /// the one whose answer has had no byte taken for longest.
     pub fn first_to_yield(&self) -> Option<usize>
-        ensures { result ≡ gives_way self.now }
+        ensures gives_way { result ≡ gives_way self.now }
+        ensures longest { AreInOrder self.now }
     {
         if let Some(slot) = first_of(&self.past) {
             return Some(slot);
@@ -73,6 +101,28 @@ impl Rows {
             return Some(slot);
         }
         first_of(&self.sending)
+    }
+
+    /// Whose answer is cut next where so many bytes of answers wait: none where they are within their sum, else the one of
+    /// which no byte was taken for longest.
+    pub fn first_to_cut(&self, limits: &DoorLimits, waiting: u64) -> Option<usize>
+        ensures { result ≡ cut_next limits.now waiting self.now }
+    {
+        if waiting <= limits.answer_bytes {
+            return None;
+        }
+        self.first_sending()
+    }
+
+    /// Who gives way next to so many bytes that come where so many are gathered: none where all are within their sum, else the
+    /// one that has gathered longest.
+    pub fn first_to_drop(&self, limits: &DoorLimits, gathered: u64, more: u64) -> Option<usize>
+        ensures { result ≡ drop_next limits.now gathered more self.now }
+    {
+        if gathered.saturating_add(more) <= limits.gathered_bytes {
+            return None;
+        }
+        self.first_gathering()
     }
 
     /// The connection that has gathered longest.
@@ -99,47 +149,57 @@ impl Rows {
         }
     }
 
-    fn row_of(
-        &mut self,
-        phase: Phase,
-        serial: u64,
-    ) -> Option<(&mut BTreeMap<Place, usize>, Place)> {
+    /// Takes a connection out of the row of its phase.
+    fn leave_phase(&mut self, phase: Phase, serial: u64)
+        ensures { self.new ≡ without_its_phase phase serial self.old }
+    {
         match phase {
-            Phase::Gathering { since } => Some((&mut self.gathering, Place { at: since, serial })),
-            Phase::Decided => None,
-            Phase::Sending { last, .. } => Some((&mut self.sending, Place { at: last, serial })),
-            Phase::Past { since, .. } => Some((&mut self.past, Place { at: since, serial })),
+            Phase::Gathering { since } => take_out(&mut self.gathering, since, serial),
+            Phase::Decided => {}
+            Phase::Sending { last, .. } => take_out(&mut self.sending, last, serial),
+            Phase::Past { since, .. } => take_out(&mut self.past, since, serial),
         }
     }
 
     /// Takes a connection out of its rows.
-    pub fn leave(&mut self, limits: &DoorLimits, phase: Phase, serial: u64) {
-        if let Some((row, place)) = self.row_of(phase, serial) {
-            row.remove(&place);
-        }
+    pub fn leave(&mut self, limits: &DoorLimits, phase: Phase, serial: u64)
+        ensures { self.new ≡ left limits.now phase serial self.old }
+    {
+        self.leave_phase(phase, serial);
         if let Some(at) = due_at(limits, phase) {
-            self.due.remove(&Place { at, serial });
+            take_out(&mut self.due, at, serial);
         }
     }
 
-    /// Puts a connection into its rows.
+    /// Puts a connection into the row of its phase.
+    fn enter_phase(&mut self, phase: Phase, serial: u64, slot: usize) -> Result<(), OutOfMemory>
+        ensures ok { OnOk result (self.new ≡ with_its_phase phase serial slot self.old) }
+        ensures err { OnErr result (self.new ≡ self.old) }
+    {
+        match phase {
+            Phase::Gathering { since } => put_in(&mut self.gathering, since, serial, slot),
+            Phase::Decided => Ok(()),
+            Phase::Sending { last, .. } => put_in(&mut self.sending, last, serial, slot),
+            Phase::Past { since, .. } => put_in(&mut self.past, since, serial, slot),
+        }
+    }
+
+    /// Puts a connection into its rows. Where memory is refused for the second of them, it stands in the first: it has to
+    /// leave.
     pub fn enter(
         &mut self,
         limits: &DoorLimits,
         phase: Phase,
         serial: u64,
         slot: usize,
-    ) -> Result<(), OutOfMemory> {
-        if let Some((row, place)) = self.row_of(phase, serial)
-            && row.insert(place, slot).is_err()
-        {
-            return Err(OutOfMemory);
+    ) -> Result<(), OutOfMemory>
+        ensures ok { OnOk result (self.new ≡ entered limits.now phase serial slot self.old) }
+        ensures err { OnErr result (IsHalfEntered phase serial slot self.old self.new) }
+    {
+        self.enter_phase(phase, serial, slot)?;
+        match due_at(limits, phase) {
+            Some(at) => put_in(&mut self.due, at, serial, slot),
+            None => Ok(()),
         }
-        if let Some(at) = due_at(limits, phase)
-            && self.due.insert(Place { at, serial }, slot).is_err()
-        {
-            return Err(OutOfMemory);
-        }
-        Ok(())
     }
 }

@@ -1,9 +1,10 @@
-ghost use Rattle.std.specs.Prelude.{◌≡◌, ℕ, ◌≤◌, ◌<◌, ◌↔◌, min, List, [], ◌++◌, length, take, Some, None, IsErr, IfSome, IsSome, IfOk, OnOk, OnErr};
+ghost use Rattle.std.specs.Prelude.{◌≡◌, ℕ, ◌≤◌, ◌<◌, ◌↔◌, min, List, [], ◌++◌, length, take, Some, None, IsErr, IfSome, IfNone, IsSome, IfOk, OnOk, OnErr};
+ghost use Rattle.http_edge.specs.Requests.{NeedsMore};
 ghost use Rattle.sb_outside.specs.Outside.{Rose, GivesFront, AnswersEnd, raised, next_piece, appended};
 ghost use Rattle.sb_outside.specs.Wires.{pieces_of};
-ghost use Rattle.gathering.specs.Wires.{WireInHand, bytes_of};
+ghost use Rattle.gathering.specs.Wires.{WireInHand, IsFreshWire, HasItsTurn, bytes_of};
 
-use crate::{Ending, Outgoing};
+use crate::{Ending, Gathered, Outgoing};
 use sb_model::Bytes;
 use sb_outside::{Failed, Sink, Source, Wire};
 use std::alloc::Global;
@@ -17,6 +18,8 @@ pub struct GatheredWire {
     slot: usize,
     serial: u64,
     gathered: Bytes,
+    // whether its peer has said that it sends no more
+    ended: bool,
     // how many of these bytes are given, and whether the end after them was answered
     given: usize,
     has_ended: bool,
@@ -39,6 +42,7 @@ impl Model for GatheredWire {
       slot = s.slot;
       serial = s.serial;
       sends = s.gathered;
+      ended = s.ended;
       left = (if s.has_ended then [] else pieces_of (drop s.given s.gathered));
       ending = s.ending;
       written = bytes_of s.written;
@@ -67,6 +71,7 @@ impl GatheredWire {
         slot: usize,
         serial: u64,
         gathered: Bytes,
+        ended: bool,
         ending: Ending,
     ) -> Self
         ensures { result ≡ record {
@@ -74,6 +79,7 @@ impl GatheredWire {
           slot = slot;
           serial = serial;
           sends = gathered;
+          ended = ended;
           left = pieces_of gathered;
           ending = ending;
           written = [];
@@ -86,12 +92,38 @@ impl GatheredWire {
             slot,
             serial,
             gathered,
+            ended,
             given: 0,
             has_ended: false,
             ending,
             written: Outgoing::new(alloc),
             read_faults: 0,
             write_faults: 0,
+        }
+    }
+
+    /// The same where the connection has its turn: what was gathered decides its request, its peer has ended, or a read is to
+    /// fail after its bytes. `None` comes only where it has not.
+    pub fn in_turn(
+        alloc: Global,
+        number: u64,
+        slot: usize,
+        serial: u64,
+        gathered: Gathered,
+        ended: bool,
+        ending: Ending,
+    ) -> Option<Self>
+        ensures turn { IfSome result HasItsTurn }
+        ensures fresh { IfSome result (IsFreshWire number) }
+        ensures bytes { IfSome result (λ wire. wire.sends ≡ gathered) }
+        ensures none { IfNone result (NeedsMore gathered) }
+    {
+        let is_decided = gathered.is_decided();
+        let bytes = gathered.into_bytes();
+        if is_decided || ended || ending == Ending::Fault {
+            Some(GatheredWire::new(alloc, number, slot, serial, bytes, ended, ending))
+        } else {
+            None
         }
     }
 

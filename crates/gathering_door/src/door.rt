@@ -2,7 +2,8 @@ ghost use Rattle.std.specs.Prelude.{◌≡◌, ◌≢◌, ◌≤◌, None, Ok, S
 ghost use Rattle.sb_outside.specs.Outside.{Rose, IfTold};
 ghost use Rattle.sb_outside.specs.Connections.{connected, TakesFirst};
 ghost use Rattle.sb_outside.specs.Wires.{pieces_of};
-ghost use Rattle.gathering.specs.Wires.{IsFreshWire};
+ghost use Rattle.gathering.specs.Wires.{IsFreshWire, HasItsTurn};
+ghost use Rattle.gathering_door.specs.Doors.{taken_after};
 
 use crate::DoorFault;
 use crate::open::OpenDoor;
@@ -102,6 +103,9 @@ impl<R: time::Clock> GatheringDoor<R> {
     /// The next connection, or `None` where the moment came first.
     fn take_next(&mut self, moment: Option<Moment>) -> Result<Option<GatheredWire>, Failed>
         ensures fresh { IfOk result (λ next. IfSome next (λ wire. IsFreshWire self.old.taken wire)) }
+        ensures turn { IfOk result (λ next. IfSome next HasItsTurn) }
+        ensures counts { IfOk result (λ next. self.new.taken ≡ taken_after next self.old.taken) }
+        ensures stays { OnErr result (self.new.taken ≡ self.old.taken) }
         ensures unusable { self.old.is_usable ≡ false → IsErr result }
         ensures usable { self.new.is_usable ≡ self.old.is_usable }
         ensures kept { OnOk result (self.new.faults ≡ self.old.faults) }
@@ -154,6 +158,9 @@ impl<R: time::Clock + Drop> Door for GatheringDoor<R> {
         ensures unusable { self.old.is_usable ≡ false → IsErr result }
         ensures usable { self.new.is_usable ≡ self.old.is_usable }
         ensures fresh { IfOk result (λ next. IfSome next (λ wire. IsFreshWire self.old.taken wire)) }
+        ensures turn { IfOk result (λ next. IfSome next HasItsTurn) }
+        ensures counts { IfOk result (λ next. self.new.taken ≡ taken_after next self.old.taken) }
+        ensures stays { OnErr result (self.new.taken ≡ self.old.taken) }
 
         ensures kept { OnOk result (self.new.faults ≡ self.old.faults) }
         ensures counted { self.old.faults ≤ self.new.faults }
@@ -180,6 +187,9 @@ impl<R: time::Clock + Drop> Door for GatheringDoor<R> {
         ensures unusable { self.old.is_usable ≡ false → IsErr result }
         ensures usable { self.new.is_usable ≡ self.old.is_usable }
         ensures fresh { IfOk result (λ arrival. IfSome (connected arrival) (λ wire. IsFreshWire self.old.taken wire)) }
+        ensures turn { IfOk result (λ arrival. IfSome (connected arrival) HasItsTurn) }
+        ensures counts { IfOk result (λ arrival. self.new.taken ≡ taken_after (connected arrival) self.old.taken) }
+        ensures stays { OnErr result (self.new.taken ≡ self.old.taken) }
 
         ensures kept { OnOk result (self.new.faults ≡ self.old.faults) }
         ensures counted { self.old.faults ≤ self.new.faults }

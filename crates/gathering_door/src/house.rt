@@ -1,5 +1,5 @@
 ghost use Rattle.std.specs.Prelude.{IfSome};
-ghost use Rattle.gathering.specs.Wires.{IsFreshWire};
+ghost use Rattle.gathering.specs.Wires.{IsFreshWire, HasItsTurn};
 
 use crate::guests::Guest;
 use gathering::{
@@ -225,10 +225,8 @@ impl House {
     /// gathered would pass their sum, those that have gathered longest give way: this one too.
     fn keep(&mut self, slot: usize, count: u64) -> Result<bool, OutOfMemory> {
         for _ in 0..self.guests.len() {
-            if self.gathered.saturating_add(count) <= self.limits.gathered_bytes {
-                break;
-            }
-            match self.rows.first_gathering() {
+            let next = self.rows.first_to_drop(&self.limits, self.gathered, count);
+            match next {
                 Some(longest) => self.close(longest),
                 None => break,
             }
@@ -328,13 +326,21 @@ impl House {
 
     /// The connection whose turn it is, as a wire of this number.
     pub(crate) fn hand_out(&mut self, number: u64) -> Option<GatheredWire>
-        ensures { IfSome result (λ wire. IsFreshWire number wire) }
+        ensures fresh { IfSome result (λ wire. IsFreshWire number wire) }
+        ensures turn { IfSome result HasItsTurn }
     {
         let slot = self.decided.pop_front()?;
         let guest = self.guests.get_mut(slot)?;
         let gathered = guest.gathered.take()?;
-        let bytes = gathered.into_bytes();
-        Some(GatheredWire::new(self.alloc, number, slot, guest.serial, bytes, guest.ending))
+        let serial = guest.serial;
+        let (has_ended, ending) = (guest.has_ended, guest.ending);
+        let wire = GatheredWire::in_turn(
+            self.alloc, number, slot, serial, gathered, has_ended, ending,
+        );
+        if wire.is_none() {
+            self.close(slot);
+        }
+        wire
     }
 
     /// Takes a connection back that had its turn, and sends what the system takes of its answer.
@@ -366,10 +372,7 @@ impl House {
     /// Closes those of whose answers no byte was taken for longest, until the answers hold their sum.
     fn cut_answers(&mut self) {
         for _ in 0..self.guests.len() {
-            if self.outgoing <= self.limits.answer_bytes {
-                return;
-            }
-            match self.rows.first_sending() {
+            match self.rows.first_to_cut(&self.limits, self.outgoing) {
                 Some(slot) => self.close(slot),
                 None => return,
             }

@@ -1,5 +1,5 @@
 ghost use Rattle.std.specs.Prelude.{IfSome, IfOk};
-ghost use Rattle.gathering.specs.Wires.{IsFreshWire};
+ghost use Rattle.gathering.specs.Wires.{IsFreshWire, HasItsTurn};
 
 use crate::DoorFault;
 use crate::asked_time::{AskedTime, system_millis};
@@ -194,7 +194,8 @@ impl OpenDoor {
         number: u64,
         moment: Option<Moment>,
     ) -> Result<Option<GatheredWire>, DoorFault>
-        ensures { IfOk result (λ next. IfSome next (λ wire. IsFreshWire number wire)) }
+        ensures fresh { IfOk result (λ next. IfSome next (λ wire. IsFreshWire number wire)) }
+        ensures turn { IfOk result (λ next. IfSome next HasItsTurn) }
     {
         self.time.begin();
         for _ in 0..u64::MAX {
