@@ -1,4 +1,6 @@
-use crate::doors::{LIMITS, PATIENT, Turn, door_with, front, pass, say, serve_next, serve_with};
+use crate::doors::{
+    LIMITS, LocalDoor, PATIENT, Turn, door_with, front, pass, say, serve_next, serve_with,
+};
 use crate::peers::{REQUEST, asker, is_closed, peer, peers, received, received_beside, status_of};
 use gathering::DoorLimits;
 use std::io::{self, Write};
@@ -52,7 +54,7 @@ pub(crate) fn forty_at_once(rt: &HostRuntime) -> io::Result<()> {
     let gone = closed_ones(rt, &mut all)?;
     say(rt, "gave way", gone.as_str().trim_start());
     let mut turns = 0u64;
-    for one in all[8..].iter_mut() {
+    for one in all.iter_mut().skip(8) {
         one.write_all(REQUEST)?;
     }
     for _ in 0..32 {
@@ -62,7 +64,7 @@ pub(crate) fn forty_at_once(rt: &HostRuntime) -> io::Result<()> {
     }
     say(rt, "answered", turns);
     let mut good = 0u64;
-    for one in all[8..].iter_mut() {
+    for one in all.iter_mut().skip(8) {
         if status_of(one) == "200" {
             good = good.saturating_add(1);
         }
@@ -113,20 +115,21 @@ pub(crate) fn stalled_gives_way(rt: &HostRuntime, bytes: &[u8]) -> io::Result<()
     Ok(())
 }
 
+/// One of three that ask is answered.
+fn one_of_three(rt: &HostRuntime, door: &mut LocalDoor<'_>, one: &mut TcpStream) {
+    say(rt, "three ask a door for two", serve_next(rt, door).word());
+    say(rt, "comes back", status_of(one));
+}
+
 /// Those that are decided do not give way: one more waits at the port until there is room.
 pub(crate) fn decided_stay(rt: &HostRuntime) -> io::Result<()> {
     let mut door = door_with(rt, FOR_TWO);
     let mut first = asker(rt, &door)?;
     let mut second = asker(rt, &door)?;
     let mut third = asker(rt, &door)?;
-    for one in [&mut first, &mut second, &mut third] {
-        say(
-            rt,
-            "three ask a door for two",
-            serve_next(rt, &mut door).word(),
-        );
-        say(rt, "comes back", status_of(one));
-    }
+    one_of_three(rt, &mut door, &mut first);
+    one_of_three(rt, &mut door, &mut second);
+    one_of_three(rt, &mut door, &mut third);
     Ok(())
 }
 
