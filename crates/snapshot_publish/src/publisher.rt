@@ -1,4 +1,4 @@
-ghost use Rattle.std.specs.Prelude.{◌≡◌, ◌^◌, ◌<◌, ◌↔◌, [], ◌∷◌, ◌++◌, true, false, length, map, is_err, slice_get, Some, All, IsSome, IfSome, IsTrue, IfOk, OnOk, OnErr};
+ghost use Rattle.std.specs.Prelude.{◌≡◌, suc, ◌^◌, ◌<◌, ◌↔◌, [], ◌∷◌, ◌++◌, true, false, length, map, is_err, slice_get, Some, All, IsSome, IfSome, IsTrue, IfOk, OnOk, OnErr};
 ghost use Rattle.snapshot_publish.specs.Publications.{IsKept, IsLastOf};
 ghost use Rattle.snapshot_publish.specs.Publishing.{box_of, told_at};
 ghost use Rattle.snapshot_publish.specs.Kept.{delivered, MayDeliver};
@@ -130,6 +130,13 @@ impl Publisher {
             return None;
         }
         self.kept.get((count - 1 - later) as usize)
+    }
+
+    /// The number of the last publication.
+    pub fn last_number(&self) -> u64
+        ensures { suc result ≡ length self.now.list }
+    {
+        self.last
     }
 
     /// Tells what was published, for any seat to learn.

@@ -1,0 +1,9 @@
+pub mod ListFacts
+pub mod LineFacts
+pub mod CheckFacts
+pub mod WorkSoFar
+pub mod WeaveFacts
+pub mod RowFacts
+pub mod RunFacts
+pub mod SettleFacts
+pub mod SettledSoFar

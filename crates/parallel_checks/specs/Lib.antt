@@ -1,0 +1,3 @@
+pub mod Checks
+pub mod Working
+pub mod Settled
