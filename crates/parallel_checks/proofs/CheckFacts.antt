@@ -45,8 +45,9 @@ goes_on one two three f g = record {
 pub check_of : (all : Publications) (one : Publication) (line : List ℕ) (check : Checked) → Shows all one → IsCheckOn one line check → IsCheckOf all line check
 check_of all one line (Found finding) at is = record {
   lists = one.lists;
-  there = ap (slice_get all) is.numbered ∙ at;
-  is = subst (λ (n : ℕ). IsFindingOf one.lists n line finding) (sym is.numbered) is;
+  there = ap (slice_get all) is.0.numbered ∙ at;
+  is = subst (λ (n : ℕ). IsFindingOf one.lists n line finding) (sym is.0.numbered) is.0;
+  askable = is.1;
 }
 check_of all one line (Refused fault) at is = is
 
@@ -55,9 +56,10 @@ check_on all all' line (Found finding) p is = record {
   lists = is.lists;
   there = prefix_get all all' finding.number is.lists p is.there;
   is = is.is;
+  askable = is.askable;
 }
 check_on all all' line (Refused fault) p is = is
 
 -- the number that a check on a publication names
 pub number_on : (one : Publication) (line : List ℕ) (check : Checked) (finding : Finding) → check ≡ Found finding → IsCheckOn one line check → finding.number ≡ one.number
-number_on one line check finding e is = (subst (λ (c : Checked). IsCheckOn one line c) e is).numbered
+number_on one line check finding e is = (subst (λ (c : Checked). IsCheckOn one line c) e is).0.numbered

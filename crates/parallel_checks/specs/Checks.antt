@@ -9,17 +9,19 @@ use Rattle.snapshot_publish.specs.Publications.{Publications, Publication, IsPre
 use Rattle.atomic_table.specs.Seated.{TableId}
 use Rattle.snapshot_publish.specs.Publishing.{Seated, IsOf}
 use Rattle.url_checker.specs.Checking.{IsFindingOf}
+use Rattle.url_checker.specs.Hits.{AreAskable}
 use Rattle.url_checker.specs.declared.findings.Finding.{Finding}
 use Rattle.url_checker.specs.declared.findings.Checked.{Checked}
 use Rattle.url_checker.specs.declared.findings.Checked.TheVariants.{Found, Refused}
 
 -- ---- the check of a line
 
--- The finding is what the lists of the publication whose number it has have of the line.
+-- The finding is what the lists of the publication whose number it has have of the line, and one request can ask for its hits.
 pub record IsFoundOn (all : Publications) (line : List ℕ) (finding : Finding) : Type 0 where
   pub lists : List Held
   pub there : slice_get all finding.number ≡ Some lists
   pub is : IsFindingOf lists finding.number line finding
+  pub askable : AreAskable finding.hits
 
 -- The line has no canonical form, for this fault, and memory was not refused.
 pub record IsRefusedFor (line : List ℕ) (fault : UrlFault) : Type 0 where
@@ -33,7 +35,7 @@ IsCheckOf all line (Refused fault) = IsRefusedFor line fault
 
 -- the check of a line on one publication
 abbrev pub IsCheckOn : Publication → List ℕ → Checked → Type 0
-IsCheckOn one line (Found finding) = IsFindingOf one.lists one.number line finding
+IsCheckOn one line (Found finding) = IsFindingOf one.lists one.number line finding × AreAskable finding.hits
 IsCheckOn one line (Refused fault) = IsRefusedFor line fault
 
 -- the publication is the one of its number
