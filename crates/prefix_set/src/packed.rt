@@ -77,6 +77,21 @@ impl PackedPrefixes {
         Ok(packed)
     }
 
+    /// The prefixes of one size that stand one after the other in a string of bytes.
+    pub(crate) fn from_bytes(
+        alloc: Global,
+        size: u8,
+        bytes: &[u8],
+    ) -> Result<PackedPrefixes, OutOfMemory>
+        requires size { IsPrefixSize size }
+        requires whole { length bytes.now % size ≡ 0 }
+        ensures { IfOk result (λ packed. packed ≡ pieces_of size bytes.now) }
+    {
+        let mut packed = PackedPrefixes::new(alloc);
+        packed.push_each(size, bytes)?;
+        Ok(packed)
+    }
+
     /// How many prefixes there are.
     #[inline]
     pub(crate) fn len(&self) -> usize
@@ -351,8 +366,8 @@ impl PackedPrefixes {
         true
     }
 
-    // Whether the prefixes rise already.
-    fn rises(&self) -> bool
+    /// Whether the prefixes rise already, without repeats.
+    pub(crate) fn rises(&self) -> bool
         ensures { IsTrue result ↔ IsRising self.now }
     {
         match &self.layout {

@@ -1,4 +1,4 @@
-ghost use Rattle.std.specs.Prelude.{◌≡◌, ◌<◌, ◌≤◌, ◌+◌, ◌*◌, ◌^◌, ℕ, ◌↔◌, ◌⊎◌, List, [], ◌++◌, length, nat_eq, filter, false, slice_get, slice_index_or, Some, None, Option, Contains, IsTrue, IfOk, OnOk, IfErr};
+ghost use Rattle.std.specs.Prelude.{◌≡◌, ◌≢◌, ◌<◌, ◌≤◌, ◌+◌, ◌*◌, ◌^◌, ℕ, ◌↔◌, ◌⊎◌, List, [], ◌++◌, length, nat_eq, filter, false, slice_get, slice_index_or, Some, None, Option, Ok, Contains, IsTrue, IfOk, IfSome, OnOk, IfErr};
 ghost use Rattle.std.specs.List.{list_any};
 ghost use Rattle.std.specs.Cmp.{partial_equiv_from_equiv};
 ghost use Rattle.std.specs.Cmp.Lexicographic.{pointwise, lists_equiv, nat_list_eq_equiv};
@@ -9,6 +9,8 @@ ghost use Rattle.sha2.specs.Sha256.{sha256};
 ghost use Rattle.prefix_set.specs.Apply.{applied, apply_fault, first_past, limit_fault, Stays};
 ghost use Rattle.prefix_set.specs.Index.{HaveHeads, alike_count, count_below};
 ghost use Rattle.prefix_set.specs.Search.{IsSpanOf};
+ghost use Rattle.sb_model.specs.History.{IsPrefixSize};
+ghost use Rattle.prefix_set.specs.Packing.{HaveSize};
 ghost use Rattle.prefix_set.specs.Limits.{ArePrefixes, IsPrefixSet};
 
 use crate::difference::{Delta, members_added, places_removed, prefix_of};
@@ -178,7 +180,24 @@ impl PrefixSet {
         })
     }
 
-    // The one body of the two changes.
+    /// What `apply` makes of the lists of an edit. It is `merge` without the digest, and takes none of
+    /// its time.
+    pub fn apply_edit(&self, alloc: Global, edit: Edit) -> Result<PrefixSet, ApplyFault>
+        ensures ok { IfOk result (λ set. set ≡ applied self.now edit.removals edit.additions) }
+        ensures within { OnOk result
+            (apply_fault self.now edit.removals edit.additions ≡ None) }
+        ensures fault { IfErr result (λ fault. (fault ≡ ApplyFault.OutOfMemory)
+            ⊎ (apply_fault self.now edit.removals edit.additions ≡ Some fault)) }
+    {
+        let EditParts {
+            removals,
+            additions,
+        } = edit.into_parts();
+        let changed = self.changed::<NoDigest>(alloc, removals, additions)?;
+        Ok(changed.set)
+    }
+
+    // The one body of the changes.
     fn changed<D: Digest>(
         &self,
         alloc: Global,
@@ -225,6 +244,40 @@ impl PrefixSet {
             store: PackedStore::of(members),
             index,
         })
+    }
+
+    /// The set whose members, all of one size, stand one after the other in a string of bytes. None
+    /// where the bytes are no such set: where they do not end with a prefix, the prefixes do not rise
+    /// or repeat one, or they are more than a set holds.
+    pub fn from_rising_bytes(
+        alloc: Global,
+        size: u8,
+        bytes: &[u8],
+    ) -> Result<Option<PrefixSet>, OutOfMemory>
+        requires { IsPrefixSize size }
+        ensures some { IfOk result (λ found. IfSome found
+            (λ set. IsPrefixSet set × HaveSize size set × (concatenation set ≡ bytes.now))) }
+        ensures none { result ≡ Ok None → (set : List (List ℕ)) → IsPrefixSet set
+            → HaveSize size set → concatenation set ≢ bytes.now }
+    {
+        if bytes.len() as u64 > MAX_BYTES {
+            return Ok(None);
+        }
+        if bytes.len() % size as usize != 0 {
+            return Ok(None);
+        }
+        let members = PackedPrefixes::from_bytes(alloc, size, bytes)?;
+        if members.len() as u64 > MAX_PREFIXES {
+            return Ok(None);
+        }
+        if !members.rises() {
+            return Ok(None);
+        }
+        let index = HeadIndex::of(alloc, &members)?;
+        Ok(Some(PrefixSet {
+            store: PackedStore::of(members),
+            index,
+        }))
     }
 
     /// The same set once more.

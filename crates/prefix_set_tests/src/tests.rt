@@ -311,6 +311,33 @@ fn an_edit_takes_whole_lists(rt: HostRuntime) {
     assert!(rt; has_bytes(&merged.set, &[b"aaaa", b"aaaab", b"dddd"]));
 }
 
+#[test]
+fn an_edit_is_applied_without_a_digest(rt: HostRuntime) {
+    let held = set_of_bytes(rt.alloc(), &rt, &[b"1234", b"aaaab", b"cccc"]);
+    let set = held
+        .apply_edit(rt.alloc(), edit_in_lists(rt.alloc(), &rt))
+        .expect(&rt, "memory");
+    assert!(rt; has_bytes(&set, &[b"aaaa", b"aaaab", b"dddd"]));
+}
+
+// The set of members of four bytes that a string is, if it is one.
+fn set_in(alloc: Global, rt: &impl Abort, bytes: &[u8]) -> Option<PrefixSet> {
+    PrefixSet::from_rising_bytes(alloc, 4, bytes).expect(rt, "memory")
+}
+
+#[test]
+fn rising_bytes_are_a_set(rt: HostRuntime) {
+    let set = set_in(rt.alloc(), &rt, b"aaaabbbb").expect(&rt, "a set");
+    assert!(rt; has_bytes(&set, &[b"aaaa", b"bbbb"]));
+}
+
+#[test]
+fn other_bytes_are_none(rt: HostRuntime) {
+    for bytes in [b"bbbbaaaa".as_slice(), b"aaaaaaaa", b"aaaab"] {
+        assert!(rt; set_in(rt.alloc(), &rt, bytes).is_none());
+    }
+}
+
 fn counted<L: Ledger>(blank: Blank, set: &PrefixSet, wanted: &Prefix) -> bool
     requires name { blank.name ≡ L.name }
     requires parts { blank.parts ≡ L.parts }
