@@ -1,5 +1,6 @@
 -- The set of a list in either format, read and written.
-use Rattle.std.proofs.Common.{◌≡◌, ℕ, ◌^◌, ◌<◌, ◌≤◌, ◌⊎◌, Bool, true, false, cond, eqb, ltb, List, [], ◌∷◌, ◌++◌, length, All, Option, Some, None, Ok, Err, refl, sym, ap, subst, ◌∙◌, append_assoc, arith, inl, inr}
+use Rattle.std.proofs.Common.{◌≡◌, ℕ, ◌*◌, ◌/◌, ◌^◌, ◌<◌, ◌≤◌, ◌⊎◌, Bool, true, false, cond, eqb, ltb, List, [], ◌∷◌, ◌++◌, length, All, Option, Some, None, Ok, Err, refl, sym, ap, subst, ◌∙◌, append_assoc, length-append, arith, inl, inr}
+use Rattle.std.proofs.Math.Nat.{mul-div_cancel_left}
 use Rattle.std.specs.Prelude.{IfSome, ◌||◌}
 use Rattle.std.specs.Int.{w32, to_be_bytes}
 use Rattle.std.specs.List.{flat_map, AllByRecursion}
@@ -181,3 +182,26 @@ prefixes_are_kept common count bytes set rest fits sized few read =
     let taken = prefixes_take common count [] bytes (set, rest) fits read in
     let sizes = All-from_recursion (λ prefix. IsPrefixSize (length prefix)) taken.more (fitted_sizes common taken.more sized taken.sizes) in
     set_made common count bytes set rest taken few (subst (λ (s : List (List ℕ)). All (λ prefix. IsPrefixSize (length prefix)) s) (sym taken.is) sizes)
+
+-- how many bytes prefixes of one size have
+length_sized : (size : ℕ) (set : List (List ℕ)) → AllByRecursion (λ prefix. length prefix ≡ size) set → length (concatenation set) ≡ size * length set
+length_sized size [] each = omega arith
+length_sized size (prefix ∷ set) each = omega (arith, length-append prefix (concatenation set), each.0, length_sized size set each.1)
+
+same_count : (size a b : ℕ) → 0 < size → size * a ≡ size * b → a ≡ b
+same_count size a b some same = sym (mul-div_cancel_left a some) ∙ ap (λ (n : ℕ). n / size) same ∙ mul-div_cancel_left b some
+
+-- what the first bytes are as a set is what is read of them one by one
+pub read_at_once : (size count : ℕ) (set : List (List ℕ)) (bytes whole rest : List ℕ) → IsPrefixSize size → IsPrefixSet set → All (λ prefix. length prefix ≡ size) set
+    → concatenation set ≡ whole → length whole ≡ size * count → bytes ≡ whole ++ rest → (count ≤ MAX_PREFIXES) × (prefixes_at (Some size) count [] bytes ≡ Ok (set, rest))
+read_at_once size count set bytes whole rest four kept even set_is long is =
+    let each = recursion_from_All (λ prefix. length prefix ≡ size) set even in
+    let sizes = recursion_from_All (λ prefix. IsPrefixSize (length prefix)) set kept.prefixes in
+    let total : size * length set ≡ size * count = sym (length_sized size set each) ∙ ap length set_is ∙ long in
+    let number : length set ≡ count = same_count size (length set) count (omega (arith, four.low)) total in
+    let read = prefixes_again (Some size) [] set rest kept.rising kept.bytes each sizes in (
+      subst (λ (n : ℕ). n ≤ MAX_PREFIXES) number kept.count,
+      ap (λ (n : ℕ). prefixes_at (Some size) n [] bytes) (sym number)
+          ∙ ap (prefixes_at (Some size) (length set) []) (is ∙ ap (λ (text : List ℕ). text ++ rest) (sym set_is))
+          ∙ read,
+    )

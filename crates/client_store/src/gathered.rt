@@ -72,8 +72,8 @@ impl<'a> Gathered<'a> {
         sets_go_by_members();
         // They are within the limits of a set, so that memory alone can be refused.
         let Gathered { edit, .. } = self;
-        match PrefixSet::empty(alloc).merge(alloc, edit) {
-            Ok(merged) => Ok(merged.set),
+        match PrefixSet::empty(alloc).apply_edit(alloc, edit) {
+            Ok(set) => Ok(set),
             Err(_) => Err(OutOfMemory),
         }
     }

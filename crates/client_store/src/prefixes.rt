@@ -1,4 +1,4 @@
-ghost use Rattle.std.specs.Prelude.{◌≡◌, ◌≢◌, ◌≤◌, [], length, true, None, IfOk, IfSome};
+ghost use Rattle.std.specs.Prelude.{◌≡◌, ◌≢◌, ◌≤◌, [], length, true, Some, None, Ok, IfOk, IfSome};
 ghost use Rattle.sb_model.specs.History.{IsPrefixSize};
 ghost use Rattle.client_store.specs.Fields.{Gives};
 ghost use Rattle.client_store.specs.Reading.{is_prefix_size, may_follow, size_at as size_in, prefix_at as prefix_in, prefixes_at as prefixes_in, counted_at as counted_in, sized_set_at as sized_set_in, common_size_at as common_size_in, fits_count as size_fits, even_set_at as even_set_in, set_at as set_in};
@@ -7,6 +7,7 @@ use crate::fields::{Stop, byte_at, bytes_at, u32_at};
 use crate::format::Format;
 use crate::gathered::Gathered;
 use prefix_set::{MAX_PREFIXES, PrefixSet};
+use sb_model::OutOfMemory;
 use std::alloc::Global;
 
 // Whether a prefix may have this size.
@@ -101,6 +102,47 @@ fn counted_at<'a>(
     Ok((prefixes.into_set(alloc)?, rest))
 }
 
+// So many prefixes of one size, read at once. None where the bytes do not begin with a set of so
+// many: what is wrong with them is found one by one.
+fn whole_at(
+    alloc: Global,
+    size: u8,
+    count: u32,
+    bytes: &[u8],
+) -> Result<Option<(PrefixSet, &[u8])>, OutOfMemory>
+    requires { IsPrefixSize size }
+    ensures { IfOk result (λ found. IfSome found (λ x. (count ≤ MAX_PREFIXES)
+        × (prefixes_in (Some size) count [] bytes.now ≡ Ok (x.0, x.1.now)))) }
+{
+    let whole = size as usize * count as usize;
+    if bytes.len() < whole {
+        return Ok(None);
+    }
+    let (front, rest) = bytes.split_at(whole);
+    match PrefixSet::from_rising_bytes(alloc, size, front)? {
+        Some(set) => Ok(Some((set, rest))),
+        None => Ok(None),
+    }
+}
+
+// The set of so many prefixes of one size, after the field with their count.
+fn even_at<'a>(
+    alloc: Global,
+    size: u8,
+    field: &[u8],
+    count: u32,
+    bytes: &'a [u8],
+) -> Result<(PrefixSet, &'a [u8]), Stop>
+    requires { IsPrefixSize size }
+    ensures { Gives (λ x. (x.0, x.1.now)) result
+        (counted_in (Some size) field.now (count, bytes.now)) }
+{
+    match whole_at(alloc, size, count, bytes)? {
+        Some(read) => Ok(read),
+        None => counted_at(alloc, Some(size), field, count, bytes),
+    }
+}
+
 // A set whose prefixes have their sizes before them.
 #[tactic(auto, unfolding(crate::specs::Reading::sized_set_at))]
 fn sized_set_at(alloc: Global, bytes: &[u8]) -> Result<(PrefixSet, &[u8]), Stop>
@@ -143,7 +185,7 @@ fn even_set_at(alloc: Global, bytes: &[u8]) -> Result<(PrefixSet, &[u8]), Stop>
     if size == 0 {
         return Ok((PrefixSet::empty(alloc), rest));
     }
-    counted_at(alloc, Some(size), field, count, rest)
+    even_at(alloc, size, field, count, rest)
 }
 
 /// The prefixes of a list.
