@@ -13,6 +13,7 @@ use Rattle.update_run.specs.Run.{Seen}
 use Rattle.update_run.specs.Saved.{Keeping, HasSaved, FailsToSave, has_installed, saved_after, saved_lists}
 use Rattle.update_run.specs.declared.client.Client.{Client}
 use Rattle.update_run.specs.declared.plan.Plan.{Plan}
+use Rattle.update_run.specs.declared.rounding.RoundTold.{RoundTold}
 use Rattle.update_run.specs.declared.stop.RunStop.{RunStop}
 use Rattle.update_run.specs.declared.stop.RunStop.TheVariants as stop
 
@@ -33,6 +34,11 @@ pub record TakesRound (plan : Plan) (number : ℕ) (client client' : Client) (be
   pub saved : HasSaved (saved_after end.taken client'.lists) before.keeper after.keeper
   pub text : IsOnItsWay before.held after.held client'.page (told_end number end)
   pub refusal : refused ≡ has_refusal end.taken
+
+-- The same, with what is told of the round: whether with a refusal, and whether a list was installed.
+pub record TellsRound (plan : Plan) (number : ℕ) (client client' : Client) (before after : Seen) (told : RoundTold) : Type 0 where
+  pub takes : TakesRound plan number client client' before after told.refused
+  pub installed : told.installed ≡ has_installed takes.end.taken
 
 -- ---- where it stops
 

@@ -10,7 +10,7 @@ pub use laws::steps_go_on;
 pub use opening::open_store;
 pub use plan::Plan;
 pub use printing::push_list_line;
-pub use rounding::{take_round, write_page};
+pub use rounding::{RoundTold, make_round, take_round, write_page};
 pub use running::run;
 pub use stop::RunStop;
 

@@ -10,9 +10,9 @@ ghost use Rattle.update_run.specs.Printed.{has_refusal as has_refusal_one};
 ghost use Rattle.update_run.specs.Rounding.{WritesAndTakes, StopsOneRound, TakesAllRounds, StopsRounds};
 ghost use Rattle.update_run.specs.Run.{seen};
 ghost use Rattle.update_run.specs.Saved.{keeping};
-ghost use Rattle.update_run.specs.Steps.{WritesPage, TakesRound, StopsRound};
+ghost use Rattle.update_run.specs.Steps.{WritesPage, TakesRound, TellsRound, StopsRound};
 
-use crate::saving::tell_round;
+use crate::saving::{has_installed, tell_round};
 use crate::{Client, Plan, RunStop};
 use sb_model::{OutOfMemory, Row};
 use sb_outside::{Clock, Dice, Failed, Gate, Keeper, Link, Point, Sink, flush};
@@ -49,11 +49,20 @@ pub fn write_page<O: Sink>(client: &mut Client, out: &mut O) -> Result<(), Faile
     flush(out, &mut client.page)
 }
 
+/// What is told of a round.
+#[derive(Clone, Copy, Debug, PartialEq, Eq)]
+pub struct RoundTold {
+    /// It brought no message, or an update that was refused.
+    pub refused: bool,
+    /// It installed a list, so that the lists were saved.
+    pub installed: bool,
+}
+
 /// Makes the round of this number for a client of which no text waits: it waits until the round is allowed, holds its session,
-/// tells what came of it, and saves the lists where one was installed. Answers whether the round is told with a refusal.
+/// tells what came of it, and saves the lists where one was installed. Answers what is told of it.
 ///
 /// What it tells is written before the lists are saved, and else waits. The lists are saved before a line says so.
-pub fn take_round<O: Sink, K: Keeper, L: Link, C: Clock, D: Dice>(
+pub fn make_round<O: Sink, K: Keeper, L: Link, C: Clock, D: Dice>(
     alloc: Global,
     plan: &Plan,
     number: u32,
@@ -63,14 +72,14 @@ pub fn take_round<O: Sink, K: Keeper, L: Link, C: Clock, D: Dice>(
     link: &mut L,
     clock: &mut C,
     dice: &mut D,
-) -> Result<bool, RunStop>
+) -> Result<RoundTold, RunStop>
     requires written { client.old.page ≡ [] }
     requires target { IsTarget plan.now.target }
-    ensures took { IfOk result (λ refused. TakesRound plan.now number client.old client.new
+    ensures took { IfOk result (λ told. TellsRound plan.now number client.old client.new
         (seen (outside (L.log link.old) (C.answers clock.old) (C.waits clock.old) (D.given dice.old))
         (keeping (K.handed keep.old) (K.kept keep.old)) (O.contents out.old))
         (seen (outside (L.log link.new) (C.answers clock.new) (C.waits clock.new) (D.given dice.new))
-        (keeping (K.handed keep.new) (K.kept keep.new)) (O.contents out.new)) refused) }
+        (keeping (K.handed keep.new) (K.kept keep.new)) (O.contents out.new)) told) }
     ensures stopped { IfErr result (λ stop. StopsRound stop plan.now number client.old
         (seen (outside (L.log link.old) (C.answers clock.old) (C.waits clock.old) (D.given dice.old))
         (keeping (K.handed keep.old) (K.kept keep.old)) (O.contents out.old))
@@ -107,7 +116,47 @@ pub fn take_round<O: Sink, K: Keeper, L: Link, C: Clock, D: Dice>(
         keep,
         &mut client.page,
     ) {
-        Ok(()) => Ok(has_refusal(&end.taken)),
+        Ok(()) => Ok(RoundTold {
+            refused: has_refusal(&end.taken),
+            installed: has_installed(&end.taken),
+        }),
+        Err(stop) => Err(stop),
+    }
+}
+
+/// Makes a round as `make_round` does. Answers whether it is told with a refusal.
+pub fn take_round<O: Sink, K: Keeper, L: Link, C: Clock, D: Dice>(
+    alloc: Global,
+    plan: &Plan,
+    number: u32,
+    client: &mut Client,
+    out: &mut O,
+    keep: &mut K,
+    link: &mut L,
+    clock: &mut C,
+    dice: &mut D,
+) -> Result<bool, RunStop>
+    requires written { client.old.page ≡ [] }
+    requires target { IsTarget plan.now.target }
+    ensures took { IfOk result (λ refused. TakesRound plan.now number client.old client.new
+        (seen (outside (L.log link.old) (C.answers clock.old) (C.waits clock.old) (D.given dice.old))
+        (keeping (K.handed keep.old) (K.kept keep.old)) (O.contents out.old))
+        (seen (outside (L.log link.new) (C.answers clock.new) (C.waits clock.new) (D.given dice.new))
+        (keeping (K.handed keep.new) (K.kept keep.new)) (O.contents out.new)) refused) }
+    ensures stopped { IfErr result (λ stop. StopsRound stop plan.now number client.old
+        (seen (outside (L.log link.old) (C.answers clock.old) (C.waits clock.old) (D.given dice.old))
+        (keeping (K.handed keep.old) (K.kept keep.old)) (O.contents out.old))
+        (seen (outside (L.log link.new) (C.answers clock.new) (C.waits clock.new) (D.given dice.new))
+        (keeping (K.handed keep.new) (K.kept keep.new)) (O.contents out.new))) }
+
+    // A fault is counted, and nothing else is.
+    ensures output_failed { IsErrOf result RunStop.WriteFault → Rose (O.faults out.old) (O.faults out.new) }
+    ensures output_kept { result ≢ Err RunStop.WriteFault → O.faults out.new ≡ O.faults out.old }
+    ensures keeper_failed { IsErrOf result RunStop.KeepFault → Rose (K.faults keep.old) (K.faults keep.new) }
+    ensures keeper_kept { result ≢ Err RunStop.KeepFault → K.faults keep.new ≡ K.faults keep.old }
+{
+    match make_round(alloc, plan, number, client, out, keep, link, clock, dice) {
+        Ok(told) => Ok(told.refused),
         Err(stop) => Err(stop),
     }
 }

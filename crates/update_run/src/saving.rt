@@ -25,7 +25,7 @@ fn any_installed(taken: &[Taken]) -> bool
 }
 
 /// Whether a round installed a list.
-fn has_installed(taken: &Result<Row<Taken>, RoundFault>) -> bool
+pub(crate) fn has_installed(taken: &Result<Row<Taken>, RoundFault>) -> bool
     ensures { result ≡ has_installed_one taken.now }
 {
     match taken {
