@@ -1,9 +1,11 @@
 -- URLs that were judged in order, and one more.
 use Rattle.std.proofs.Common.{◌≡◌, ◌≤◌, ◌⊎◌, ℕ, List, [], ◌∷◌, ◌++◌, refl, sym, ap, ◌∙◌, subst, inl, inr, append_assoc, append-nil, arith, Option, Some, None, Ok, Err}
+use Rattle.std.specs.Prelude.{slice_index_or}
 use Rattle.sb_model.specs.declared.time.Moment.{Moment}
 use Rattle.sb_outside.specs.Outside.{Rose, IfTold}
 use Rattle.sb_outside.specs.declared.links.Session.{Session}
 use Rattle.update_client.specs.Held.{Held, tokens_of}
+use Rattle.snapshot_publish.specs.Publications.{Publications}
 use Rattle.full_hash_cache.specs.Cache.{Pairs}
 use Rattle.wait_rules.specs.declared.waits.WaitState.{WaitState}
 use Rattle.timed_sessions.specs.Told.{Outside, Trace, no_trace, then_trace, Grows, with_more}
@@ -14,10 +16,11 @@ use Rattle.url_checker.specs.Checking.{IsFindingOf}
 use Rattle.url_checker.specs.Resolving.{IsResolution, pairs_after}
 use Rattle.url_checker.specs.Resolved.{Resolves}
 use Rattle.url_checker.specs.declared.findings.Finding.{Finding}
+use Rattle.url_checker.specs.declared.findings.Checked.TheVariants.{Found, Refused}
 use Rattle.verdict_report.specs.declared.verdicts.Judged.{Judged}
 use Rattle.verdict_report.specs.declared.verdicts.Judged.TheVariants as judged
 use Rattle.verdict_report.specs.declared.verdicts.Verdict.{Verdict}
-use Rattle.judge_run.specs.Judging.{Case, FindState, find_state, IsCase, finds_after, trace_of_case, judged_of, LinkFailedIn, AreCases, finds_after_all, trace_of_cases, judged_of_all, LinkFailedInSome, JudgesLine, JudgesLines, BreaksOff, StopsJudging}
+use Rattle.judge_run.specs.Judging.{Case, FindState, find_state, lists_of, IsFoundIn, IsCase, finds_after, trace_of_case, judged_of, LinkFailedIn, AreCases, finds_after_all, trace_of_cases, judged_of_all, LinkFailedInSome, JudgesLine, JudgesCheck, JudgesLines, BreaksOff, StopsJudging}
 use Rattle.judge_run.specs.declared.plan.JudgePlan.{JudgePlan}
 
 -- ---- what is told of one thing after the other
@@ -43,55 +46,55 @@ then_both a b c =
 
 -- ---- the definitions, with one case more
 
-module _ (lists : List Held) where
+module _ (published : Publications) where
   after_one_more : (finds : FindState) (cases : List Case) (case : Case)
-      → finds_after_all lists finds (cases ++ case ∷ []) ≡ finds_after lists (finds_after_all lists finds cases) case
+      → finds_after_all published finds (cases ++ case ∷ []) ≡ finds_after published (finds_after_all published finds cases) case
   after_one_more finds [] case = refl
-  after_one_more finds (first ∷ cases) case = after_one_more (finds_after lists finds first) cases case
+  after_one_more finds (first ∷ cases) case = after_one_more (finds_after published finds first) cases case
 
   trace_one_more : (finds : FindState) (cases : List Case) (case : Case)
-      → trace_of_cases lists finds (cases ++ case ∷ []) ≡ then_trace (trace_of_cases lists finds cases) (trace_of_case (finds_after_all lists finds cases) case)
+      → trace_of_cases published finds (cases ++ case ∷ []) ≡ then_trace (trace_of_cases published finds cases) (trace_of_case (finds_after_all published finds cases) case)
   trace_one_more finds [] case = then_nothing (trace_of_case finds case)
   trace_one_more finds (first ∷ cases) case =
-      let after = finds_after lists finds first in
+      let after = finds_after published finds first in
       ap (λ rest. then_trace (trace_of_case finds first) rest) (trace_one_more after cases case)
-      ∙ then_both (trace_of_case finds first) (trace_of_cases lists after cases) (trace_of_case (finds_after_all lists after cases) case)
+      ∙ then_both (trace_of_case finds first) (trace_of_cases published after cases) (trace_of_case (finds_after_all published after cases) case)
 
   judged_one_more : (finds : FindState) (cases : List Case) (case : Case)
-      → judged_of_all lists finds (cases ++ case ∷ []) ≡ judged_of_all lists finds cases ++ judged_of (finds_after_all lists finds cases) case ∷ []
+      → judged_of_all published finds (cases ++ case ∷ []) ≡ judged_of_all published finds cases ++ judged_of (finds_after_all published finds cases) case ∷ []
   judged_one_more finds [] case = refl
-  judged_one_more finds (first ∷ cases) case = ap (λ rest. judged_of finds first ∷ rest) (judged_one_more (finds_after lists finds first) cases case)
+  judged_one_more finds (first ∷ cases) case = ap (λ rest. judged_of finds first ∷ rest) (judged_one_more (finds_after published finds first) cases case)
 
   cases_one_more : (plan : JudgePlan) (finds : FindState) (lines : List (List ℕ)) (cases : List Case) (line : List ℕ) (case : Case)
-      → AreCases plan lists finds lines cases → IsCase plan lists (finds_after_all lists finds cases) line case
-      → AreCases plan lists finds (lines ++ line ∷ []) (cases ++ case ∷ [])
+      → AreCases plan published finds lines cases → IsCase plan published (finds_after_all published finds cases) line case
+      → AreCases plan published finds (lines ++ line ∷ []) (cases ++ case ∷ [])
   cases_one_more plan finds [] [] line case are is = (is, tt)
   cases_one_more plan finds [] (first ∷ cases) line case are is = absurd are
   cases_one_more plan finds (first ∷ lines) [] line case are is = absurd are
   cases_one_more plan finds (first ∷ lines) (one ∷ cases) line case (first_is, are) is =
-      (first_is, cases_one_more plan (finds_after lists finds one) lines cases line case are is)
+      (first_is, cases_one_more plan (finds_after published finds one) lines cases line case are is)
 
   -- where the link failed in one of them, it failed before the last or in the last
   failed_before : (finds : FindState) (cases : List Case) (case : Case)
-      → LinkFailedInSome lists finds (cases ++ case ∷ []) → LinkFailedInSome lists finds cases ⊎ LinkFailedIn (finds_after_all lists finds cases) case
+      → LinkFailedInSome published finds (cases ++ case ∷ []) → LinkFailedInSome published finds cases ⊎ LinkFailedIn (finds_after_all published finds cases) case
   failed_before finds [] case (inl failed) = inr failed
   failed_before finds [] case (inr none) = absurd none
   failed_before finds (first ∷ cases) case (inl failed) = inl (inl failed)
-  failed_before finds (first ∷ cases) case (inr failed) = later (failed_before (finds_after lists finds first) cases case failed)
+  failed_before finds (first ∷ cases) case (inr failed) = later (failed_before (finds_after published finds first) cases case failed)
     where
-      later : LinkFailedInSome lists (finds_after lists finds first) cases ⊎ LinkFailedIn (finds_after_all lists (finds_after lists finds first) cases) case
-          → LinkFailedInSome lists finds (first ∷ cases) ⊎ LinkFailedIn (finds_after_all lists finds (first ∷ cases)) case
+      later : LinkFailedInSome published (finds_after published finds first) cases ⊎ LinkFailedIn (finds_after_all published (finds_after published finds first) cases) case
+          → LinkFailedInSome published finds (first ∷ cases) ⊎ LinkFailedIn (finds_after_all published finds (first ∷ cases)) case
       later (inl here) = inl (inr here)
       later (inr last) = inr last
 
-  failed_in_front : (finds : FindState) (cases : List Case) (case : Case) → LinkFailedInSome lists finds cases → LinkFailedInSome lists finds (cases ++ case ∷ [])
+  failed_in_front : (finds : FindState) (cases : List Case) (case : Case) → LinkFailedInSome published finds cases → LinkFailedInSome published finds (cases ++ case ∷ [])
   failed_in_front finds [] case none = absurd none
   failed_in_front finds (first ∷ cases) case (inl failed) = inl failed
-  failed_in_front finds (first ∷ cases) case (inr failed) = inr (failed_in_front (finds_after lists finds first) cases case failed)
+  failed_in_front finds (first ∷ cases) case (inr failed) = inr (failed_in_front (finds_after published finds first) cases case failed)
 
-  failed_in_last : (finds : FindState) (cases : List Case) (case : Case) → LinkFailedIn (finds_after_all lists finds cases) case → LinkFailedInSome lists finds (cases ++ case ∷ [])
+  failed_in_last : (finds : FindState) (cases : List Case) (case : Case) → LinkFailedIn (finds_after_all published finds cases) case → LinkFailedInSome published finds (cases ++ case ∷ [])
   failed_in_last finds [] case failed = inl failed
-  failed_in_last finds (first ∷ cases) case failed = inr (failed_in_last (finds_after lists finds first) cases case failed)
+  failed_in_last finds (first ∷ cases) case failed = inr (failed_in_last (finds_after published finds first) cases case failed)
 
 -- ---- counts of faults
 
@@ -115,9 +118,9 @@ grows_by_nothing before = record {
   words = told_nothing before.words;
 }
 
-pub judges_nothing : (plan : JudgePlan) (lists : List Held) (finds : FindState) (before : Outside) (faults : ℕ) (all : List Judged)
-    → all ≡ [] → JudgesLines plan lists finds finds before before faults faults [] all
-judges_nothing plan lists finds before faults all none = record {
+pub judges_nothing : (plan : JudgePlan) (published : Publications) (finds : FindState) (before : Outside) (faults : ℕ) (all : List Judged)
+    → all ≡ [] → JudgesLines plan published finds finds before before faults faults [] all
+judges_nothing plan published finds before faults all none = record {
   cases = [];
   are = tt;
   told = grows_by_nothing before;
@@ -127,39 +130,52 @@ judges_nothing plan lists finds before faults all none = record {
   kept = λ _. refl;
 }
 
-judges_one_more : (plan : JudgePlan) (lists : List Held) (finds mid finds' : FindState) (before between after : Outside) (a b c : ℕ) (lines : List (List ℕ)) (all : List Judged) (line : List ℕ) (one : Judged)
-    → GoesOnWithTrace → a ≤ b → b ≤ c → JudgesLines plan lists finds mid before between a b lines all → JudgesLine plan lists mid finds' between after b c line one
-    → JudgesLines plan lists finds finds' before after a c (lines ++ line ∷ []) (all ++ one ∷ [])
-judges_one_more plan lists finds mid finds' before between after a b c lines all line one go ab bc so_far more =
+judges_one_more : (plan : JudgePlan) (published : Publications) (finds mid finds' : FindState) (before between after : Outside) (a b c : ℕ) (lines : List (List ℕ)) (all : List Judged) (line : List ℕ) (one : Judged)
+    → GoesOnWithTrace → a ≤ b → b ≤ c → JudgesLines plan published finds mid before between a b lines all → JudgesLine plan published mid finds' between after b c line one
+    → JudgesLines plan published finds finds' before after a c (lines ++ line ∷ []) (all ++ one ∷ [])
+judges_one_more plan published finds mid finds' before between after a b c lines all line one go ab bc so_far more =
     let cases = so_far.cases in
     let case = more.case in
-    let here : mid ≡ finds_after_all lists finds cases = so_far.finds_are in
+    let here : mid ≡ finds_after_all published finds cases = so_far.finds_are in
     record {
       cases = cases ++ case ∷ [];
-      are = cases_one_more lists plan finds lines cases line case so_far.are (subst (λ (f : FindState). IsCase plan lists f line case) here more.is);
-      told = subst (λ told. Grows before after told) (sym (trace_one_more lists finds cases case))
-          (go before between after (trace_of_cases lists finds cases) (trace_of_case (finds_after_all lists finds cases) case) so_far.told
+      are = cases_one_more published plan finds lines cases line case so_far.are (subst (λ (f : FindState). IsCase plan published f line case) here more.is);
+      told = subst (λ told. Grows before after told) (sym (trace_one_more published finds cases case))
+          (go before between after (trace_of_cases published finds cases) (trace_of_case (finds_after_all published finds cases) case) so_far.told
           (subst (λ (f : FindState). Grows between after (trace_of_case f case)) here more.told));
-      finds_are = more.finds_are ∙ ap (λ (f : FindState). finds_after lists f case) here ∙ sym (after_one_more lists finds cases case);
+      finds_are = more.finds_are ∙ ap (λ (f : FindState). finds_after published f case) here ∙ sym (after_one_more published finds cases case);
       judged_are = ap (λ front. front ++ one ∷ []) so_far.judged_are
-          ∙ ap (λ last. judged_of_all lists finds cases ++ last ∷ []) (more.judged_is ∙ ap (λ (f : FindState). judged_of f case) here)
-          ∙ sym (judged_one_more lists finds cases case);
-      failed = λ failed. rises (failed_before lists finds cases case failed);
+          ∙ ap (λ last. judged_of_all published finds cases ++ last ∷ []) (more.judged_is ∙ ap (λ (f : FindState). judged_of f case) here)
+          ∙ sym (judged_one_more published finds cases case);
+      failed = λ failed. rises (failed_before published finds cases case failed);
       kept = λ none.
-          more.kept (λ failed. none (failed_in_last lists finds cases case (subst (λ (f : FindState). LinkFailedIn f case) here failed)))
-          ∙ so_far.kept (λ failed. none (failed_in_front lists finds cases case failed));
+          more.kept (λ failed. none (failed_in_last published finds cases case (subst (λ (f : FindState). LinkFailedIn f case) here failed)))
+          ∙ so_far.kept (λ failed. none (failed_in_front published finds cases case failed));
     }
   where
-    rises : LinkFailedInSome lists finds so_far.cases ⊎ LinkFailedIn (finds_after_all lists finds so_far.cases) more.case → Rose a c
+    rises : LinkFailedInSome published finds so_far.cases ⊎ LinkFailedIn (finds_after_all published finds so_far.cases) more.case → Rose a c
     rises (inl failed) = rose_more a b c (so_far.failed failed) bc
     rises (inr failed) = rose_later a b c ab (more.failed (subst (λ (f : FindState). LinkFailedIn f more.case) (sym so_far.finds_are) failed))
 
-pub judges_next : (plan : JudgePlan) (lists : List Held) (finds mid finds' : FindState) (before between after : Outside) (a b c : ℕ) (lines : List (List ℕ)) (all all' : List Judged) (line : List ℕ) (one : Judged)
-    → GoesOnWithTrace → a ≤ b → b ≤ c → all' ≡ all ++ one ∷ [] → JudgesLines plan lists finds mid before between a b lines all → JudgesLine plan lists mid finds' between after b c line one
-    → JudgesLines plan lists finds finds' before after a c (lines ++ line ∷ []) all'
-judges_next plan lists finds mid finds' before between after a b c lines all all' line one go ab bc are so_far more =
-    subst (λ (xs : List Judged). JudgesLines plan lists finds finds' before after a c (lines ++ line ∷ []) xs) (sym are)
-    (judges_one_more plan lists finds mid finds' before between after a b c lines all line one go ab bc so_far more)
+-- the cases of none, and of one more
+
+pub none_judged : (plan : JudgePlan) (published : Publications) (finds : FindState) (before : Outside) (faults : ℕ) → (made : JudgesLines plan published finds finds before before faults faults [] []) × (made.cases ≡ [])
+unfolding judges_nothing
+none_judged plan published finds before faults = (judges_nothing plan published finds before faults [] refl, refl)
+
+pub one_more_judged : (plan : JudgePlan) (published : Publications) (finds mid finds' : FindState) (before between after : Outside) (a b c : ℕ) (lines : List (List ℕ)) (all : List Judged) (line : List ℕ) (one : Judged)
+    → GoesOnWithTrace → a ≤ b → b ≤ c → (so_far : JudgesLines plan published finds mid before between a b lines all) → (more : JudgesLine plan published mid finds' between after b c line one)
+    → (made : JudgesLines plan published finds finds' before after a c (lines ++ line ∷ []) (all ++ one ∷ [])) × (made.cases ≡ so_far.cases ++ more.case ∷ [])
+unfolding judges_one_more
+one_more_judged plan published finds mid finds' before between after a b c lines all line one go ab bc so_far more =
+    (judges_one_more plan published finds mid finds' before between after a b c lines all line one go ab bc so_far more, refl)
+
+pub judges_next : (plan : JudgePlan) (published : Publications) (finds mid finds' : FindState) (before between after : Outside) (a b c : ℕ) (lines : List (List ℕ)) (all all' : List Judged) (line : List ℕ) (one : Judged)
+    → GoesOnWithTrace → a ≤ b → b ≤ c → all' ≡ all ++ one ∷ [] → JudgesLines plan published finds mid before between a b lines all → JudgesLine plan published mid finds' between after b c line one
+    → JudgesLines plan published finds finds' before after a c (lines ++ line ∷ []) all'
+judges_next plan published finds mid finds' before between after a b c lines all all' line one go ab bc are so_far more =
+    subst (λ (xs : List Judged). JudgesLines plan published finds finds' before after a c (lines ++ line ∷ []) xs) (sym are)
+    (judges_one_more plan published finds mid finds' before between after a b c lines all line one go ab bc so_far more)
 
 -- the lines that are left after one more
 pub left_after : (first left all : List (List ℕ)) (line : List ℕ) (rest : List (List ℕ)) → left ≡ line ∷ rest → first ++ left ≡ all → (first ++ line ∷ []) ++ rest ≡ all
@@ -167,25 +183,38 @@ left_after first left all line rest is h = append_assoc first (line ∷ []) rest
 
 -- ---- one of them
 
-pub resolved_line : (plan : JudgePlan) (lists : List Held) (states : List (List ℕ)) (finding : Finding) (pairs pairs' : Pairs) (waits waits' : WaitState) (before after : Outside) (f f' : ℕ) (line : List ℕ) (verdict : Verdict)
-    → states ≡ tokens_of lists → IsFindingOf lists 0 line finding → Resolves states plan.patience plan.target plan.need_digest finding.hits pairs pairs' waits waits' before after f f' verdict
-    → JudgesLine plan lists (find_state pairs waits) (find_state pairs' waits') before after f f' line (judged.Verdict finding.number finding.text verdict)
-resolved_line plan lists states finding pairs pairs' waits waits' before after f f' line verdict same found resolves =
+-- what the lists of the first publication have
+pub found_first : (lists : List Held) (line : List ℕ) (finding : Finding) → IsFindingOf lists 0 line finding → IsFoundIn (lists ∷ []) line finding
+found_first lists line finding found = record {
+  there = omega (arith, found.numbered);
+  is = subst (λ (n : ℕ). IsFindingOf (slice_index_or (lists ∷ []) n []) n line finding) (sym found.numbered) found;
+}
+
+pub first_lists_are : (lists : List Held) (line : List ℕ) (finding : Finding) → IsFindingOf lists 0 line finding → lists_of (lists ∷ []) finding ≡ lists
+first_lists_are lists line finding found = ap (λ (n : ℕ). slice_index_or (lists ∷ []) n []) found.numbered
+
+pub resolved_check : (plan : JudgePlan) (published : Publications) (states : List (List ℕ)) (finding : Finding) (pairs pairs' : Pairs) (waits waits' : WaitState) (before after : Outside) (f f' : ℕ) (line : List ℕ) (verdict : Verdict)
+    → states ≡ tokens_of (lists_of published finding) → IsFoundIn published line finding → Resolves states plan.patience plan.target plan.need_digest finding.hits pairs pairs' waits waits' before after f f' verdict
+    → JudgesCheck plan published (find_state pairs waits) (find_state pairs' waits') before after f f' line (Found finding) (judged.Verdict finding.number finding.text verdict)
+resolved_check plan published states finding pairs pairs' waits waits' before after f f' line verdict same found resolves =
     let r = resolves.resolution in
     record {
-      case = Ok (record { finding = finding; resolution = r });
-      is = (found, subst (λ (st : List (List ℕ)). IsResolution st plan.patience plan.target plan.need_digest finding.hits pairs waits r) same resolves.is);
-      told = resolves.told;
-      finds_are = ap (λ (ps : Pairs). find_state ps waits') (resolves.pairs_are ∙ ap (λ (st : List (List ℕ)). pairs_after st finding.hits pairs r) same)
-          ∙ ap (λ (ws : WaitState). find_state (pairs_after (tokens_of lists) finding.hits pairs r) ws) resolves.waits_are;
-      judged_is = ap (λ (n : ℕ). judged.Verdict n finding.text verdict) found.numbered ∙ ap (λ (v : Verdict). judged.Verdict 0 finding.text v) resolves.verdict_is;
-      failed = resolves.failed;
-      kept = resolves.kept;
+      judges = record {
+        case = Ok (record { finding = finding; resolution = r });
+        is = (found, subst (λ (st : List (List ℕ)). IsResolution st plan.patience plan.target plan.need_digest finding.hits pairs waits r) same resolves.is);
+        told = resolves.told;
+        finds_are = ap (λ (ps : Pairs). find_state ps waits') (resolves.pairs_are ∙ ap (λ (st : List (List ℕ)). pairs_after st finding.hits pairs r) same)
+            ∙ ap (λ (ws : WaitState). find_state (pairs_after (tokens_of (lists_of published finding)) finding.hits pairs r) ws) resolves.waits_are;
+        judged_is = ap (λ (v : Verdict). judged.Verdict finding.number finding.text v) resolves.verdict_is;
+        failed = resolves.failed;
+        kept = resolves.kept;
+      };
+      checked = refl;
     }
 
-pub refused_line : (plan : JudgePlan) (lists : List Held) (finds : FindState) (before : Outside) (f : ℕ) (line : List ℕ) (fault told : UrlFault)
-    → told ≡ fault → canonical_of line ≡ Err fault → JudgesLine plan lists finds finds before before f f line (judged.Refused told)
-refused_line plan lists finds before f line fault told same is = record {
+pub refused_line : (plan : JudgePlan) (published : Publications) (finds : FindState) (before : Outside) (f : ℕ) (line : List ℕ) (fault told : UrlFault)
+    → told ≡ fault → canonical_of line ≡ Err fault → JudgesLine plan published finds finds before before f f line (judged.Refused told)
+refused_line plan published finds before f line fault told same is = record {
   case = Err fault;
   is = is;
   told = grows_by_nothing before;
@@ -195,16 +224,21 @@ refused_line plan lists finds before f line fault told same is = record {
   kept = λ _. refl;
 }
 
+pub refused_check : (plan : JudgePlan) (published : Publications) (finds : FindState) (before : Outside) (f : ℕ) (line : List ℕ) (fault : UrlFault)
+    → canonical_of line ≡ Err fault → JudgesCheck plan published finds finds before before f f line (Refused fault) (judged.Refused fault)
+unfolding refused_line
+refused_check plan published finds before f line fault is = record { judges = refused_line plan published finds before f line fault fault refl is; checked = refl }
+
 -- ---- where memory was refused
 
-pub unbroken : (plan : JudgePlan) (lists : List Held) (finds : FindState) (before after : Outside) (left : List (List ℕ)) → after ≡ before → BreaksOff plan lists finds before after left
-unbroken plan lists finds before after [] same = same
-unbroken plan lists finds before after (line ∷ left) same = inl same
+pub unbroken : (plan : JudgePlan) (published : Publications) (finds : FindState) (before after : Outside) (left : List (List ℕ)) → after ≡ before → BreaksOff plan published finds before after left
+unbroken plan published finds before after [] same = same
+unbroken plan published finds before after (line ∷ left) same = inl same
 
 -- after some lines, before the next
-pub stops_after : (plan : JudgePlan) (lists : List Held) (finds finds' : FindState) (before after : Outside) (a c : ℕ) (lines first left : List (List ℕ)) (all : List Judged)
-    → first ++ left ≡ lines → JudgesLines plan lists finds finds' before after a c first all → StopsJudging plan lists finds before after a c lines
-stops_after plan lists finds finds' before after a c lines first left all are judges = record {
+pub stops_after : (plan : JudgePlan) (published : Publications) (finds finds' : FindState) (before after : Outside) (a c : ℕ) (lines first left : List (List ℕ)) (all : List Judged)
+    → first ++ left ≡ lines → JudgesLines plan published finds finds' before after a c first all → StopsJudging plan published finds before after a c lines
+stops_after plan published finds finds' before after a c lines first left all are judges = record {
   first = first;
   left = left;
   lines_are = are;
@@ -212,24 +246,24 @@ stops_after plan lists finds finds' before after a c lines first left all are ju
   finds_now = finds';
   all = all;
   judges = judges;
-  breaks = unbroken plan lists finds' after after left refl;
+  breaks = unbroken plan published finds' after after left refl;
 }
 
 -- within the next
-pub stops_within : (plan : JudgePlan) (lists : List Held) (finds mid : FindState) (before between after : Outside) (a b b' : ℕ) (lines first left : List (List ℕ)) (line : List ℕ) (rest : List (List ℕ)) (all : List Judged)
-    → left ≡ line ∷ rest → first ++ left ≡ lines → b' ≡ b → JudgesLines plan lists finds mid before between a b first all → BreaksOff plan lists mid between after (line ∷ rest)
-    → StopsJudging plan lists finds before after a b' lines
-stops_within plan lists finds mid before between after a b b' lines first left line rest all is are same judges breaks = record {
+pub stops_within : (plan : JudgePlan) (published : Publications) (finds mid : FindState) (before between after : Outside) (a b b' : ℕ) (lines first left : List (List ℕ)) (line : List ℕ) (rest : List (List ℕ)) (all : List Judged)
+    → left ≡ line ∷ rest → first ++ left ≡ lines → b' ≡ b → JudgesLines plan published finds mid before between a b first all → BreaksOff plan published mid between after (line ∷ rest)
+    → StopsJudging plan published finds before after a b' lines
+stops_within plan published finds mid before between after a b b' lines first left line rest all is are same judges breaks = record {
   first = first;
   left = line ∷ rest;
   lines_are = ap (λ (ls : List (List ℕ)). first ++ ls) (sym is) ∙ are;
   between = between;
   finds_now = mid;
   all = all;
-  judges = subst (λ (n : ℕ). JudgesLines plan lists finds mid before between a n first all) (sym same) judges;
+  judges = subst (λ (n : ℕ). JudgesLines plan published finds mid before between a n first all) (sym same) judges;
   breaks = breaks;
 }
 
-pub stops_at_once : (plan : JudgePlan) (lists : List Held) (finds : FindState) (before : Outside) (f : ℕ) (lines : List (List ℕ)) → StopsJudging plan lists finds before before f f lines
-stops_at_once plan lists finds before f lines =
-    stops_after plan lists finds finds before before f f lines [] lines [] refl (judges_nothing plan lists finds before f [] refl)
+pub stops_at_once : (plan : JudgePlan) (published : Publications) (finds : FindState) (before : Outside) (f : ℕ) (lines : List (List ℕ)) → StopsJudging plan published finds before before f f lines
+stops_at_once plan published finds before f lines =
+    stops_after plan published finds finds before before f f lines [] lines [] refl (judges_nothing plan published finds before f [] refl)

@@ -1,11 +1,12 @@
 -- How a run ends.
-use Rattle.std.proofs.Common.{◌≡◌, ℕ, List, [], ◌++◌, sym, ap, ◌∙◌, subst, inl, inr, append-nil, Option, None, Ok, Err}
+use Rattle.std.proofs.Common.{◌≡◌, ℕ, List, [], ◌∷◌, ◌++◌, sym, ap, ◌∙◌, subst, inl, inr, append-nil, Option, None, Ok, Err}
 use Rattle.sb_model.specs.declared.names.ListName.{ListName}
 use Rattle.sb_model.specs.declared.time.Moment.{Moment}
 use Rattle.sb_outside.specs.Outside.{appended}
 use Rattle.sb_outside.specs.Writing.{HasFront}
 use Rattle.sb_outside.specs.declared.links.Session.{Session}
 use Rattle.update_client.specs.Held.{Held}
+use Rattle.snapshot_publish.specs.Publications.{Publications}
 use Rattle.wait_rules.specs.declared.waits.WaitState.{WaitState}
 use Rattle.timed_sessions.specs.Told.{Outside, outside}
 use Rattle.input_lines.specs.Lines.{lines_of}
@@ -30,9 +31,9 @@ pub front_behind : (a b c : Option (List ℕ)) (page text : List ℕ) → b ≡ 
 front_behind a b c page text h front = way_front [] page text (record { taken = page; has = h; rest = append-nil page }) front
 
 -- the report stopped
-module _ (plan : JudgePlan) (lists : List Held) (waits : WaitState) (waiting : List ℕ) (lines : List (List ℕ)) (before after : Outside) (f f' a b : ℕ) (held held' : Option (List ℕ)) (all : List Judged) where
-  pub stops_at_report : (why : JudgeStop) → IsStopped why a b → HasJudged plan lists waits before after f f' lines all → HasFront held held' (waiting ++ report_text all)
-      → EndsFrom plan (Err why) lists waits waiting lines before after f f' held held'
+module _ (plan : JudgePlan) (published : Publications) (waits : WaitState) (waiting : List ℕ) (lines : List (List ℕ)) (before after : Outside) (f f' a b : ℕ) (held held' : Option (List ℕ)) (all : List Judged) where
+  pub stops_at_report : (why : JudgeStop) → IsStopped why a b → HasJudged plan published waits before after f f' lines all → HasFront held held' (waiting ++ report_text all)
+      → EndsFrom plan (Err why) published waits waiting lines before after f f' held held'
   stops_at_report stop.WriteFault is judged front = inr (record { all = all; judged = judged; front = front })
   stops_at_report stop.OutOfMemory is judged front = inr (record { all = all; judged = judged; front = front })
   stops_at_report stop.ReadFault (inl h) judged front = absurd (let other = h.0 in cc)
@@ -48,12 +49,13 @@ pub same_keeping : (handed handed' : Option (List (List ℕ))) (kept kept' : Opt
 same_keeping handed handed' kept kept' h k = ap (λ x. keeping x kept') h ∙ ap (λ x. keeping handed x) k
 
 -- what a link tells that was not asked
-pub opened_with : (waits : WaitState) (log : Option (List Session)) (answers answers' bidden bidden' : Option (List Moment)) (words words' : Option (List ℕ))
-    → OpensFinds waits (outside None answers bidden words) (outside None answers' bidden' words') → OpensFinds waits (outside log answers bidden words) (outside log answers' bidden' words')
-opened_with waits log answers answers' bidden bidden' words words' opens = record {
+pub opened_with : (updates waits : WaitState) (log : Option (List Session)) (answers answers' bidden bidden' : Option (List Moment)) (words words' : Option (List ℕ))
+    → OpensFinds updates waits (outside None answers bidden words) (outside None answers' bidden' words') → OpensFinds updates waits (outside log answers bidden words) (outside log answers' bidden' words')
+opened_with updates waits log answers answers' bidden bidden' words words' opens = record {
   start = opens.start;
-  updates = opens.updates;
-  finds = opens.finds;
+  update_word = opens.update_word;
+  find_word = opens.find_word;
+  first_update = opens.first_update;
   first = opens.first;
   told = record { log = told_nothing log; answers = opens.told.answers; waits = opens.told.waits; words = opens.told.words };
 }
@@ -68,13 +70,13 @@ any_ending (Err stop.WriteFault) plan before after ends = ends
 any_ending (Err stop.OutOfMemory) plan before after ends = inr ends
 
 pub begun_ends : (ending : Ending) (plan : JudgePlan) (names : List ListName) (begun : Begun) (input : List ℕ) (opened unlinked unlinked' : Outside) (before after : Seen)
-    → names ≡ plan.names → input ≡ begun.text → Begins names begun before.left after.left before.keeper.kept unlinked unlinked' → OpensFinds begun.waits before.outside opened → after.keeper ≡ before.keeper
-    → EndsFrom plan ending begun.lists begun.waits begun.page (lines_of input) opened after.outside before.faults after.faults before.held after.held
+    → names ≡ plan.names → input ≡ begun.text → Begins names begun before.left after.left before.keeper.kept unlinked unlinked' → OpensFinds begun.updates begun.waits before.outside opened → after.keeper ≡ before.keeper
+    → EndsFrom plan ending (begun.lists ∷ []) begun.waits begun.page (lines_of input) opened after.outside before.faults after.faults before.held after.held
     → EndsJudging plan ending before after
 begun_ends ending plan names begun input opened unlinked unlinked' before after same text begins opens keeper ends =
     let kept = begins.loaded.kept in
-    let lists = begins.loaded.are ∙ ap (λ (ns : List ListName). first_lists ns kept) same in
-    let from = λ (ls : List Held) (page : List ℕ). EndsFrom plan ending ls begun.waits page (lines_of input) opened after.outside before.faults after.faults before.held after.held in
+    let are = begins.loaded.are ∙ ap (λ (ns : List ListName). first_lists ns kept) same in
+    let from = λ (ls : List Held) (page : List ℕ). EndsFrom plan ending (ls ∷ []) begun.waits page (lines_of input) opened after.outside before.faults after.faults before.held after.held in
     any_ending ending plan before after (record {
       begins = record {
         input = input;
@@ -82,9 +84,10 @@ begun_ends ending plan names begun input opened unlinked unlinked' before after 
         kept = kept;
         loaded = begins.loaded.loaded;
         keeper = keeper;
+        updates = begun.updates;
         waits = begun.waits;
         opened = opened;
         opens = opens;
       };
-      ends = subst (λ (page : List ℕ). from (first_lists plan.names kept) page) begins.loaded.told (subst (λ (ls : List Held). from ls begun.page) lists ends);
+      ends = subst (λ (page : List ℕ). from (first_lists plan.names kept) page) begins.loaded.told (subst (λ (ls : List Held). from ls begun.page) are ends);
     })

@@ -5,11 +5,12 @@ use Rattle.std.proofs.lemmas.List.{length-append}
 use Rattle.sb_model.specs.declared.time.Moment.{Moment}
 use Rattle.http_edge.specs.declared.messages.Target.{Target}
 use Rattle.update_client.specs.Held.{Held, tokens_of}
+use Rattle.snapshot_publish.specs.Publications.{Publications}
 use Rattle.wait_rules.specs.declared.waits.WaitState.{WaitState}
 use Rattle.timed_sessions.specs.Waiting.{ClosedSession, KeepToWaits, waits_after_all}
 use Rattle.url_checker.specs.Resolving.{FindTalk, IsFindTalk, closed_in, trace_of_talk, hits_asked}
 use Rattle.url_checker.specs.declared.findings.Hit.{Hit}
-use Rattle.judge_run.specs.Judging.{Case, FindState, IsCase, finds_after, trace_of_cases}
+use Rattle.judge_run.specs.Judging.{Case, FindState, lists_of, IsCase, finds_after, trace_of_cases}
 use Rattle.judge_run.specs.Law.{sessions_of_all, entry_of, KeepToTheirWaits, CasesKeepToWaits}
 use Rattle.judge_run.specs.declared.plan.JudgePlan.{JudgePlan}
 
@@ -32,23 +33,23 @@ map_both : (front rest : List ClosedSession) → map entry_of (front ++ rest) �
 map_both [] rest = refl
 map_both (first ∷ front) rest = ap (λ more. entry_of first ∷ more) (map_both front rest)
 
-one_case : (plan : JudgePlan) (lists : List Held) (finds : FindState) (line : List ℕ) (case : Case) (cases : List Case)
-    → IsCase plan lists finds line case → KeepToTheirWaits (finds_after lists finds case) lists cases → KeepToTheirWaits finds lists (case ∷ cases)
-one_case plan lists finds line (Err fault) cases is rest = record { keep = rest.keep; are = rest.are; few = omega (arith, rest.few) }
-one_case plan lists finds line (Ok answered) cases is rest =
+one_case : (plan : JudgePlan) (published : Publications) (finds : FindState) (line : List ℕ) (case : Case) (cases : List Case)
+    → IsCase plan published finds line case → KeepToTheirWaits (finds_after published finds case) published cases → KeepToTheirWaits finds published (case ∷ cases)
+one_case plan published finds line (Err fault) cases is rest = record { keep = rest.keep; are = rest.are; few = omega (arith, rest.few) }
+one_case plan published finds line (Ok answered) cases is rest =
     let r = answered.resolution in
     let later = sessions_of_all cases in
     record {
-      keep = keep_first (tokens_of lists) plan.target plan.need_digest finds.waits (hits_asked finds.pairs r.now answered.finding.hits) r.now r.talk later is.1.talks rest.keep;
-      are = ap (λ front. front ++ (trace_of_cases lists (finds_after lists finds (Ok answered)) cases).sessions) (session_of_talk finds.waits r.now r.talk)
+      keep = keep_first (tokens_of (lists_of published answered.finding)) plan.target plan.need_digest finds.waits (hits_asked finds.pairs r.now answered.finding.hits) r.now r.talk later is.1.talks rest.keep;
+      are = ap (λ front. front ++ (trace_of_cases published (finds_after published finds (Ok answered)) cases).sessions) (session_of_talk finds.waits r.now r.talk)
           ∙ ap (λ more. map entry_of (closed_in r.talk) ++ more) rest.are
           ∙ sym (map_both (closed_in r.talk) later);
       few = omega (arith, length-append (closed_in r.talk) later, one_at_most r.talk, rest.few);
     }
 
 pub keep_to_waits : CasesKeepToWaits
-keep_to_waits plan lists finds [] [] are = record { keep = tt; are = refl; few = omega arith }
-keep_to_waits plan lists finds [] (case ∷ cases) are = absurd are
-keep_to_waits plan lists finds (line ∷ lines) [] are = absurd are
-keep_to_waits plan lists finds (line ∷ lines) (case ∷ cases) (is, are) =
-    one_case plan lists finds line case cases is (keep_to_waits plan lists (finds_after lists finds case) lines cases are)
+keep_to_waits plan published finds [] [] are = record { keep = tt; are = refl; few = omega arith }
+keep_to_waits plan published finds [] (case ∷ cases) are = absurd are
+keep_to_waits plan published finds (line ∷ lines) [] are = absurd are
+keep_to_waits plan published finds (line ∷ lines) (case ∷ cases) (is, are) =
+    one_case plan published finds line case cases is (keep_to_waits plan published (finds_after published finds case) lines cases are)

@@ -1,8 +1,9 @@
 -- What becomes of URLs, one after the other: each is refused, or found and resolved from what the finds before it left.
-use Rattle.std.specs.Prelude.{◌≡◌, ◌⊎◌, ℕ, List, [], ◌∷◌, ◌++◌, Result, Ok, Err}
+use Rattle.std.specs.Prelude.{◌≡◌, ◌<◌, ◌⊎◌, ℕ, List, [], ◌∷◌, ◌++◌, length, slice_index_or, Result, Ok, Err}
 use Rattle.std.specs.List.{fold}
 use Rattle.sb_outside.specs.Outside.{Rose}
 use Rattle.update_client.specs.Held.{Held, tokens_of}
+use Rattle.snapshot_publish.specs.Publications.{Publications}
 use Rattle.full_hash_cache.specs.Cache.{Pairs}
 use Rattle.wait_rules.specs.declared.waits.WaitState.{WaitState}
 use Rattle.timed_sessions.specs.Told.{Outside, Trace, no_trace, then_trace, Grows}
@@ -12,6 +13,8 @@ use Rattle.url_checker.specs.Checking.{IsFindingOf}
 use Rattle.url_checker.specs.Resolving.{Resolution, IsResolution, verdict_of, pairs_after, waits_after_finding, trace_of_finding}
 use Rattle.url_checker.specs.Resolved.{LinkFailed, StopsResolving}
 use Rattle.url_checker.specs.declared.findings.Finding.{Finding}
+use Rattle.url_checker.specs.declared.findings.Checked.{Checked}
+use Rattle.url_checker.specs.declared.findings.Checked.TheVariants.{Found, Refused}
 use Rattle.verdict_report.specs.declared.verdicts.Judged.{Judged}
 use Rattle.verdict_report.specs.declared.verdicts.Judged.TheVariants as judged
 use Rattle.judge_run.specs.declared.plan.JudgePlan.{JudgePlan}
@@ -35,19 +38,28 @@ pub record FindState : Type 0 where
 abbrev pub find_state : Pairs → WaitState → FindState
 find_state pairs waits = record { pairs = pairs; waits = waits }
 
--- A URL is refused for its fault where it has no canonical form, and else its hits on the lists are resolved. The lists are publication 0, and
--- a find carries their tokens.
-abbrev pub IsCase : JudgePlan → List Held → FindState → List ℕ → Case → Type 0
-IsCase plan lists finds line (Ok answered) =
-    IsFindingOf lists 0 line answered.finding
-    × IsResolution (tokens_of lists) plan.patience plan.target plan.need_digest answered.finding.hits finds.pairs finds.waits answered.resolution
-IsCase plan lists finds line (Err fault) = canonical_of line ≡ Err fault
+-- the lists of a finding, those of the publication that it names
+abbrev pub lists_of : Publications → Finding → List Held
+lists_of published finding = slice_index_or published finding.number []
+
+-- A finding of a line names one of the publications, and is what its lists have of the line.
+pub record IsFoundIn (published : Publications) (line : List ℕ) (finding : Finding) : Type 0 where
+  pub there : finding.number < length published
+  pub is : IsFindingOf (lists_of published finding) finding.number line finding
+
+-- A URL is refused for its fault where it has no canonical form, and else its hits on the lists of a publication are resolved. A find
+-- carries the tokens of these lists.
+abbrev pub IsCase : JudgePlan → Publications → FindState → List ℕ → Case → Type 0
+IsCase plan published finds line (Ok answered) =
+    IsFoundIn published line answered.finding
+    × IsResolution (tokens_of (lists_of published answered.finding)) plan.patience plan.target plan.need_digest answered.finding.hits finds.pairs finds.waits answered.resolution
+IsCase plan published finds line (Err fault) = canonical_of line ≡ Err fault
 
 -- what it leaves for the next find
-abbrev pub finds_after : List Held → FindState → Case → FindState
-finds_after lists finds (Ok answered) =
-    find_state (pairs_after (tokens_of lists) answered.finding.hits finds.pairs answered.resolution) (waits_after_finding finds.waits answered.resolution)
-finds_after lists finds (Err fault) = finds
+abbrev pub finds_after : Publications → FindState → Case → FindState
+finds_after published finds (Ok answered) =
+    find_state (pairs_after (tokens_of (lists_of published answered.finding)) answered.finding.hits finds.pairs answered.resolution) (waits_after_finding finds.waits answered.resolution)
+finds_after published finds (Err fault) = finds
 
 -- what is told more of it
 abbrev pub trace_of_case : FindState → Case → Trace
@@ -57,7 +69,7 @@ trace_of_case finds (Err fault) = no_trace
 -- what is said of it: its verdict with its canonical text, or its fault
 abbrev pub judged_of : FindState → Case → Judged
 judged_of finds (Ok answered) =
-    judged.Verdict 0 answered.finding.text (verdict_of finds.pairs finds.waits answered.finding.hits answered.resolution)
+    judged.Verdict answered.finding.number answered.finding.text (verdict_of finds.pairs finds.waits answered.finding.hits answered.resolution)
 judged_of finds (Err fault) = judged.Refused fault
 
 -- the link failed in the session of its find
@@ -65,84 +77,94 @@ abbrev pub LinkFailedIn : FindState → Case → Type 0
 LinkFailedIn finds (Ok answered) = LinkFailed finds.waits answered.resolution
 LinkFailedIn finds (Err fault) = ⊥
 
+-- the check of a URL that it goes back to
+abbrev pub check_of : Case → Checked
+check_of (Ok answered) = Found answered.finding
+check_of (Err fault) = Refused fault
+
 -- ---- URLs in order
 
 -- Each is the case of its line, from what those before it left.
-abbrev pub AreCases : JudgePlan → List Held → FindState → List (List ℕ) → List Case → Type 0
-AreCases plan lists finds [] [] = Unit {0}
-AreCases plan lists finds [] (case ∷ cases) = ⊥
-AreCases plan lists finds (line ∷ lines) [] = ⊥
-AreCases plan lists finds (line ∷ lines) (case ∷ cases) =
-    IsCase plan lists finds line case × AreCases plan lists (finds_after lists finds case) lines cases
+abbrev pub AreCases : JudgePlan → Publications → FindState → List (List ℕ) → List Case → Type 0
+AreCases plan published finds [] [] = Unit {0}
+AreCases plan published finds [] (case ∷ cases) = ⊥
+AreCases plan published finds (line ∷ lines) [] = ⊥
+AreCases plan published finds (line ∷ lines) (case ∷ cases) =
+    IsCase plan published finds line case × AreCases plan published (finds_after published finds case) lines cases
 
-abbrev pub finds_after_all : List Held → FindState → List Case → FindState
-finds_after_all lists finds cases = fold (finds_after lists) finds cases
+abbrev pub finds_after_all : Publications → FindState → List Case → FindState
+finds_after_all published finds cases = fold (finds_after published) finds cases
 
-abbrev pub trace_of_cases : List Held → FindState → List Case → Trace
-trace_of_cases lists finds [] = no_trace
-trace_of_cases lists finds (case ∷ cases) =
-    then_trace (trace_of_case finds case) (trace_of_cases lists (finds_after lists finds case) cases)
+abbrev pub trace_of_cases : Publications → FindState → List Case → Trace
+trace_of_cases published finds [] = no_trace
+trace_of_cases published finds (case ∷ cases) =
+    then_trace (trace_of_case finds case) (trace_of_cases published (finds_after published finds case) cases)
 
-abbrev pub judged_of_all : List Held → FindState → List Case → List Judged
-judged_of_all lists finds [] = []
-judged_of_all lists finds (case ∷ cases) = judged_of finds case ∷ judged_of_all lists (finds_after lists finds case) cases
+abbrev pub judged_of_all : Publications → FindState → List Case → List Judged
+judged_of_all published finds [] = []
+judged_of_all published finds (case ∷ cases) = judged_of finds case ∷ judged_of_all published (finds_after published finds case) cases
 
 -- the link failed in one of them
-abbrev pub LinkFailedInSome : List Held → FindState → List Case → Type 0
-LinkFailedInSome lists finds [] = ⊥
-LinkFailedInSome lists finds (case ∷ cases) = LinkFailedIn finds case ⊎ LinkFailedInSome lists (finds_after lists finds case) cases
+abbrev pub LinkFailedInSome : Publications → FindState → List Case → Type 0
+LinkFailedInSome published finds [] = ⊥
+LinkFailedInSome published finds (case ∷ cases) = LinkFailedIn finds case ⊎ LinkFailedInSome published (finds_after published finds case) cases
 
 -- ---- what is seen of it
 
 -- A URL was judged: this is told more, this is left and this is said. The link's count of faults rises where it failed, and nowhere else.
-pub record JudgesLine (plan : JudgePlan) (lists : List Held) (finds finds' : FindState) (before after : Outside) (faults faults' : ℕ) (line : List ℕ) (one : Judged) : Type 0 where
+pub record JudgesLine (plan : JudgePlan) (published : Publications) (finds finds' : FindState) (before after : Outside) (faults faults' : ℕ) (line : List ℕ) (one : Judged) : Type 0 where
   pub case : Case
-  pub is : IsCase plan lists finds line case
+  pub is : IsCase plan published finds line case
   pub told : Grows before after (trace_of_case finds case)
-  pub finds_are : finds' ≡ finds_after lists finds case
+  pub finds_are : finds' ≡ finds_after published finds case
   pub judged_is : one ≡ judged_of finds case
   pub failed : LinkFailedIn finds case → Rose faults faults'
   pub kept : (LinkFailedIn finds case → ⊥) → faults' ≡ faults
 
--- The same of URLs in order.
-pub record JudgesLines (plan : JudgePlan) (lists : List Held) (finds finds' : FindState) (before after : Outside) (faults faults' : ℕ) (lines : List (List ℕ)) (all : List Judged) : Type 0 where
+-- The same, and this check was what it went by.
+pub record JudgesCheck (plan : JudgePlan) (published : Publications) (finds finds' : FindState) (before after : Outside) (faults faults' : ℕ) (line : List ℕ) (check : Checked) (one : Judged) : Type 0 where
+  pub judges : JudgesLine plan published finds finds' before after faults faults' line one
+  pub checked : check_of judges.case ≡ check
+
+-- URLs were judged in order.
+pub record JudgesLines (plan : JudgePlan) (published : Publications) (finds finds' : FindState) (before after : Outside) (faults faults' : ℕ) (lines : List (List ℕ)) (all : List Judged) : Type 0 where
   pub cases : List Case
-  pub are : AreCases plan lists finds lines cases
-  pub told : Grows before after (trace_of_cases lists finds cases)
-  pub finds_are : finds' ≡ finds_after_all lists finds cases
-  pub judged_are : all ≡ judged_of_all lists finds cases
-  pub failed : LinkFailedInSome lists finds cases → Rose faults faults'
-  pub kept : (LinkFailedInSome lists finds cases → ⊥) → faults' ≡ faults
+  pub are : AreCases plan published finds lines cases
+  pub told : Grows before after (trace_of_cases published finds cases)
+  pub finds_are : finds' ≡ finds_after_all published finds cases
+  pub judged_are : all ≡ judged_of_all published finds cases
+  pub failed : LinkFailedInSome published finds cases → Rose faults faults'
+  pub kept : (LinkFailedInSome published finds cases → ⊥) → faults' ≡ faults
 
 -- nothing is kept before the first find, which has to wait for so long
 abbrev pub first_finds : WaitState → FindState
 first_finds waits = find_state [] waits
 
 -- The same from there on.
-pub record HasJudged (plan : JudgePlan) (lists : List Held) (waits : WaitState) (before after : Outside) (faults faults' : ℕ) (lines : List (List ℕ)) (all : List Judged) : Type 0 where
+pub record HasJudged (plan : JudgePlan) (published : Publications) (waits : WaitState) (before after : Outside) (faults faults' : ℕ) (lines : List (List ℕ)) (all : List Judged) : Type 0 where
   pub finds : FindState
-  pub judges : JudgesLines plan lists (first_finds waits) finds before after faults faults' lines all
+  pub judges : JudgesLines plan published (first_finds waits) finds before after faults faults' lines all
 
 -- ---- where memory was refused
 
 -- A URL was found, and its resolution was broken off.
-pub record BreaksOffFinding (plan : JudgePlan) (lists : List Held) (finds : FindState) (before after : Outside) (line : List ℕ) : Type 0 where
+pub record BreaksOffFinding (plan : JudgePlan) (published : Publications) (finds : FindState) (before after : Outside) (line : List ℕ) : Type 0 where
   pub finding : Finding
-  pub found : IsFindingOf lists 0 line finding
-  pub stops : StopsResolving (tokens_of lists) plan.target finding.hits finds.pairs finds.waits before after
+  pub found : IsFoundIn published line finding
+  pub stops : StopsResolving (tokens_of (lists_of published finding)) plan.target finding.hits finds.pairs finds.waits before after
 
 -- Nothing more is told of the next URL, or it was found and its resolution was broken off.
-abbrev pub BreaksOff : JudgePlan → List Held → FindState → Outside → Outside → List (List ℕ) → Type 0
-BreaksOff plan lists finds before after [] = after ≡ before
-BreaksOff plan lists finds before after (line ∷ lines) = (after ≡ before) ⊎ BreaksOffFinding plan lists finds before after line
+abbrev pub BreaksOff : JudgePlan → Publications → FindState → Outside → Outside → List (List ℕ) → Type 0
+BreaksOff plan published finds before after [] = after ≡ before
+BreaksOff plan published finds before after (line ∷ lines) = (after ≡ before) ⊎ BreaksOffFinding plan published finds before after line
 
 -- Some URLs were judged, and the judging was broken off at the next.
-pub record StopsJudging (plan : JudgePlan) (lists : List Held) (finds : FindState) (before after : Outside) (faults faults' : ℕ) (lines : List (List ℕ)) : Type 0 where
+pub record StopsJudging (plan : JudgePlan) (published : Publications) (finds : FindState) (before after : Outside) (faults faults' : ℕ) (lines : List (List ℕ)) : Type 0 where
   pub first : List (List ℕ)
   pub left : List (List ℕ)
   pub lines_are : first ++ left ≡ lines
   pub between : Outside
   pub finds_now : FindState
   pub all : List Judged
-  pub judges : JudgesLines plan lists finds finds_now before between faults faults' first all
-  pub breaks : BreaksOff plan lists finds_now between after left
+  pub judges : JudgesLines plan published finds finds_now before between faults faults' first all
+  pub breaks : BreaksOff plan published finds_now between after left

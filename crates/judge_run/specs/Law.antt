@@ -2,7 +2,7 @@
 use Rattle.std.specs.Prelude.{◌≡◌, ℕ, ◌≤◌, List, [], length, map, Ok, Err}
 use Rattle.std.specs.List.{flat_map}
 use Rattle.sb_outside.specs.declared.links.Session.{Session}
-use Rattle.update_client.specs.Held.{Held}
+use Rattle.snapshot_publish.specs.Publications.{Publications}
 use Rattle.timed_sessions.specs.Waiting.{ClosedSession, KeepToWaits}
 use Rattle.url_checker.specs.Resolving.{closed_in}
 use Rattle.judge_run.specs.Judging.{Case, FindState, AreCases, trace_of_cases}
@@ -20,11 +20,11 @@ abbrev pub entry_of : ClosedSession → Session
 entry_of closed = closed.session.entry
 
 -- What the log of the link has more are these sessions, and each keeps to its wait.
-pub record KeepToTheirWaits (finds : FindState) (lists : List Held) (cases : List Case) : Type 0 where
+pub record KeepToTheirWaits (finds : FindState) (published : Publications) (cases : List Case) : Type 0 where
   pub keep : KeepToWaits finds.waits (sessions_of_all cases)
-  pub are : (trace_of_cases lists finds cases).sessions ≡ map entry_of (sessions_of_all cases)
+  pub are : (trace_of_cases published finds cases).sessions ≡ map entry_of (sessions_of_all cases)
   pub few : length (sessions_of_all cases) ≤ length cases
 
 abbrev pub CasesKeepToWaits : Type 0
-CasesKeepToWaits = (plan : JudgePlan) (lists : List Held) (finds : FindState) (lines : List (List ℕ)) (cases : List Case)
-    → AreCases plan lists finds lines cases → KeepToTheirWaits finds lists cases
+CasesKeepToWaits = (plan : JudgePlan) (published : Publications) (finds : FindState) (lines : List (List ℕ)) (cases : List Case)
+    → AreCases plan published finds lines cases → KeepToTheirWaits finds published cases

@@ -17,24 +17,25 @@ use Rattle.judge_run.specs.declared.stop.JudgeStop.TheVariants as stop
 abbrev pub trace_of_start : Moment → ℕ → ℕ → Trace
 trace_of_start start updates finds = record { sessions = []; answers = start ∷ []; waits = []; words = updates ∷ finds ∷ [] }
 
--- The clock was read and two words were drawn. By the second the first find has to wait for so long.
-pub record OpensFinds (waits : WaitState) (before after : Outside) : Type 0 where
+-- The clock was read and two words were drawn. By the first the first update has to wait for so long, and by the second the first find.
+pub record OpensFinds (updates waits : WaitState) (before after : Outside) : Type 0 where
   pub start : Moment
-  pub updates : ℕ
-  pub finds : ℕ
-  pub first : waits ≡ first_state start finds
-  pub told : Grows before after (trace_of_start start updates finds)
+  pub update_word : ℕ
+  pub find_word : ℕ
+  pub first_update : updates ≡ first_state start update_word
+  pub first : waits ≡ first_state start find_word
+  pub told : Grows before after (trace_of_start start update_word find_word)
 
 -- The source gave a text to its end, which is within the limits.
 pub record ReadsWhole (text : List ℕ) (left left' : Option (List (List ℕ))) : Type 0 where
   pub reads : ReadsToEnd text left left'
   pub within : IsWithinLimits text
 
--- A run has its input, its lists and the line that tells of them, and the first find's wait.
+-- A run has its input, its lists and the line that tells of them, and the waits of the first update and the first find.
 pub record Begins (names : List ListName) (begun : Begun) (left left' : Option (List (List ℕ))) (known : Option (Option (List ℕ))) (before after : Outside) : Type 0 where
   pub input : ReadsWhole begun.text left left'
   pub loaded : HasLoaded names known begun.lists [] begun.page
-  pub opens : OpensFinds begun.waits before after
+  pub opens : OpensFinds begun.updates begun.waits before after
 
 -- where a run does not begin, by its cause
 abbrev pub StopsBeginning : JudgeStop → (left left' : Option (List (List ℕ))) → Type 0

@@ -1,7 +1,7 @@
 -- The report of URLs that were judged, while it is made: its lines in pages, and its counts.
 use Rattle.std.specs.Prelude.{◌≡◌, ℕ, List, ◌++◌}
 use Rattle.std.specs.List.{concat}
-use Rattle.update_client.specs.Held.{Held}
+use Rattle.snapshot_publish.specs.Publications.{Publications}
 use Rattle.wait_rules.specs.declared.waits.WaitState.{WaitState}
 use Rattle.timed_sessions.specs.Told.{Outside}
 use Rattle.verdict_report.specs.Printed.{counts_of, report_lines}
@@ -20,13 +20,13 @@ pub record IsReport (report : Report) (all : List Judged) : Type 0 where
   pub counts : report.counts ≡ counts_of all
 
 -- URLs were judged in order, and this is their report.
-pub record ReportsLines (plan : JudgePlan) (lists : List Held) (finds finds' : FindState) (before after : Outside) (faults faults' : ℕ) (lines : List (List ℕ)) (report : Report) : Type 0 where
+pub record ReportsLines (plan : JudgePlan) (published : Publications) (finds finds' : FindState) (before after : Outside) (faults faults' : ℕ) (lines : List (List ℕ)) (report : Report) : Type 0 where
   pub all : List Judged
   pub report_is : IsReport report all
-  pub judges : JudgesLines plan lists finds finds' before after faults faults' lines all
+  pub judges : JudgesLines plan published finds finds' before after faults faults' lines all
 
 -- The same from no kept answer on.
-pub record HasReported (plan : JudgePlan) (lists : List Held) (waits : WaitState) (before after : Outside) (faults faults' : ℕ) (lines : List (List ℕ)) (report : Report) : Type 0 where
+pub record HasReported (plan : JudgePlan) (published : Publications) (waits : WaitState) (before after : Outside) (faults faults' : ℕ) (lines : List (List ℕ)) (report : Report) : Type 0 where
   pub all : List Judged
   pub report_is : IsReport report all
-  pub judged : HasJudged plan lists waits before after faults faults' lines all
+  pub judged : HasJudged plan published waits before after faults faults' lines all

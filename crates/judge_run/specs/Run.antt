@@ -1,8 +1,8 @@
 -- A run that judges URLs: it reads them, begins with the lists that its keeper kept, judges them in order, and prints a report.
-use Rattle.std.specs.Prelude.{◌≡◌, ◌⊎◌, ℕ, List, ◌++◌, Option, Result, Ok, Err}
+use Rattle.std.specs.Prelude.{◌≡◌, ◌⊎◌, ℕ, List, [], ◌∷◌, ◌++◌, Option, Result, Ok, Err}
 use Rattle.sb_outside.specs.Outside.{appended}
 use Rattle.sb_outside.specs.Writing.{HasFront}
-use Rattle.update_client.specs.Held.{Held}
+use Rattle.snapshot_publish.specs.Publications.{Publications}
 use Rattle.wait_rules.specs.declared.waits.WaitState.{WaitState}
 use Rattle.timed_sessions.specs.Told.{Outside}
 use Rattle.input_lines.specs.Lines.{lines_of}
@@ -39,16 +39,16 @@ Ending = Result Judgement JudgeStop
 -- ---- from lists and a first wait on
 
 -- All lines were judged, and what waited and the report are written. This is what it comes to.
-pub record JudgesAll (plan : JudgePlan) (judgement : Judgement) (lists : List Held) (waits : WaitState) (waiting : List ℕ) (lines : List (List ℕ)) (before after : Outside) (faults faults' : ℕ) (held held' : Option (List ℕ)) : Type 0 where
+pub record JudgesAll (plan : JudgePlan) (judgement : Judgement) (published : Publications) (waits : WaitState) (waiting : List ℕ) (lines : List (List ℕ)) (before after : Outside) (faults faults' : ℕ) (held held' : Option (List ℕ)) : Type 0 where
   pub all : List Judged
-  pub judged : HasJudged plan lists waits before after faults faults' lines all
+  pub judged : HasJudged plan published waits before after faults faults' lines all
   pub text : held' ≡ appended held (waiting ++ report_text all)
   pub is : judgement ≡ judgement_of all
 
 -- All lines were judged, and a front of the text is written, of which something is missing.
-pub record StopsAtReport (plan : JudgePlan) (lists : List Held) (waits : WaitState) (waiting : List ℕ) (lines : List (List ℕ)) (before after : Outside) (faults faults' : ℕ) (held held' : Option (List ℕ)) : Type 0 where
+pub record StopsAtReport (plan : JudgePlan) (published : Publications) (waits : WaitState) (waiting : List ℕ) (lines : List (List ℕ)) (before after : Outside) (faults faults' : ℕ) (held held' : Option (List ℕ)) : Type 0 where
   pub all : List Judged
-  pub judged : HasJudged plan lists waits before after faults faults' lines all
+  pub judged : HasJudged plan published waits before after faults faults' lines all
   pub front : HasFront held held' (waiting ++ report_text all)
 
 -- No line was looked at, and a front of what waited is written, of which something is missing.
@@ -58,22 +58,22 @@ pub record StopsAtWaiting (waiting : List ℕ) (before after : Outside) (faults 
   pub front : HasFront held held' waiting
 
 -- What waited is written, and the judging was broken off.
-pub record StopsAmong (plan : JudgePlan) (lists : List Held) (waits : WaitState) (waiting : List ℕ) (lines : List (List ℕ)) (before after : Outside) (faults faults' : ℕ) (held held' : Option (List ℕ)) : Type 0 where
-  pub stops : StopsJudging plan lists (first_finds waits) before after faults faults' lines
+pub record StopsAmong (plan : JudgePlan) (published : Publications) (waits : WaitState) (waiting : List ℕ) (lines : List (List ℕ)) (before after : Outside) (faults faults' : ℕ) (held held' : Option (List ℕ)) : Type 0 where
+  pub stops : StopsJudging plan published (first_finds waits) before after faults faults' lines
   pub text : held' ≡ appended held waiting
 
-abbrev pub EndsFrom : JudgePlan → Ending → List Held → WaitState → List ℕ → List (List ℕ) → (before after : Outside) → (faults faults' : ℕ) → (held held' : Option (List ℕ)) → Type 0
-EndsFrom plan (Ok judgement) lists waits waiting lines before after faults faults' held held' =
-    JudgesAll plan judgement lists waits waiting lines before after faults faults' held held'
-EndsFrom plan (Err stop.WriteFault) lists waits waiting lines before after faults faults' held held' =
+abbrev pub EndsFrom : JudgePlan → Ending → Publications → WaitState → List ℕ → List (List ℕ) → (before after : Outside) → (faults faults' : ℕ) → (held held' : Option (List ℕ)) → Type 0
+EndsFrom plan (Ok judgement) published waits waiting lines before after faults faults' held held' =
+    JudgesAll plan judgement published waits waiting lines before after faults faults' held held'
+EndsFrom plan (Err stop.WriteFault) published waits waiting lines before after faults faults' held held' =
     StopsAtWaiting waiting before after faults faults' held held'
-    ⊎ StopsAtReport plan lists waits waiting lines before after faults faults' held held'
-EndsFrom plan (Err stop.OutOfMemory) lists waits waiting lines before after faults faults' held held' =
-    StopsAmong plan lists waits waiting lines before after faults faults' held held'
-    ⊎ StopsAtReport plan lists waits waiting lines before after faults faults' held held'
-EndsFrom plan (Err stop.ReadFault) lists waits waiting lines before after faults faults' held held' = ⊥
-EndsFrom plan (Err stop.PastLimits) lists waits waiting lines before after faults faults' held held' = ⊥
-EndsFrom plan (Err stop.KeepFault) lists waits waiting lines before after faults faults' held held' = ⊥
+    ⊎ StopsAtReport plan published waits waiting lines before after faults faults' held held'
+EndsFrom plan (Err stop.OutOfMemory) published waits waiting lines before after faults faults' held held' =
+    StopsAmong plan published waits waiting lines before after faults faults' held held'
+    ⊎ StopsAtReport plan published waits waiting lines before after faults faults' held held'
+EndsFrom plan (Err stop.ReadFault) published waits waiting lines before after faults faults' held held' = ⊥
+EndsFrom plan (Err stop.PastLimits) published waits waiting lines before after faults faults' held held' = ⊥
+EndsFrom plan (Err stop.KeepFault) published waits waiting lines before after faults faults' held held' = ⊥
 
 -- ---- the whole run
 
@@ -84,14 +84,15 @@ pub record HasBegun (before after : Seen) : Type 0 where
   pub kept : Option (List ℕ)
   pub loaded : IsLoaded kept before.keeper.kept
   pub keeper : after.keeper ≡ before.keeper
+  pub updates : WaitState
   pub waits : WaitState
   pub opened : Outside
-  pub opens : OpensFinds waits before.outside opened
+  pub opens : OpensFinds updates waits before.outside opened
 
 -- A run began, and this is how it ended: the lines of its input were judged in order on the lists that were kept.
 pub record EndsBegun (plan : JudgePlan) (ending : Ending) (before after : Seen) : Type 0 where
   pub begins : HasBegun before after
-  pub ends : EndsFrom plan ending (first_lists plan.names begins.kept) begins.waits (ignored_text begins.kept) (lines_of begins.input) begins.opened after.outside before.faults after.faults before.held after.held
+  pub ends : EndsFrom plan ending (first_lists plan.names begins.kept ∷ []) begins.waits (ignored_text begins.kept) (lines_of begins.input) begins.opened after.outside before.faults after.faults before.held after.held
 
 -- Nothing but the input was read, and nothing was written.
 pub record IsUntouched (before after : Seen) : Type 0 where

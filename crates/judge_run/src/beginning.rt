@@ -15,31 +15,38 @@ use wait_rules::WaitState;
 
 /// A run before its first URL.
 #[derive(Drop)]
-pub(crate) struct Begun {
+pub struct Begun {
     /// Its input.
-    pub(crate) text: Bytes,
-    pub(crate) lists: ClientLists,
+    pub text: Bytes,
+    pub lists: ClientLists,
+    /// When the first update may be asked for, where one is.
+    pub updates: WaitState,
     /// When the first find may be sent.
-    pub(crate) waits: WaitState,
+    pub waits: WaitState,
     /// The text that waits to be written.
-    pub(crate) page: Bytes,
+    pub page: Bytes,
 }
 
 // Reads the clock, and draws the word of the updates' first wait and then that of the finds'.
-fn open_finds<C: Clock, D: Dice>(clock: &mut C, dice: &mut D) -> WaitState
-    ensures opened { OpensFinds result
+fn open_waits<C: Clock, D: Dice>(clock: &mut C, dice: &mut D) -> (WaitState, WaitState)
+    ensures opened { OpensFinds result.0 result.1
         (outside None (C.answers clock.old) (C.waits clock.old) (D.given dice.old))
         (outside None (C.answers clock.new) (C.waits clock.new) (D.given dice.new)) }
     ensures no_wait { C.waits clock.new ≡ C.waits clock.old }
 {
     let start = clock.now();
-    let _ = dice.word();
-    WaitState::first(start, dice.word())
+    let updates = WaitState::first(start, dice.word());
+    let finds = WaitState::first(start, dice.word());
+    (updates, finds)
 }
 
-/// Begins a run: reads its input whole, loads what the keeper keeps, and then reads the clock once and draws two words. After an `Err` the
-/// clock was not read and no word was drawn.
-pub(crate) fn begin<S: Source, K: Keeper, C: Clock, D: Dice>(
+/// Begins a run: reads its input whole, loads what the keeper keeps, and then reads the clock once and draws two words, the first of them
+/// for updates. After an `Err` the clock was not read and no word was drawn.
+///
+/// # Errors
+///
+/// `ReadFault`, `PastLimits` and `KeepFault` as `judge`, and `OutOfMemory`.
+pub fn begin<S: Source, K: Keeper, C: Clock, D: Dice>(
     alloc: Global,
     names: &[ListName],
     input: &mut S,
@@ -70,10 +77,11 @@ pub(crate) fn begin<S: Source, K: Keeper, C: Clock, D: Dice>(
         Ok(lists) => lists,
         Err(stop) => return Err(stop),
     };
-    let waits = open_finds(clock, dice);
+    let (updates, waits) = open_waits(clock, dice);
     Ok(Begun {
         text,
         lists,
+        updates,
         waits,
         page,
     })

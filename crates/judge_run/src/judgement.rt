@@ -16,7 +16,7 @@ pub enum Judgement {
 }
 
 /// What is said together of URLs of these counts.
-pub(crate) fn judgement_of(counts: &Counts) -> Judgement
+pub fn judgement_of(counts: &Counts) -> Judgement
     ensures { (all : List Judged) → counts.now ≡ counts_of all → result ≡ judgement_of_all all }
 {
     if counts.found_unsafe > 0 {

@@ -1,12 +1,13 @@
-ghost use Rattle.std.specs.Prelude.{◌≡◌, ◌≤◌, ℕ, List, ◌∷◌, IfOk, OnErr};
+ghost use Rattle.std.specs.Prelude.{◌≡◌, ◌≤◌, ℕ, List, [], ◌∷◌, IfOk, OnErr};
 ghost use Rattle.http_edge.specs.Exchanges.{IsTarget};
 ghost use Rattle.timed_sessions.specs.Told.{outside};
 ghost use Rattle.input_lines.specs.Lines.{lines_of};
-ghost use Rattle.update_client.specs.Held.{Held, tokens_of};
-ghost use Rattle.url_checker.specs.Checking.{IsFindingOf};
+ghost use Rattle.update_client.specs.Held.{tokens_of};
+ghost use Rattle.snapshot_publish.specs.Publications.{Publications};
 ghost use Rattle.url_checker.specs.Hits.{AreAskable, MarksAll};
 ghost use Rattle.url_checker.specs.Resolved.{StopsResolving};
-ghost use Rattle.judge_run.specs.Judging.{find_state, first_finds, JudgesLine, BreaksOff, StopsJudging};
+ghost use Rattle.url_checker.specs.declared.findings.Checked.TheVariants.{Found};
+ghost use Rattle.judge_run.specs.Judging.{lists_of, IsFoundIn, find_state, first_finds, JudgesLine, JudgesCheck, BreaksOff, StopsJudging};
 ghost use Rattle.judge_run.specs.Reporting.{ReportsLines, HasReported};
 
 use crate::JudgePlan;
@@ -22,8 +23,9 @@ use url_checker::{CheckFault, Finding, Sizes, local_check_with, resolve, sizes_o
 use verdict_report::Judged;
 use wait_rules::WaitState;
 
-// Resolves what was found of a line.
-fn judge_finding<L: Link, C: Clock, D: Dice>(
+/// Resolves what was found of a URL on a publication, whose tokens are these, from the answers that are kept, and asks the server where a hit
+/// has to be asked for.
+pub fn judge_finding<L: Link, C: Clock, D: Dice>(
     alloc: Global,
     plan: &JudgePlan,
     finding: Finding,
@@ -36,11 +38,11 @@ fn judge_finding<L: Link, C: Clock, D: Dice>(
 ) -> Result<Judged, OutOfMemory>
     requires askable { AreAskable finding.hits }
     requires target { IsTarget plan.now.target }
-    ensures judged { (lists : List Held) (line : List ℕ) → states.now ≡ tokens_of lists → IsFindingOf lists 0 line finding
-        → IfOk result (λ one. JudgesLine plan.now lists (find_state cache.old waits.old) (find_state cache.new waits.new)
+    ensures judged { (published : Publications) (line : List ℕ) → states.now ≡ tokens_of (lists_of published finding) → IsFoundIn published line finding
+        → IfOk result (λ one. JudgesCheck plan.now published (find_state cache.old waits.old) (find_state cache.new waits.new)
         (outside (L.log link.old) (C.answers clock.old) (C.waits clock.old) (D.given dice.old))
         (outside (L.log link.new) (C.answers clock.new) (C.waits clock.new) (D.given dice.new))
-        (L.faults link.old) (L.faults link.new) line one) }
+        (L.faults link.old) (L.faults link.new) line (Found finding) one) }
     ensures stopped { OnErr result (StopsResolving states.now plan.now.target finding.hits cache.old waits.old
         (outside (L.log link.old) (C.answers clock.old) (C.waits clock.old) (D.given dice.old))
         (outside (L.log link.new) (C.answers clock.new) (C.waits clock.new) (D.given dice.new))) }
@@ -89,11 +91,11 @@ fn judge_line<L: Link, C: Clock, D: Dice>(
     requires marked { MarksAll sizes.now.marks lists.now }
     requires states { states.now ≡ tokens_of lists.now }
     requires target { IsTarget plan.now.target }
-    ensures judged { IfOk result (λ one. JudgesLine plan.now lists.now (find_state cache.old waits.old) (find_state cache.new waits.new)
+    ensures judged { IfOk result (λ one. JudgesLine plan.now (lists.now ∷ []) (find_state cache.old waits.old) (find_state cache.new waits.new)
         (outside (L.log link.old) (C.answers clock.old) (C.waits clock.old) (D.given dice.old))
         (outside (L.log link.new) (C.answers clock.new) (C.waits clock.new) (D.given dice.new))
         (L.faults link.old) (L.faults link.new) line.now one) }
-    ensures stopped { (more : List (List ℕ)) → OnErr result (BreaksOff plan.now lists.now (find_state cache.old waits.old)
+    ensures stopped { (more : List (List ℕ)) → OnErr result (BreaksOff plan.now (lists.now ∷ []) (find_state cache.old waits.old)
         (outside (L.log link.old) (C.answers clock.old) (C.waits clock.old) (D.given dice.old))
         (outside (L.log link.new) (C.answers clock.new) (C.waits clock.new) (D.given dice.new)) (line.now ∷ more)) }
     ensures unmoved { OnErr result (L.faults link.new ≡ L.faults link.old) }
@@ -125,11 +127,11 @@ fn judge_lines<L: Link, C: Clock, D: Dice>(
     requires marked { MarksAll sizes.now.marks lists.now }
     requires states { states.now ≡ tokens_of lists.now }
     requires target { IsTarget plan.now.target }
-    ensures judged { IfOk result (λ report. ReportsLines plan.now lists.now (find_state cache.old waits.old) (find_state cache.new waits.new)
+    ensures judged { IfOk result (λ report. ReportsLines plan.now (lists.now ∷ []) (find_state cache.old waits.old) (find_state cache.new waits.new)
         (outside (L.log link.old) (C.answers clock.old) (C.waits clock.old) (D.given dice.old))
         (outside (L.log link.new) (C.answers clock.new) (C.waits clock.new) (D.given dice.new))
         (L.faults link.old) (L.faults link.new) (lines_of input.now) report) }
-    ensures stopped { OnErr result (StopsJudging plan.now lists.now (find_state cache.old waits.old)
+    ensures stopped { OnErr result (StopsJudging plan.now (lists.now ∷ []) (find_state cache.old waits.old)
         (outside (L.log link.old) (C.answers clock.old) (C.waits clock.old) (D.given dice.old))
         (outside (L.log link.new) (C.answers clock.new) (C.waits clock.new) (D.given dice.new))
         (L.faults link.old) (L.faults link.new) (lines_of input.now)) }
@@ -162,11 +164,11 @@ pub(crate) fn judge_all<L: Link, C: Clock, D: Dice>(
     dice: &mut D,
 ) -> Result<Report, OutOfMemory>
     requires { IsTarget plan.now.target }
-    ensures judged { IfOk result (λ report. HasReported plan.now lists.now waits.old
+    ensures judged { IfOk result (λ report. HasReported plan.now (lists.now ∷ []) waits.old
         (outside (L.log link.old) (C.answers clock.old) (C.waits clock.old) (D.given dice.old))
         (outside (L.log link.new) (C.answers clock.new) (C.waits clock.new) (D.given dice.new))
         (L.faults link.old) (L.faults link.new) (lines_of input.now) report) }
-    ensures stopped { OnErr result (StopsJudging plan.now lists.now (first_finds waits.old)
+    ensures stopped { OnErr result (StopsJudging plan.now (lists.now ∷ []) (first_finds waits.old)
         (outside (L.log link.old) (C.answers clock.old) (C.waits clock.old) (D.given dice.old))
         (outside (L.log link.new) (C.answers clock.new) (C.waits clock.new) (D.given dice.new))
         (L.faults link.old) (L.faults link.new) (lines_of input.now)) }

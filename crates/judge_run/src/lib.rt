@@ -5,9 +5,13 @@
 //! and one that stopped, and `Law` that no session precedes its allowed moment.
 #![tactic(auto)]
 
-pub use judgement::Judgement;
+pub use beginning::{Begun, begin};
+pub use judgement::{Judgement, judgement_of};
+pub use judging::judge_finding;
 pub use laws::cases_keep_to_waits;
 pub use plan::JudgePlan;
+pub use report::Report;
+pub use reporting::print_report;
 pub use running::judge;
 pub use stop::JudgeStop;
 

@@ -13,7 +13,7 @@ const PAGE_ROOM: usize = 66_560;
 
 /// A report so far: the line of each URL, in pages, and how many URLs there are of each kind.
 #[derive(Drop)]
-pub(crate) struct Report {
+pub struct Report {
     alloc: Global,
     /// Pages that are full.
     pub(crate) full: Row<Bytes>,
@@ -23,7 +23,7 @@ pub(crate) struct Report {
 
 impl Report {
     /// The report of no URLs.
-    pub(crate) fn new(alloc: Global) -> Result<Report, OutOfMemory>
+    pub fn new(alloc: Global) -> Result<Report, OutOfMemory>
         ensures { IfOk result (λ report. IsReport report []) }
     {
         Ok(Report {
@@ -48,7 +48,7 @@ impl Report {
     }
 
     /// Takes the next URL.
-    pub(crate) fn add(&mut self, one: &Judged) -> Result<(), OutOfMemory>
+    pub fn add(&mut self, one: &Judged) -> Result<(), OutOfMemory>
         requires { AreCounts self.old.counts }
         ensures { (all : List Judged) → IsReport self.old all → OnOk result (IsReport self.new (all ++ one.now ∷ [])) }
     {

@@ -57,7 +57,7 @@ fn write_last<O: Sink>(page: &mut Bytes, counts: &Counts, out: &mut O) -> Result
 }
 
 /// Prints the report of URLs: a line for each, in order, and the summary. It goes to the output in large pieces.
-pub(crate) fn print_report<O: Sink>(report: &mut Report, out: &mut O) -> Result<(), JudgeStop>
+pub fn print_report<O: Sink>(report: &mut Report, out: &mut O) -> Result<(), JudgeStop>
     ensures text { (all : List Judged) → IsReport report.old all
         → OnOk result (O.contents out.new ≡ appended (O.contents out.old) (report_text all)) }
     ensures counts { report.new.counts ≡ report.old.counts }

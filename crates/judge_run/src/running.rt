@@ -1,4 +1,4 @@
-ghost use Rattle.std.specs.Prelude.{◌≡◌, ◌≢◌, ◌≤◌, length, IsErrOf, Err};
+ghost use Rattle.std.specs.Prelude.{◌≡◌, ◌≢◌, ◌≤◌, [], ◌∷◌, length, IsErrOf, Err};
 ghost use Rattle.http_edge.specs.Exchanges.{IsTarget};
 ghost use Rattle.input_lines.specs.Lines.{lines_of};
 ghost use Rattle.sb_outside.specs.Outside.{Rose};
@@ -32,7 +32,7 @@ fn judge_input<O: Sink, L: Link, C: Clock, D: Dice>(
     dice: &mut D,
 ) -> Result<Judgement, JudgeStop>
     requires { IsTarget plan.now.target }
-    ensures ends { EndsFrom plan.now result lists.now waits.old page.old (lines_of input.now)
+    ensures ends { EndsFrom plan.now result (lists.now ∷ []) waits.old page.old (lines_of input.now)
         (outside (L.log link.old) (C.answers clock.old) (C.waits clock.old) (D.given dice.old))
         (outside (L.log link.new) (C.answers clock.new) (C.waits clock.new) (D.given dice.new))
         (L.faults link.old) (L.faults link.new) (O.contents out.old) (O.contents out.new) }
@@ -95,6 +95,7 @@ pub fn judge<S: Source, O: Sink, K: Keeper, L: Link, C: Clock, D: Dice>(
     let Begun {
         text,
         lists,
+        updates: _,
         mut waits,
         mut page,
     } = match begin(alloc, plan.names.as_slice(), input, keep, clock, dice) {

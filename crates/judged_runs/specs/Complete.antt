@@ -1,6 +1,6 @@
 -- Which of the URLs of a run are decided, and why one is left open.
 use Rattle.std.specs.Prelude.{List, [], ◌∷◌, Ok, Err}
-use Rattle.update_client.specs.Held.{Held}
+use Rattle.snapshot_publish.specs.Publications.{Publications}
 use Rattle.verdict_report.specs.declared.verdicts.Judged.{Judged}
 use Rattle.verdict_report.specs.declared.verdicts.Judged.TheVariants as judged
 use Rattle.verdict_laws.specs.Decided.{IsComplete}
@@ -15,9 +15,9 @@ IsCompleteCase plan finds (Ok answered) (judged.Refused fault) = ⊥
 IsCompleteCase plan finds (Err fault) one = Unit {0}
 
 -- The same of URLs in order, each from what those before it left.
-abbrev pub AreComplete : JudgePlan → List Held → FindState → List Case → List Judged → Type 0
-AreComplete plan lists finds [] [] = Unit {0}
-AreComplete plan lists finds [] (one ∷ all) = ⊥
-AreComplete plan lists finds (case ∷ cases) [] = ⊥
-AreComplete plan lists finds (case ∷ cases) (one ∷ all) =
-    IsCompleteCase plan finds case one × AreComplete plan lists (finds_after lists finds case) cases all
+abbrev pub AreComplete : JudgePlan → Publications → FindState → List Case → List Judged → Type 0
+AreComplete plan published finds [] [] = Unit {0}
+AreComplete plan published finds [] (one ∷ all) = ⊥
+AreComplete plan published finds (case ∷ cases) [] = ⊥
+AreComplete plan published finds (case ∷ cases) (one ∷ all) =
+    IsCompleteCase plan finds case one × AreComplete plan published (finds_after published finds case) cases all

@@ -1,9 +1,9 @@
 -- The laws of verdicts over whole runs.
-use Rattle.std.specs.Prelude.{◌≡◌, ℕ, List, [], ◌++◌, Ok}
+use Rattle.std.specs.Prelude.{◌≡◌, ℕ, List, [], ◌∷◌, ◌++◌, Ok}
 use Rattle.sb_model.specs.History.{History, IsWellFormed}
 use Rattle.sb_model.specs.Naming.{Naming}
 use Rattle.sb_outside.specs.Outside.{appended}
-use Rattle.update_client.specs.Held.{Held}
+use Rattle.snapshot_publish.specs.Publications.{Publications}
 use Rattle.update_client.specs.Replica.{AreReplicas}
 use Rattle.wait_rules.specs.declared.waits.WaitState.{WaitState}
 use Rattle.timed_sessions.specs.Told.{Outside}
@@ -20,24 +20,29 @@ use Rattle.judge_run.specs.declared.plan.JudgePlan.{JudgePlan}
 use Rattle.judged_runs.specs.Complete.{AreComplete}
 use Rattle.judged_runs.specs.Verdicts.{VerdictsHold}
 
--- Of lines that were judged in order on replicas of a server's lists, from no kept answers on, each verdict holds.
+-- The lists of each publication are replicas of a server's lists.
+abbrev pub ArePublishedReplicas : History → Naming → Publications → Type 0
+ArePublishedReplicas history token_at [] = Unit {0}
+ArePublishedReplicas history token_at (lists ∷ more) = AreReplicas history token_at lists × ArePublishedReplicas history token_at more
+
+-- Of lines that were judged in order on publications of replicas, from no kept answers on, each verdict holds.
 abbrev pub RowsOfVerdictsHold : Type 0
-RowsOfVerdictsHold = (history : History) (token_at : Naming) (plan : JudgePlan) (lists : List Held) (waits : WaitState) (lines : List (List ℕ)) (cases : List Case)
-    → IsWellFormed history → AreReplicas history token_at lists → AreCases plan lists (first_finds waits) lines cases
-    → VerdictsHold history token_at lists (first_finds waits) [] lines cases (judged_of_all lists (first_finds waits) cases)
+RowsOfVerdictsHold = (history : History) (token_at : Naming) (plan : JudgePlan) (published : Publications) (waits : WaitState) (lines : List (List ℕ)) (cases : List Case)
+    → IsWellFormed history → ArePublishedReplicas history token_at published → AreCases plan published (first_finds waits) lines cases
+    → VerdictsHold history token_at published (first_finds waits) [] lines cases (judged_of_all published (first_finds waits) cases)
 
 -- So it is of each verdict of lines that are seen to have been judged so, those too of a run that stopped later.
 abbrev pub JudgedVerdictsHold : Type 0
-JudgedVerdictsHold = (history : History) (token_at : Naming) (plan : JudgePlan) (lists : List Held) (waits : WaitState) (finds : FindState)
+JudgedVerdictsHold = (history : History) (token_at : Naming) (plan : JudgePlan) (published : Publications) (waits : WaitState) (finds : FindState)
     (before after : Outside) (faults faults' : ℕ) (lines : List (List ℕ)) (all : List Judged)
-    (judges : JudgesLines plan lists (first_finds waits) finds before after faults faults' lines all)
-    → IsWellFormed history → AreReplicas history token_at lists
-    → VerdictsHold history token_at lists (first_finds waits) [] lines judges.cases all
+    (judges : JudgesLines plan published (first_finds waits) finds before after faults faults' lines all)
+    → IsWellFormed history → ArePublishedReplicas history token_at published
+    → VerdictsHold history token_at published (first_finds waits) [] lines judges.cases all
 
 -- Of the lines of a run's input each verdict holds, by the run's own cases. These verdicts are what was printed: one line for each, counted
 -- from 1, behind the line of a store that is ignored and before the summary.
 pub record ReportHolds (history : History) (token_at : Naming) (plan : JudgePlan) (judgement : Judgement) (before after : Seen) (run : EndsBegun plan (Ok judgement) before after) : Type 0 where
-  pub hold : VerdictsHold history token_at (first_lists plan.names run.begins.kept) (first_finds run.begins.waits) [] (lines_of run.begins.input) run.ends.judged.judges.cases run.ends.all
+  pub hold : VerdictsHold history token_at (first_lists plan.names run.begins.kept ∷ []) (first_finds run.begins.waits) [] (lines_of run.begins.input) run.ends.judged.judges.cases run.ends.all
   pub text : after.held ≡ appended before.held (ignored_text run.begins.kept ++ (report_lines 1 run.ends.all ++ summary_text run.ends.all))
 
 -- The report of a run that came to its end holds, where the lists that it began with are replicas.
@@ -54,6 +59,6 @@ KeptRunsOfVerdictsHold = (history : History) (token_at : Naming) (plan : JudgePl
 
 -- Of lines that are seen to have been judged in order, each verdict is decided where its finding was answered, and else names its cause.
 abbrev pub JudgedAreComplete : Type 0
-JudgedAreComplete = (plan : JudgePlan) (lists : List Held) (finds finds' : FindState) (before after : Outside) (faults faults' : ℕ)
-    (lines : List (List ℕ)) (all : List Judged) (judges : JudgesLines plan lists finds finds' before after faults faults' lines all)
-    → AreComplete plan lists finds judges.cases all
+JudgedAreComplete = (plan : JudgePlan) (published : Publications) (finds finds' : FindState) (before after : Outside) (faults faults' : ℕ)
+    (lines : List (List ℕ)) (all : List Judged) (judges : JudgesLines plan published finds finds' before after faults faults' lines all)
+    → AreComplete plan published finds judges.cases all

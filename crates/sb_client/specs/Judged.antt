@@ -1,5 +1,5 @@
 -- What the report of a run that judges URLs says of a server's lists.
-use Rattle.std.specs.Prelude.{◌≡◌, ℕ, Ok}
+use Rattle.std.specs.Prelude.{◌≡◌, ℕ, [], ◌∷◌, Ok}
 use Rattle.sb_model.specs.History.{History}
 use Rattle.sb_model.specs.Naming.{Naming}
 use Rattle.update_run.specs.Opening.{first_lists}
@@ -20,6 +20,6 @@ pub record ReportsRightly (history : History) (token_at : Naming) (plan : JudgeP
   pub judgement : Judgement
   pub run : EndsBegun plan (Ok judgement) before after
   pub told : status ≡ judge_status_of (Ok judgement)
-  pub waits : KeepToTheirWaits (first_finds run.begins.waits) (first_lists plan.names run.begins.kept) run.ends.judged.judges.cases
-  pub complete : AreComplete plan (first_lists plan.names run.begins.kept) (first_finds run.begins.waits) run.ends.judged.judges.cases run.ends.all
+  pub waits : KeepToTheirWaits (first_finds run.begins.waits) (first_lists plan.names run.begins.kept ∷ []) run.ends.judged.judges.cases
+  pub complete : AreComplete plan (first_lists plan.names run.begins.kept ∷ []) (first_finds run.begins.waits) run.ends.judged.judges.cases run.ends.all
   pub holds : IsKeptSafely history token_at run.begins.kept → ReportHolds history token_at plan judgement before after run

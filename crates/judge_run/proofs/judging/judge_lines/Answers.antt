@@ -5,17 +5,17 @@ use Rattle.judge_run.proofs.Cases.{judges_nothing, judges_next, left_after, stop
 use Rattle.judge_run.proofs.judging.judge_lines.Goals as goal
 
 pub loop-rest-init : goal.loop-rest-init
-loop-rest-init g c = ([], [], refl, c.in_ok-report.ensures, judges_nothing c.args.plan.now c.args.lists.now _ _ _ [] refl, omega arith, omega arith)
+loop-rest-init g c = ([], [], refl, c.in_ok-report.ensures, judges_nothing c.args.plan.now (c.args.lists.now ∷ []) _ _ _ [] refl, omega arith, omega arith)
 
 pub returns-in_err-add-in-Ok-clause-stopped : goal.returns-in_err-add-in-Ok-clause-stopped
 returns-in_err-add-in-Ok-clause-stopped g c =
     let inv = c.loop-rest.invariant in
     let line = c.first_line.result.0.now in
     let rest = lines_of c.first_line.result.1.now in
-    let more = judges_next c.args.plan.now c.args.lists.now _ _ _ _ _ _ _ _ _ inv.0 inv.1 _ line c.in-Ok.one
+    let more = judges_next c.args.plan.now (c.args.lists.now ∷ []) _ _ _ _ _ _ _ _ _ inv.0 inv.1 _ line c.in-Ok.one
     c.traces_go_on.ensures.one_more inv.5 c.in-Ok.ensures.counted refl inv.4 c.in-Ok.ensures.judged in
     on_any c.from_residual-in_err-add-in-Ok.result
-    (stops_after c.args.plan.now c.args.lists.now _ _ _ _ _ _ (lines_of c.args.input.now) (inv.0 ++ line ∷ []) rest _
+    (stops_after c.args.plan.now (c.args.lists.now ∷ []) _ _ _ _ _ _ (lines_of c.args.input.now) (inv.0 ++ line ∷ []) rest _
     (left_after inv.0 (lines_of c.loop-rest.rest.now) (lines_of c.args.input.now) line rest c.first_line.ensures.lines inv.2) more)
 
 pub returns-in-Err-clause-stopped : goal.returns-in-Err-clause-stopped
@@ -23,7 +23,7 @@ returns-in-Err-clause-stopped g c =
     let inv = c.loop-rest.invariant in
     let line = c.first_line.result.0.now in
     let rest = lines_of c.first_line.result.1.now in
-    stops_within c.args.plan.now c.args.lists.now _ _ _ _ _ _ _ _ (lines_of c.args.input.now) inv.0 (lines_of c.loop-rest.rest.now) line rest inv.1
+    stops_within c.args.plan.now (c.args.lists.now ∷ []) _ _ _ _ _ _ _ _ (lines_of c.args.input.now) inv.0 (lines_of c.loop-rest.rest.now) line rest inv.1
     c.first_line.ensures.lines inv.2 c.in-Err.ensures.unmoved inv.4 (c.in-Err.ensures.stopped rest)
 
 pub loop-rest-preserved : goal.loop-rest-preserved
@@ -35,7 +35,7 @@ loop-rest-preserved g c =
       inv.1 ++ c.in-Ok.one ∷ [],
       left_after inv.0 (lines_of c.loop-rest.rest.now) (lines_of c.args.input.now) line rest c.first_line.ensures.lines inv.2,
       c.in_ok-add-in-Ok.ensures inv.1 inv.3,
-      judges_next c.args.plan.now c.args.lists.now _ _ _ _ _ _ _ _ _ inv.0 inv.1 _ line c.in-Ok.one
+      judges_next c.args.plan.now (c.args.lists.now ∷ []) _ _ _ _ _ _ _ _ _ inv.0 inv.1 _ line c.in-Ok.one
           c.traces_go_on.ensures.one_more inv.5 c.in-Ok.ensures.counted refl inv.4 c.in-Ok.ensures.judged,
       omega (arith, inv.5, c.in-Ok.ensures.counted),
       omega (arith, inv.6, length-append inv.1 (c.in-Ok.one ∷ []), c.first_line.ensures.shorter),

@@ -1,4 +1,4 @@
-use Rattle.std.proofs.Common.{◌≡◌, ◌≤◌, ◌+◌, ℕ, List, ◌++◌, length}
+use Rattle.std.proofs.Common.{◌≡◌, ◌≤◌, ◌+◌, ℕ, List, [], ◌∷◌, ◌++◌, length}
 use Rattle.timed_sessions.specs.Told.{outside}
 use Rattle.input_lines.specs.Lines.{lines_of}
 use Rattle.verdict_report.specs.declared.verdicts.Judged.{Judged}
@@ -13,7 +13,7 @@ invariant-loop-rest g l =
     × (all : List Judged)
     × (lines ++ lines_of l.rest ≡ lines_of l.input)
     × IsReport l.report all
-    × JudgesLines l.plan l.lists (find_state l.initial.cache l.initial.waits) (find_state l.cache l.waits)
+    × JudgesLines l.plan (l.lists ∷ []) (find_state l.initial.cache l.initial.waits) (find_state l.cache l.waits)
     (outside (g.L.Link.log l.initial.link) (g.C.Clock.answers l.initial.clock) (g.C.Clock.waits l.initial.clock) (g.D.Dice.given l.initial.dice))
     (outside (g.L.Link.log l.link) (g.C.Clock.answers l.clock) (g.C.Clock.waits l.clock) (g.D.Dice.given l.dice))
     (g.L.Link.faults l.initial.link) (g.L.Link.faults l.link) lines all
