@@ -1,0 +1,3 @@
+pub mod OneCheck
+pub mod JudgedSoFar
+pub mod SettledFacts

@@ -1,0 +1,24 @@
+use Rattle.std.proofs.Common.{◌≡◌, ◌≤◌, List, ◌++◌, length, slice_index_or, []}
+use Rattle.std.specs.Prelude.{IfSome}
+use Rattle.std.specs.Vec.Iter.{into_iter_items, into_iter_len}
+use Rattle.timed_sessions.specs.Told.{outside}
+use Rattle.update_client.specs.Held.{tokens_of}
+use Rattle.verdict_report.specs.declared.verdicts.Judged.{Judged}
+use Rattle.judge_run.specs.Judging.{find_state}
+use Rattle.judge_run.specs.Reporting.{IsReport}
+use Rattle.judge_beside.proofs.JudgedSoFar.{JudgedSoFar}
+use Rattle.judge_beside.proofs.resolving.judge_checks.Given as goal
+
+-- the lines of the checks so far were judged, and their report is made
+abbrev pub invariant-loop-check : goal.invariant-loop-check
+invariant-loop-check g l = record {
+  all : l.yielded ++ into_iter_items l.check-iterator ≡ l.fn.checks;
+  count : into_iter_len l.check-iterator ≡ length (into_iter_items l.check-iterator);
+  known : IfSome l.known (λ states. states.tokens ≡ tokens_of (slice_index_or l.publisher.list states.number []));
+  counted : g.L.Link.faults l.initial.link ≤ g.L.Link.faults l.link;
+  judged : (all : List Judged) × (length all ≡ length l.yielded) × IsReport l.report all
+      × JudgedSoFar l.plan l.publisher.list (find_state l.initial.cache l.initial.waits)
+      (outside (g.L.Link.log l.initial.link) (g.C.Clock.answers l.initial.clock) (g.C.Clock.waits l.initial.clock) (g.D.Dice.given l.initial.dice)) (g.L.Link.faults l.initial.link)
+      l.fn.checks (find_state l.cache l.waits)
+      (outside (g.L.Link.log l.link) (g.C.Clock.answers l.clock) (g.C.Clock.waits l.clock) (g.D.Dice.given l.dice)) (g.L.Link.faults l.link) l.yielded all;
+}

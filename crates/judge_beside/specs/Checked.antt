@@ -1,0 +1,69 @@
+-- URLs that were checked before, each on some publication, and what becomes of them.
+use Rattle.std.specs.Prelude.{◌≡◌, ◌<◌, ◌⊎◌, ℕ, List, [], ◌∷◌, ◌++◌, length, map, slice_get, Some}
+use Rattle.timed_sessions.specs.Told.{Outside}
+use Rattle.snapshot_publish.specs.Publications.{Publications, IsKept}
+use Rattle.url_checker.specs.Hits.{AreAskable}
+use Rattle.url_checker.specs.declared.findings.Checked.{Checked}
+use Rattle.url_checker.specs.declared.findings.Checked.TheVariants.{Found, Refused}
+use Rattle.verdict_report.specs.declared.verdicts.Judged.{Judged}
+use Rattle.parallel_checks.specs.Checks.{IsCheckOf, NeverFall, of_seat}
+use Rattle.judge_run.specs.Judging.{FindState, BreaksOff, JudgesCheck, JudgesLines, check_of}
+use Rattle.judge_run.specs.Reporting.{IsReport}
+use Rattle.judge_run.specs.declared.plan.JudgePlan.{JudgePlan}
+use Rattle.judge_run.specs.declared.report.Report.{Report}
+
+-- ---- checks that can be resolved
+
+-- the publication of a finding is kept, and one request can ask for its hits
+abbrev pub MayBeJudged : Publications → Checked → Type 0
+MayBeJudged all (Found finding) = IsKept all finding.number × AreAskable finding.hits
+MayBeJudged all (Refused fault) = Unit {0}
+
+abbrev pub MayAllBeJudged : Publications → List Checked → Type 0
+MayAllBeJudged all checks = (index : ℕ) (check : Checked) → slice_get checks index ≡ Some check → MayBeJudged all check
+
+-- There is a check for each line, which is that of its line on these publications.
+pub record AreChecksOf (all : Publications) (lines : List (List ℕ)) (checks : List Checked) : Type 0 where
+  pub count : length checks ≡ length lines
+  pub each : (index : ℕ) (line : List ℕ) (check : Checked) → slice_get lines index ≡ Some line → slice_get checks index ≡ Some check → IsCheckOf all line check
+
+-- ---- what becomes of their URLs
+
+-- URLs were judged in order, each by its check.
+pub record JudgesChecks (plan : JudgePlan) (published : Publications) (finds finds' : FindState) (before after : Outside) (faults faults' : ℕ) (lines : List (List ℕ)) (checks : List Checked) (all : List Judged) : Type 0 where
+  pub judges : JudgesLines plan published finds finds' before after faults faults' lines all
+  pub by_checks : map check_of judges.cases ≡ checks
+
+-- So they were, and this is their report.
+pub record ReportsChecks (plan : JudgePlan) (published : Publications) (finds finds' : FindState) (before after : Outside) (faults faults' : ℕ) (lines : List (List ℕ)) (checks : List Checked) (report : Report) : Type 0 where
+  pub all : List Judged
+  pub report_is : IsReport report all
+  pub judges : JudgesChecks plan published finds finds' before after faults faults' lines checks all
+
+-- ---- the next of them
+
+-- One was judged by its check, whatever the line is of which the check is, and it is the next of a report.
+pub record ReportsNext (plan : JudgePlan) (published : Publications) (check : Checked) (report report' : Report) (finds finds' : FindState) (before after : Outside) (faults faults' : ℕ) : Type 0 where
+  pub one : Judged
+  pub reports : (all : List Judged) → IsReport report all → IsReport report' (all ++ one ∷ [])
+  pub judges : (line : List ℕ) → IsCheckOf published line check → JudgesCheck plan published finds finds' before after faults faults' line check one
+
+-- It was judged, and memory was refused for its report.
+pub record StopsAtReport (plan : JudgePlan) (published : Publications) (check : Checked) (finds finds' : FindState) (before after : Outside) (faults faults' : ℕ) : Type 0 where
+  pub one : Judged
+  pub judges : (line : List ℕ) → IsCheckOf published line check → JudgesCheck plan published finds finds' before after faults faults' line check one
+
+-- Its judging was broken off.
+pub record StopsAtCheck (plan : JudgePlan) (published : Publications) (check : Checked) (finds : FindState) (before after : Outside) (faults faults' : ℕ) : Type 0 where
+  pub breaks : (line : List ℕ) (more : List (List ℕ)) → IsCheckOf published line check → BreaksOff plan published finds before after (line ∷ more)
+  pub unmoved : faults' ≡ faults
+
+abbrev pub StopsAtNext : JudgePlan → Publications → Checked → (finds finds' : FindState) → (before after : Outside) → (faults faults' : ℕ) → Type 0
+StopsAtNext plan published check finds finds' before after faults faults' =
+    StopsAtReport plan published check finds finds' before after faults faults' ⊎ StopsAtCheck plan published check finds before after faults faults'
+
+-- ---- seats
+
+-- The numbers of findings never fall along the lines of a seat, of so many.
+abbrev pub NumbersNeverFall : ℕ → List Checked → Type 0
+NumbersNeverFall seats checks = (place : ℕ) → place < seats → NeverFall (of_seat checks seats place)

@@ -1,0 +1,107 @@
+-- Rounds that were published, and one more.
+use Rattle.std.proofs.Common.{◌≡◌, ◌+◌, ◌≤◌, ℕ, List, [], ◌∷◌, ◌++◌, Bool, true, false, length, refl, sym, ap, ◌∙◌, subst, inl, inr, append_assoc, append-nil, arith}
+use Rattle.std.specs.Prelude.{◌||◌, if◌then◌else◌}
+use Rattle.std.proofs.lemmas.List.{length-append}
+use Rattle.update_client.specs.Held.{Held}
+use Rattle.sb_round.specs.Round.{Round, lists_after_round, taken_from}
+use Rattle.sb_round.specs.Rounds.{GoesOnWithRounds}
+use Rattle.sb_round.specs.declared.rounds.RoundFault.{RoundFault}
+use Rattle.sb_round.specs.declared.rounds.Taken.{Taken}
+use Rattle.std.specs.Prelude.{Result}
+use Rattle.snapshot_publish.specs.Publications.{Publications, IsPrefixOf}
+use Rattle.update_run.specs.Run.{Seen}
+use Rattle.update_run.specs.Saved.{has_installed, saved_after, saved_in, saved_lists}
+use Rattle.update_run.specs.Steps.{TakesRounds}
+use Rattle.update_run.specs.declared.client.Client.{Client}
+use Rattle.update_run.specs.declared.plan.Plan.{Plan}
+use Rattle.update_run.specs.declared.rounding.RoundTold.{RoundTold}
+use Rattle.update_run.specs.declared.stop.RunStop.{RunStop}
+use Rattle.update_run.proofs.OneByOne.{goes_on_writing, goes_on_taking, one_longer, saved_all}
+use Rattle.update_run.proofs.Stopping.{stopped}
+use Rattle.published_rounds.specs.Rounds.{WritesAndTells, PublishesRound, PublishesRounds, StopsOneRoundOrAfter, StopsPublishing}
+
+-- at most one set of lists is saved in a round
+one_at_most : (b : Bool) (lists : List Held) → length (if b then lists ∷ [] else []) ≤ 1
+one_at_most true lists = omega arith
+one_at_most false lists = omega arith
+
+pub few_saved : (lists : List Held) (rounds : List Round) → length (saved_lists lists rounds) ≤ length rounds
+few_saved lists [] = omega arith
+few_saved lists (round ∷ rounds) =
+    let after = lists_after_round lists round in
+    omega (
+      arith,
+      length-append (saved_in lists round) (saved_lists after rounds),
+      one_at_most (has_installed (taken_from lists round.answer)) after,
+      few_saved after rounds,
+    )
+
+module _ (plan : Plan) (rounds : List Round) (client between client' : Client) (first mid after : Seen) (refused : Bool) (go : GoesOnWithRounds) where
+  -- with a round that was made the rounds are one more
+  record OneMore (told : RoundTold) : Type 0 where
+    round : Round
+    takes : TakesRounds plan 1 (rounds ++ round ∷ []) client client' first after (refused || told.refused)
+    saved : saved_lists client.lists (rounds ++ round ∷ []) ≡ saved_lists client.lists rounds ++ (if told.installed then client'.lists ∷ [] else [])
+
+  one_more : (told : RoundTold) → TakesRounds plan 1 rounds client between first mid refused → WritesAndTells plan (1 + length rounds) between client' mid after told → OneMore told
+  one_more told so_far both =
+      let between' = record mid { held = both.held } in
+      let written = goes_on_writing plan 1 rounds client between both.between first mid both.held refused so_far both.writes in
+      let takes = both.tells.takes in
+      record {
+        round = takes.made.round;
+        takes = goes_on_taking go plan 1 rounds client both.between client' first between' after refused told.refused written takes;
+        saved =
+            saved_all plan 1 rounds client both.between first between' after client'.lists client'.waits takes.end go written.made takes.made
+            ∙ ap (λ (b : Bool). saved_lists client.lists rounds ++ (if b then client'.lists ∷ [] else [])) (sym both.tells.installed);
+      }
+
+  next_at : (published now later : Publications) (more : Bool) → PublishesRounds plan rounds client between published now first mid refused → PublishesRound plan (1 + length rounds) between client' now later mid after more
+      → (all : List Round) × (length all ≡ 1 + length rounds) × PublishesRounds plan all client client' published later first after (refused || more)
+  next_at published now later more so_far step =
+      let one = one_more step.told so_far.takes step.made in
+      let all = rounds ++ one.round ∷ [] in
+      let new = if step.told.installed then client'.lists ∷ [] else [] in (
+        all,
+        omega (arith, one_longer rounds one.round),
+        record {
+          takes = subst (λ (b : Bool). TakesRounds plan 1 all client client' first after (refused || b)) (sym step.refused_is) one.takes;
+          published_are =
+              step.published_are
+              ∙ ap (λ (ps : Publications). ps ++ new) so_far.published_are
+              ∙ append_assoc published (saved_lists client.lists rounds) new
+              ∙ ap (λ (ps : Publications). published ++ ps) (sym one.saved);
+        },
+      )
+
+pub next_round : (plan : Plan) (number : ℕ) (rounds : List Round) (client between client' : Client) (first mid after : Seen) (published now later : Publications) (refused more : Bool)
+    → GoesOnWithRounds → 1 + length rounds ≡ number → PublishesRounds plan rounds client between published now first mid refused → PublishesRound plan number between client' now later mid after more
+    → (all : List Round) × (length all ≡ number) × PublishesRounds plan all client client' published later first after (refused || more)
+next_round plan number rounds client between client' first mid after published now later refused more go count so_far step =
+    let at = subst (λ (n : ℕ). PublishesRound plan n between client' now later mid after more) (sym count) step in
+    let made = next_at plan rounds client between client' first mid after refused go published now later more so_far at in
+    (made.0, made.1 ∙ count, made.2)
+
+pub stops_there : (why : RunStop) (plan : Plan) (number : ℕ) (rounds : List Round) (client between : Client) (first mid after : Seen) (published now : Publications) (refused : Bool)
+    → GoesOnWithRounds → 1 + length rounds ≡ number → number ≤ plan.rounds → PublishesRounds plan rounds client between published now first mid refused → StopsOneRoundOrAfter why plan number between mid after
+    → StopsPublishing why plan client first after
+stops_there why plan number rounds client between first mid after published now refused go count few so_far (inl stops) =
+    inl (stopped why plan number rounds client between first mid after refused go count few so_far.takes stops)
+stops_there why plan number rounds client between first mid after published now refused go count few so_far (inr stop) =
+    let made = subst (λ (n : ℕ). WritesAndTells plan n between stop.client' mid after stop.told) (sym count) stop.made in
+    let one = one_more plan rounds client between stop.client' first mid after refused go stop.told so_far.takes made in
+    inr (
+      stop.memory,
+      record {
+        rounds = rounds ++ one.round ∷ [];
+        few = omega (arith, count, few, one_longer rounds one.round);
+        client' = stop.client';
+        refused = refused || stop.told.refused;
+        takes = one.takes;
+      },
+    )
+
+-- nothing that was published is taken away
+pub begins_published : (plan : Plan) (rounds : List Round) (client between : Client) (published now : Publications) (first mid : Seen) (refused : Bool)
+    → PublishesRounds plan rounds client between published now first mid refused → IsPrefixOf published now
+begins_published plan rounds client between published now first mid refused so_far = (saved_lists client.lists rounds, so_far.published_are)

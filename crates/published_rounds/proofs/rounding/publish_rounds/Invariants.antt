@@ -1,0 +1,21 @@
+use Rattle.std.proofs.Common.{◌≡◌, List, length}
+use Rattle.timed_sessions.specs.Told.{outside}
+use Rattle.sb_round.specs.Round.{Round}
+use Rattle.update_run.specs.Run.{seen}
+use Rattle.update_run.specs.Saved.{keeping}
+use Rattle.published_rounds.specs.Rounds.{PublishesRounds}
+use Rattle.published_rounds.proofs.rounding.publish_rounds.Given as goal
+
+-- the rounds so far, and no fault was counted
+abbrev pub invariant-loop-made : goal.invariant-loop-made
+invariant-loop-made g l =
+    (rounds : List Round)
+    × (length rounds ≡ l.made)
+    × PublishesRounds l.plan rounds l.initial.client l.client l.initial.publisher.list l.publisher.list
+    (seen (outside (g.L.Link.log l.initial.link) (g.C.Clock.answers l.initial.clock) (g.C.Clock.waits l.initial.clock) (g.D.Dice.given l.initial.dice))
+    (keeping (g.K.Keeper.handed l.initial.keep) (g.K.Keeper.kept l.initial.keep)) (g.O.Sink.contents l.initial.out))
+    (seen (outside (g.L.Link.log l.link) (g.C.Clock.answers l.clock) (g.C.Clock.waits l.clock) (g.D.Dice.given l.dice))
+    (keeping (g.K.Keeper.handed l.keep) (g.K.Keeper.kept l.keep)) (g.O.Sink.contents l.out)) l.refused
+    × (l.publisher.boxes ≡ l.initial.publisher.boxes)
+    × (g.O.Sink.faults l.out ≡ g.O.Sink.faults l.initial.out)
+    × (g.K.Keeper.faults l.keep ≡ g.K.Keeper.faults l.initial.keep)

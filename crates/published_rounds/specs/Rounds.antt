@@ -1,0 +1,66 @@
+-- Rounds of a client, after each of which what it installed is published.
+use Rattle.std.specs.Prelude.{◌≡◌, ◌⊎◌, ℕ, ◌≤◌, Bool, List, [], ◌∷◌, ◌++◌, if◌then◌else◌, length, Option}
+use Rattle.sb_round.specs.Round.{Round}
+use Rattle.snapshot_publish.specs.Publications.{Publications}
+use Rattle.update_run.specs.Rounding.{StopsOneRound, StopsRounds}
+use Rattle.update_run.specs.Run.{Seen}
+use Rattle.update_run.specs.Saved.{saved_lists}
+use Rattle.update_run.specs.Steps.{WritesPage, TellsRound, TakesRounds}
+use Rattle.update_run.specs.declared.client.Client.{Client}
+use Rattle.update_run.specs.declared.plan.Plan.{Plan}
+use Rattle.update_run.specs.declared.rounding.RoundTold.{RoundTold}
+use Rattle.update_run.specs.declared.stop.RunStop.{RunStop}
+use Rattle.update_run.specs.declared.stop.RunStop.TheVariants as stop
+
+-- ---- one round
+
+-- What waited was written, and then a round was made.
+pub record WritesAndTells (plan : Plan) (number : ℕ) (client client' : Client) (before after : Seen) (told : RoundTold) : Type 0 where
+  pub between : Client
+  pub held : Option (List ℕ)
+  pub writes : WritesPage client between before.held held
+  pub tells : TellsRound plan number between client' (record before { held = held }) after told
+
+-- The same, and the lists were published where one was installed.
+pub record PublishesRound (plan : Plan) (number : ℕ) (client client' : Client) (published published' : Publications) (before after : Seen) (refused : Bool) : Type 0 where
+  pub told : RoundTold
+  pub made : WritesAndTells plan number client client' before after told
+  pub published_are : published' ≡ published ++ (if told.installed then client'.lists ∷ [] else [])
+  pub refused_is : refused ≡ told.refused
+
+-- A round was made, and memory was refused for its publication.
+pub record StopsAfterRound (why : RunStop) (plan : Plan) (number : ℕ) (client : Client) (before after : Seen) : Type 0 where
+  pub memory : why ≡ stop.OutOfMemory
+  pub client' : Client
+  pub told : RoundTold
+  pub made : WritesAndTells plan number client client' before after told
+
+abbrev pub StopsOneRoundOrAfter : RunStop → Plan → ℕ → Client → (before after : Seen) → Type 0
+StopsOneRoundOrAfter why plan number client before after =
+    StopsOneRound why plan number client before after ⊎ StopsAfterRound why plan number client before after
+
+-- ---- the rounds of a plan
+
+-- A client took rounds, and the lists of each that installed one were published in order.
+pub record PublishesRounds (plan : Plan) (rounds : List Round) (client client' : Client) (published published' : Publications) (before after : Seen) (refused : Bool) : Type 0 where
+  pub takes : TakesRounds plan 1 rounds client client' before after refused
+  pub published_are : published' ≡ published ++ saved_lists client.lists rounds
+
+-- So it did all rounds of a plan.
+pub record PublishesAllRounds (plan : Plan) (client client' : Client) (published published' : Publications) (before after : Seen) (refused : Bool) : Type 0 where
+  pub rounds : List Round
+  pub all : length rounds ≡ plan.rounds
+  pub publishes : PublishesRounds plan rounds client client' published published' before after refused
+
+-- Some rounds were made, and memory was refused for the publication of what the last of them installed.
+pub record StopsAtPublication (plan : Plan) (client : Client) (before after : Seen) : Type 0 where
+  pub rounds : List Round
+  pub few : length rounds ≤ plan.rounds
+  pub client' : Client
+  pub refused : Bool
+  pub takes : TakesRounds plan 1 rounds client client' before after refused
+
+-- A client stopped in its rounds, as one does that publishes nothing, or at a publication.
+abbrev pub StopsPublishing : RunStop → Plan → Client → (before after : Seen) → Type 0
+StopsPublishing why plan client before after =
+    StopsRounds why plan client before after ⊎ ((why ≡ stop.OutOfMemory) × StopsAtPublication plan client before after)

@@ -1,0 +1,162 @@
+ghost use Rattle.std.specs.Prelude.{◌≡◌, ◌≢◌, ◌+◌, ◌^◌, ◌<◌, length, IfOk, IfErr, OnErr, IsErrOf, Err};
+ghost use Rattle.http_edge.specs.Exchanges.{IsTarget};
+ghost use Rattle.sb_outside.specs.Outside.{Rose};
+ghost use Rattle.snapshot_publish.specs.Publications.{IsPrefixOf};
+ghost use Rattle.timed_sessions.specs.Told.{outside};
+ghost use Rattle.update_run.specs.Rounding.{StopsOneRound};
+ghost use Rattle.update_run.specs.Run.{seen};
+ghost use Rattle.update_run.specs.Saved.{keeping};
+ghost use Rattle.published_rounds.specs.Rounds.{WritesAndTells, PublishesRound, StopsOneRoundOrAfter, PublishesAllRounds, StopsPublishing};
+
+use crate::publishing::publish_installed;
+use sb_model::OutOfMemory;
+use sb_outside::{Clock, Dice, Gate, Keeper, Link, Point, Sink};
+use sb_round::rounds_go_on;
+use snapshot_publish::Publisher;
+use std::alloc::Global;
+use std::sync::Wait;
+use update_run::{Client, Plan, RoundTold, RunStop, make_round, write_page};
+
+// Writes what waits, and makes the round of this number.
+fn one_round<O: Sink, K: Keeper, L: Link, C: Clock, D: Dice, G: Gate>(
+    alloc: Global,
+    plan: &Plan,
+    number: u32,
+    client: &mut Client,
+    out: &mut O,
+    keep: &mut K,
+    link: &mut L,
+    clock: &mut C,
+    dice: &mut D,
+    gate: &G,
+) -> Result<RoundTold, RunStop>
+    requires { IsTarget plan.now.target }
+    ensures told { IfOk result (λ told. WritesAndTells plan.now number client.old client.new
+        (seen (outside (L.log link.old) (C.answers clock.old) (C.waits clock.old) (D.given dice.old))
+        (keeping (K.handed keep.old) (K.kept keep.old)) (O.contents out.old))
+        (seen (outside (L.log link.new) (C.answers clock.new) (C.waits clock.new) (D.given dice.new))
+        (keeping (K.handed keep.new) (K.kept keep.new)) (O.contents out.new)) told) }
+    ensures stopped { IfErr result (λ stop. StopsOneRound stop plan.now number client.old
+        (seen (outside (L.log link.old) (C.answers clock.old) (C.waits clock.old) (D.given dice.old))
+        (keeping (K.handed keep.old) (K.kept keep.old)) (O.contents out.old))
+        (seen (outside (L.log link.new) (C.answers clock.new) (C.waits clock.new) (D.given dice.new))
+        (keeping (K.handed keep.new) (K.kept keep.new)) (O.contents out.new))) }
+    ensures output_failed { IsErrOf result RunStop.WriteFault → Rose (O.faults out.old) (O.faults out.new) }
+    ensures output_kept { result ≢ Err RunStop.WriteFault → O.faults out.new ≡ O.faults out.old }
+    ensures keeper_failed { IsErrOf result RunStop.KeepFault → Rose (K.faults keep.old) (K.faults keep.new) }
+    ensures keeper_kept { result ≢ Err RunStop.KeepFault → K.faults keep.new ≡ K.faults keep.old }
+{
+    write_page(client, out)?;
+    gate.pass(Point::Round(number));
+    make_round(alloc, plan, number, client, out, keep, link, clock, dice)
+}
+
+// Makes the round of this number, and publishes what it installed.
+fn publish_round<R: Wait, O: Sink, K: Keeper, L: Link, C: Clock, D: Dice, G: Gate>(
+    rt: &R,
+    alloc: Global,
+    plan: &Plan,
+    number: u32,
+    client: &mut Client,
+    publisher: &mut Publisher,
+    out: &mut O,
+    keep: &mut K,
+    link: &mut L,
+    clock: &mut C,
+    dice: &mut D,
+    gate: &G,
+) -> Result<bool, RunStop>
+    requires target { IsTarget plan.now.target }
+    requires room { length publisher.old.list < 2 ^ 64 }
+    ensures made { IfOk result (λ refused. PublishesRound plan.now number client.old client.new publisher.old.list publisher.new.list
+        (seen (outside (L.log link.old) (C.answers clock.old) (C.waits clock.old) (D.given dice.old))
+        (keeping (K.handed keep.old) (K.kept keep.old)) (O.contents out.old))
+        (seen (outside (L.log link.new) (C.answers clock.new) (C.waits clock.new) (D.given dice.new))
+        (keeping (K.handed keep.new) (K.kept keep.new)) (O.contents out.new)) refused) }
+    ensures stopped { IfErr result (λ stop. StopsOneRoundOrAfter stop plan.now number client.old
+        (seen (outside (L.log link.old) (C.answers clock.old) (C.waits clock.old) (D.given dice.old))
+        (keeping (K.handed keep.old) (K.kept keep.old)) (O.contents out.old))
+        (seen (outside (L.log link.new) (C.answers clock.new) (C.waits clock.new) (D.given dice.new))
+        (keeping (K.handed keep.new) (K.kept keep.new)) (O.contents out.new))) }
+    ensures unpublished { OnErr result (publisher.new.list ≡ publisher.old.list) }
+    ensures boxes { publisher.new.boxes ≡ publisher.old.boxes }
+    ensures output_failed { IsErrOf result RunStop.WriteFault → Rose (O.faults out.old) (O.faults out.new) }
+    ensures output_kept { result ≢ Err RunStop.WriteFault → O.faults out.new ≡ O.faults out.old }
+    ensures keeper_failed { IsErrOf result RunStop.KeepFault → Rose (K.faults keep.old) (K.faults keep.new) }
+    ensures keeper_kept { result ≢ Err RunStop.KeepFault → K.faults keep.new ≡ K.faults keep.old }
+{
+    match one_round(
+        alloc, plan, number, client, out, keep, link, clock, dice, gate,
+    ) {
+        Ok(told) => match publish_installed(
+            rt,
+            alloc,
+            told.installed,
+            &client.lists,
+            publisher,
+            gate,
+        ) {
+            Ok(()) => Ok(told.refused),
+            Err(OutOfMemory) => Err(RunStop::OutOfMemory),
+        },
+        Err(stop) => Err(stop),
+    }
+}
+
+/// Makes the rounds of a plan, each of which saves the lists and publishes a copy of them where it installed one. Answers whether one of
+/// them is told with a refusal.
+///
+/// Before a round it passes `Point::Round` of its number, and after a publication `Point::Published`. It may wait for seats that are looking.
+///
+/// # Errors
+///
+/// `WriteFault` and `KeepFault` where the output or the keeper fails, and `OutOfMemory`. What was published before stays so.
+pub fn publish_rounds<R: Wait, O: Sink, K: Keeper, L: Link, C: Clock, D: Dice, G: Gate>(
+    rt: &R,
+    alloc: Global,
+    plan: &Plan,
+    client: &mut Client,
+    publisher: &mut Publisher,
+    out: &mut O,
+    keep: &mut K,
+    link: &mut L,
+    clock: &mut C,
+    dice: &mut D,
+    gate: &G,
+) -> Result<bool, RunStop>
+    requires target { IsTarget plan.now.target }
+    requires room { length publisher.old.list + plan.now.rounds < 2 ^ 64 }
+    ensures made { IfOk result (λ refused. PublishesAllRounds plan.now client.old client.new publisher.old.list publisher.new.list
+        (seen (outside (L.log link.old) (C.answers clock.old) (C.waits clock.old) (D.given dice.old))
+        (keeping (K.handed keep.old) (K.kept keep.old)) (O.contents out.old))
+        (seen (outside (L.log link.new) (C.answers clock.new) (C.waits clock.new) (D.given dice.new))
+        (keeping (K.handed keep.new) (K.kept keep.new)) (O.contents out.new)) refused) }
+    ensures stopped { IfErr result (λ stop. StopsPublishing stop plan.now client.old
+        (seen (outside (L.log link.old) (C.answers clock.old) (C.waits clock.old) (D.given dice.old))
+        (keeping (K.handed keep.old) (K.kept keep.old)) (O.contents out.old))
+        (seen (outside (L.log link.new) (C.answers clock.new) (C.waits clock.new) (D.given dice.new))
+        (keeping (K.handed keep.new) (K.kept keep.new)) (O.contents out.new))) }
+
+    // After an `Err` too.
+    ensures published { IsPrefixOf publisher.old.list publisher.new.list }
+    ensures boxes { publisher.new.boxes ≡ publisher.old.boxes }
+
+    // A fault is counted, and nothing else is.
+    ensures output_failed { IsErrOf result RunStop.WriteFault → Rose (O.faults out.old) (O.faults out.new) }
+    ensures output_kept { result ≢ Err RunStop.WriteFault → O.faults out.new ≡ O.faults out.old }
+    ensures keeper_failed { IsErrOf result RunStop.KeepFault → Rose (K.faults keep.old) (K.faults keep.new) }
+    ensures keeper_kept { result ≢ Err RunStop.KeepFault → K.faults keep.new ≡ K.faults keep.old }
+{
+    rounds_go_on();
+    let mut refused = false;
+    for made in 0..plan.rounds {
+        let number = made + 1;
+        match publish_round(
+            rt, alloc, plan, number, client, publisher, out, keep, link, clock, dice, gate,
+        ) {
+            Ok(is_refused) => refused |= is_refused,
+            Err(stop) => return Err(stop),
+        }
+    }
+    Ok(refused)
+}
