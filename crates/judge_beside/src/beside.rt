@@ -1,0 +1,99 @@
+ghost use Rattle.std.specs.Prelude.{◌≡◌, ◌≢◌, ◌+◌, ◌<◌, ◌^◌, length, IfOk, IfErr, IsErrOf, Err};
+ghost use Rattle.http_edge.specs.Exchanges.{IsTarget};
+ghost use Rattle.sb_outside.specs.Outside.{Rose};
+ghost use Rattle.timed_sessions.specs.Told.{outside};
+ghost use Rattle.update_run.specs.Run.{seen};
+ghost use Rattle.update_run.specs.Saved.{keeping};
+ghost use Rattle.published_rounds.specs.Rounds.{PublishesAllRounds, StopsPublishing};
+ghost use Rattle.judge_beside.specs.Beside.{ChecksBeside, StopsBeside};
+
+use parallel_checks::{CheckRun, check_all};
+use published_rounds::publish_rounds;
+use sb_model::{Bytes, OutOfMemory, Row};
+use sb_outside::{Clock, Dice, Gate, Keeper, Link, Sink};
+use snapshot_publish::{Publisher, Seat};
+use std::alloc::Global;
+use std::sync::Wait;
+use std::thread::Threads;
+use update_run::{Client, Plan, RunStop};
+
+/// Checks URLs on several threads, while this one makes the rounds of a plan and publishes what they install. Answers the checks, and whether a
+/// round is told with a refusal.
+///
+/// # Errors
+///
+/// As `publish_rounds`, once the threads have ended, and `OutOfMemory`.
+pub fn check_beside<
+    R: Threads + Wait + Sync,
+    O: Sink,
+    K: Keeper,
+    L: Link,
+    C: Clock,
+    D: Dice,
+    G: Gate + Sync,
+>(
+    rt: &R,
+    alloc: Global,
+    plan: &Plan,
+    client: &mut Client,
+    publisher: &mut Publisher,
+    out: &mut O,
+    keep: &mut K,
+    link: &mut L,
+    clock: &mut C,
+    dice: &mut D,
+    seats: Row<Seat>,
+    urls: &[Bytes],
+    gate: &G,
+) -> Result<(CheckRun, bool), RunStop>
+    requires some { 0 < length seats }
+    requires few { length urls.now < 2 ^ 32 }
+    requires target { IsTarget plan.now.target }
+    requires room { length publisher.old.list + plan.now.rounds < 2 ^ 64 }
+    ensures checked { IfOk result (λ both. ChecksBeside plan.now client.old client.new seats publisher.old.list publisher.new.list urls.now
+        (seen (outside (L.log link.old) (C.answers clock.old) (C.waits clock.old) (D.given dice.old))
+        (keeping (K.handed keep.old) (K.kept keep.old)) (O.contents out.old))
+        (seen (outside (L.log link.new) (C.answers clock.new) (C.waits clock.new) (D.given dice.new))
+        (keeping (K.handed keep.new) (K.kept keep.new)) (O.contents out.new)) both.0 both.1) }
+    ensures stopped { IfErr result (λ stop. StopsBeside stop plan.now client.old
+        (seen (outside (L.log link.old) (C.answers clock.old) (C.waits clock.old) (D.given dice.old))
+        (keeping (K.handed keep.old) (K.kept keep.old)) (O.contents out.old))
+        (seen (outside (L.log link.new) (C.answers clock.new) (C.waits clock.new) (D.given dice.new))
+        (keeping (K.handed keep.new) (K.kept keep.new)) (O.contents out.new))) }
+    ensures boxes { publisher.new.boxes ≡ publisher.old.boxes }
+    ensures output_failed { IsErrOf result RunStop.WriteFault → Rose (O.faults out.old) (O.faults out.new) }
+    ensures output_kept { result ≢ Err RunStop.WriteFault → O.faults out.new ≡ O.faults out.old }
+    ensures keeper_failed { IsErrOf result RunStop.KeepFault → Rose (K.faults keep.old) (K.faults keep.new) }
+    ensures keeper_kept { result ≢ Err RunStop.KeepFault → K.faults keep.new ≡ K.faults keep.old }
+{
+    let mut rounds = || -> Result<bool, RunStop>
+        requires { IsTarget plan.now.target × (length publisher.now.list + plan.now.rounds < 2 ^ 64) }
+        ensures made { IfOk result (λ refused. PublishesAllRounds plan.entry.now client.entry.now client.exit.now publisher.entry.now.list publisher.exit.now.list
+            (seen (outside (L.log link.entry.now) (C.answers clock.entry.now) (C.waits clock.entry.now) (D.given dice.entry.now))
+            (keeping (K.handed keep.entry.now) (K.kept keep.entry.now)) (O.contents out.entry.now))
+            (seen (outside (L.log link.exit.now) (C.answers clock.exit.now) (C.waits clock.exit.now) (D.given dice.exit.now))
+            (keeping (K.handed keep.exit.now) (K.kept keep.exit.now)) (O.contents out.exit.now)) refused) }
+        ensures stopped { IfErr result (λ stop. StopsPublishing stop plan.entry.now client.entry.now
+            (seen (outside (L.log link.entry.now) (C.answers clock.entry.now) (C.waits clock.entry.now) (D.given dice.entry.now))
+            (keeping (K.handed keep.entry.now) (K.kept keep.entry.now)) (O.contents out.entry.now))
+            (seen (outside (L.log link.exit.now) (C.answers clock.exit.now) (C.waits clock.exit.now) (D.given dice.exit.now))
+            (keeping (K.handed keep.exit.now) (K.kept keep.exit.now)) (O.contents out.exit.now))) }
+        ensures boxes { publisher.exit.now.boxes ≡ publisher.entry.now.boxes }
+        ensures output_failed { IsErrOf result RunStop.WriteFault → Rose (O.faults out.entry.now) (O.faults out.exit.now) }
+        ensures output_kept { result ≢ Err RunStop.WriteFault → O.faults out.exit.now ≡ O.faults out.entry.now }
+        ensures keeper_failed { IsErrOf result RunStop.KeepFault → Rose (K.faults keep.entry.now) (K.faults keep.exit.now) }
+        ensures keeper_kept { result ≢ Err RunStop.KeepFault → K.faults keep.exit.now ≡ K.faults keep.entry.now }
+    {
+        publish_rounds(
+            rt, alloc, plan, client, publisher, out, keep, link, clock, dice, gate,
+        )
+    };
+    let (checked, made) = check_all(rt, alloc, seats, urls, gate, &mut rounds);
+    match made {
+        Ok(refused) => match checked {
+            Ok(run) => Ok((run, refused)),
+            Err(OutOfMemory) => Err(RunStop::OutOfMemory),
+        },
+        Err(stop) => Err(stop),
+    }
+}
