@@ -3,6 +3,7 @@ pub mod Kept
 pub mod Logs
 pub mod NameOrder
 pub mod Names
+pub mod Rounds
 pub mod Rows
 pub mod Saved
 pub mod Stores

@@ -1,7 +1,7 @@
 -- The laws of runs, in the subject's own words.
-use Rattle.std.specs.Prelude.{◌≡◌, ◌≢◌, ℕ, Bool, false, List, [], map, Option, Some, IsSome}
+use Rattle.std.specs.Prelude.{◌≡◌, ◌≢◌, ℕ, Bool, false, List, [], map, All, Option, Some, IsSome}
 use Rattle.std.specs.List.Sorted.{IsStrictlySortedBy}
-use Rattle.sb_model.specs.History.{History}
+use Rattle.sb_model.specs.History.{History, IsWellFormed}
 use Rattle.sb_model.specs.Names.{name_cmp}
 use Rattle.sb_model.specs.Naming.{Naming}
 use Rattle.sb_model.specs.declared.names.ListName.{ListName}
@@ -15,7 +15,8 @@ use Rattle.update_run.specs.Run.{Seen, RunEnding, EndsRun, IsRun}
 use Rattle.update_run.specs.Saved.{has_installed, saved_lists}
 use Rattle.update_run.specs.declared.plan.Plan.{Plan}
 use Rattle.honest_runs.specs.Kept.{AreSameLists, KeepsStoreOf}
-use Rattle.honest_runs.specs.Replicas.{IsKeptSafely}
+use Rattle.honest_runs.specs.Met.{AreHonestRounds}
+use Rattle.honest_runs.specs.Replicas.{AreReplicasOf, IsKeptSafely}
 use Rattle.honest_runs.specs.Rows.{IsHeadline, RunSeen, AreInRow, HoldsInRow}
 
 -- Whatever the server's changes, and whichever of its responses came, in whatever order: the headline holds of every run, wherever it stopped.
@@ -45,3 +46,9 @@ abbrev pub LeavesListsAlone : Type 0
 LeavesListsAlone = (lists : List Held) (round : Round)
     → IsStrictlySortedBy name_cmp (map (λ (held : Held). held.name) lists)
     → has_installed (taken_from lists round.answer) ≡ false → AreSameLists (lists_after_round lists round) lists
+
+-- From what is kept safely, through honest rounds: each set of lists that they save has the words' names, and its lists are replicas.
+abbrev pub SavesReplicas : Type 0
+SavesReplicas = (history : History) (token_at : Naming) (names : List ListName) (kept : Option (List ℕ)) (rounds : List Round)
+    → IsWellFormed history → IsKeptSafely history token_at kept → AreHonestRounds history token_at (first_lists names kept) rounds
+    → All (AreReplicasOf history token_at names) (saved_lists (first_lists names kept) rounds)

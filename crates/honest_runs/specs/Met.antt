@@ -1,12 +1,15 @@
 -- What a run met: the sessions that the link's log has more of it, and the bodies that they brought.
-use Rattle.std.specs.Prelude.{◌≡◌, ◌⊎◌, ℕ, ◌+◌, Bool, List, ◌++◌, length, take, Option, Some, IsTrue}
+use Rattle.std.specs.Prelude.{◌≡◌, ◌⊎◌, ℕ, ◌+◌, Bool, List, [], ◌∷◌, ◌++◌, length, map, take, Option, Some, IsTrue}
 use Rattle.sb_model.specs.History.{History, IsWellFormed}
 use Rattle.sb_model.specs.Naming.{Naming, IsNaming}
 use Rattle.sb_outside.specs.declared.links.Session.{Session}
 use Rattle.update_messages.specs.Messages.{UpdatedList}
+use Rattle.update_client.specs.Held.{Held}
 use Rattle.update_client.specs.Replica.{AreReplicas}
 use Rattle.sb_round.specs.Collision.{candidates_of, HasNoCollision}
 use Rattle.sb_round.specs.Honest.{IsHonest}
+use Rattle.sb_round.specs.Round.{Round}
+use Rattle.sb_round.specs.Rounds.{body_of}
 use Rattle.sb_round.specs.Sessions.{AreBodiesOf}
 use Rattle.update_run.specs.Opening.{first_lists}
 use Rattle.update_run.specs.Run.{Seen}
@@ -42,3 +45,11 @@ pub record MeetsServer (history : History) (token_at : Naming) (plan : Plan) (ta
 pub record MeetsHonest (history : History) (token_at : Naming) (plan : Plan) (taken : ℕ) (before after : Seen) : Type 0 where
   pub server : MeetsServer history token_at plan taken before after
   pub replicas : AreReplicas history token_at (first_lists plan.names server.kept)
+
+-- Rounds met an honest server of this history, which names its versions so: their bodies are honest for a client that begins with these
+-- lists, and no digest collides. Where no round was made nothing is asked.
+abbrev pub AreHonestRounds : History → Naming → List Held → List Round → Type 0
+AreHonestRounds history token_at lists [] = Unit {0}
+AreHonestRounds history token_at lists (round ∷ rounds) =
+    IsNaming history token_at × IsHonest history token_at lists (map body_of (round ∷ rounds))
+    × HasNoCollision history (candidates_of lists (map body_of (round ∷ rounds)))

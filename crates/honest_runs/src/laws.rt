@@ -1,4 +1,4 @@
-ghost use Rattle.honest_runs.specs.Law.{HoldsOfRuns, StoresBeginRuns, HoldsOfRows, KeptIsPrinted, LeavesListsAlone};
+ghost use Rattle.honest_runs.specs.Law.{HoldsOfRuns, StoresBeginRuns, HoldsOfRows, KeptIsPrinted, LeavesListsAlone, SavesReplicas};
 
 use client_store::{cut_stores_are_not_read, read_texts_are_stores};
 use sb_model::names_go_by_their_codes;
@@ -45,4 +45,14 @@ pub fn kept_is_printed()
 {
     rounds_leave_lists();
     names_go_by_their_codes();
+}
+
+/// The law of what rounds save, from any kept text that begins a run with replicas: where their bodies are honest and no digest collides,
+/// each set of lists that they save, and that is published of them, is one of replicas.
+pub fn rounds_save_replicas()
+    ensures { SavesReplicas }
+{
+    names_go_by_their_codes();
+    replicas_stay();
+    stores_begin_runs();
 }

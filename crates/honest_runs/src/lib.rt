@@ -5,6 +5,9 @@
 //! run and of runs in a row, `Kept` the lists that are kept beside those that are printed, and `Law` what follows.
 #![tactic(auto)]
 
-pub use laws::{kept_is_printed, rounds_leave_lists, rows_hold, runs_hold, stores_begin_runs};
+pub use laws::{
+    kept_is_printed, rounds_leave_lists, rounds_save_replicas, rows_hold, runs_hold,
+    stores_begin_runs,
+};
 
 mod laws;

@@ -18,14 +18,12 @@ pub record ChecksBeside (plan : Plan) (client client' : Client) (seats : List Se
   pub are : AreChecks run.seats lines run.checks
 
 -- All rounds of a plan were made and published, and memory was refused for the checks.
-pub record StopsAtChecks (why : RunStop) (plan : Plan) (client : Client) (before after : Seen) : Type 0 where
+pub record StopsAtChecks (why : RunStop) (plan : Plan) (client client' : Client) (published published' : Publications) (before after : Seen) : Type 0 where
   pub memory : why ≡ stop.OutOfMemory
-  pub client' : Client
-  pub published : Publications
-  pub published' : Publications
   pub refused : Bool
   pub publishes : PublishesAllRounds plan client client' published published' before after refused
 
 -- It stopped in the rounds, or for want of memory after them.
-abbrev pub StopsBeside : RunStop → Plan → Client → (before after : Seen) → Type 0
-StopsBeside why plan client before after = StopsPublishing why plan client before after ⊎ StopsAtChecks why plan client before after
+abbrev pub StopsBeside : RunStop → Plan → (client client' : Client) → (published published' : Publications) → (before after : Seen) → Type 0
+StopsBeside why plan client client' published published' before after =
+    StopsPublishing why plan client before after ⊎ StopsAtChecks why plan client client' published published' before after

@@ -7,7 +7,8 @@ use Rattle.url_checker.specs.declared.findings.Checked.{Checked}
 use Rattle.url_checker.specs.declared.findings.Checked.TheVariants.{Found, Refused}
 use Rattle.verdict_report.specs.declared.verdicts.Judged.{Judged}
 use Rattle.parallel_checks.specs.Checks.{IsCheckOf, NeverFall, of_seat}
-use Rattle.judge_run.specs.Judging.{FindState, BreaksOff, JudgesCheck, JudgesLines, check_of}
+use Rattle.judge_run.specs.Judging.{FindState, BreaksOff, JudgesCheck, JudgesLines, check_of, first_finds}
+use Rattle.wait_rules.specs.declared.waits.WaitState.{WaitState}
 use Rattle.judge_run.specs.Reporting.{IsReport}
 use Rattle.judge_run.specs.declared.plan.JudgePlan.{JudgePlan}
 use Rattle.judge_run.specs.declared.report.Report.{Report}
@@ -67,3 +68,12 @@ StopsAtNext plan published check finds finds' before after faults faults' =
 -- The numbers of findings never fall along the lines of a seat, of so many.
 abbrev pub NumbersNeverFall : ℕ → List Checked → Type 0
 NumbersNeverFall seats checks = (place : ℕ) → place < seats → NeverFall (of_seat checks seats place)
+
+-- ---- from no kept answer on
+
+-- URLs were judged by their checks, whose numbers never fall along the lines of so many workers, and this is their report.
+pub record HasReportedChecks (plan : JudgePlan) (workers : ℕ) (published : Publications) (waits : WaitState) (before after : Outside) (faults faults' : ℕ) (lines : List (List ℕ)) (report : Report) : Type 0 where
+  pub finds : FindState
+  pub checks : List Checked
+  pub never_fall : NumbersNeverFall workers checks
+  pub reports : ReportsChecks plan published (first_finds waits) finds before after faults faults' lines checks report

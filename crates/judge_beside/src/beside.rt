@@ -1,6 +1,7 @@
-ghost use Rattle.std.specs.Prelude.{◌≡◌, ◌≢◌, ◌+◌, ◌<◌, ◌^◌, length, IfOk, IfErr, IsErrOf, Err};
+ghost use Rattle.std.specs.Prelude.{◌≡◌, ◌≢◌, ◌≤◌, ◌+◌, ◌<◌, ◌^◌, length, IfOk, IfErr, IsErrOf, Err};
 ghost use Rattle.http_edge.specs.Exchanges.{IsTarget};
 ghost use Rattle.sb_outside.specs.Outside.{Rose};
+ghost use Rattle.snapshot_publish.specs.Publications.{IsPrefixOf};
 ghost use Rattle.timed_sessions.specs.Told.{outside};
 ghost use Rattle.update_run.specs.Run.{seen};
 ghost use Rattle.update_run.specs.Saved.{keeping};
@@ -55,16 +56,23 @@ pub fn check_beside<
         (keeping (K.handed keep.old) (K.kept keep.old)) (O.contents out.old))
         (seen (outside (L.log link.new) (C.answers clock.new) (C.waits clock.new) (D.given dice.new))
         (keeping (K.handed keep.new) (K.kept keep.new)) (O.contents out.new)) both.0 both.1) }
-    ensures stopped { IfErr result (λ stop. StopsBeside stop plan.now client.old
+    ensures stopped { IfErr result (λ stop. StopsBeside stop plan.now client.old client.new publisher.old.list publisher.new.list
         (seen (outside (L.log link.old) (C.answers clock.old) (C.waits clock.old) (D.given dice.old))
         (keeping (K.handed keep.old) (K.kept keep.old)) (O.contents out.old))
         (seen (outside (L.log link.new) (C.answers clock.new) (C.waits clock.new) (D.given dice.new))
         (keeping (K.handed keep.new) (K.kept keep.new)) (O.contents out.new))) }
+
+    // After an `Err` too.
+    ensures published { IsPrefixOf publisher.old.list publisher.new.list }
     ensures boxes { publisher.new.boxes ≡ publisher.old.boxes }
+
+    // A fault is counted, and nothing else is.
     ensures output_failed { IsErrOf result RunStop.WriteFault → Rose (O.faults out.old) (O.faults out.new) }
     ensures output_kept { result ≢ Err RunStop.WriteFault → O.faults out.new ≡ O.faults out.old }
     ensures keeper_failed { IsErrOf result RunStop.KeepFault → Rose (K.faults keep.old) (K.faults keep.new) }
     ensures keeper_kept { result ≢ Err RunStop.KeepFault → K.faults keep.new ≡ K.faults keep.old }
+    ensures link_counted { L.faults link.old ≤ L.faults link.new }
+    ensures link_idle { plan.now.rounds ≡ 0 → L.faults link.new ≡ L.faults link.old }
 {
     let mut rounds = || -> Result<bool, RunStop>
         requires { IsTarget plan.now.target × (length publisher.now.list + plan.now.rounds < 2 ^ 64) }
@@ -78,11 +86,14 @@ pub fn check_beside<
             (keeping (K.handed keep.entry.now) (K.kept keep.entry.now)) (O.contents out.entry.now))
             (seen (outside (L.log link.exit.now) (C.answers clock.exit.now) (C.waits clock.exit.now) (D.given dice.exit.now))
             (keeping (K.handed keep.exit.now) (K.kept keep.exit.now)) (O.contents out.exit.now))) }
+        ensures published { IsPrefixOf publisher.entry.now.list publisher.exit.now.list }
         ensures boxes { publisher.exit.now.boxes ≡ publisher.entry.now.boxes }
         ensures output_failed { IsErrOf result RunStop.WriteFault → Rose (O.faults out.entry.now) (O.faults out.exit.now) }
         ensures output_kept { result ≢ Err RunStop.WriteFault → O.faults out.exit.now ≡ O.faults out.entry.now }
         ensures keeper_failed { IsErrOf result RunStop.KeepFault → Rose (K.faults keep.entry.now) (K.faults keep.exit.now) }
         ensures keeper_kept { result ≢ Err RunStop.KeepFault → K.faults keep.exit.now ≡ K.faults keep.entry.now }
+        ensures link_counted { L.faults link.entry.now ≤ L.faults link.exit.now }
+        ensures link_idle { plan.entry.now.rounds ≡ 0 → L.faults link.exit.now ≡ L.faults link.entry.now }
     {
         publish_rounds(
             rt, alloc, plan, client, publisher, out, keep, link, clock, dice, gate,

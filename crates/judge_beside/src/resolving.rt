@@ -152,6 +152,10 @@ fn judge_next<L: Link, C: Clock, D: Dice>(
 
 /// Resolves checks in order, each by the publication that it names: asks the server where a hit has to be asked for, and reports what becomes
 /// of each URL.
+///
+/// # Errors
+///
+/// `OutOfMemory`, where some of the checks may have been resolved before.
 pub fn judge_checks<L: Link, C: Clock, D: Dice>(
     alloc: Global,
     plan: &JudgePlan,

@@ -9,6 +9,10 @@ use std::alloc::Global;
 use url_checker::Checked;
 
 /// Settles a run of checks once nothing more is published, and gives the checks in the order of their lines.
+///
+/// # Errors
+///
+/// `OutOfMemory`.
 pub fn settle_checks(
     alloc: Global,
     publisher: &mut Publisher,

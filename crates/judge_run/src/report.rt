@@ -18,7 +18,8 @@ pub struct Report {
     /// Pages that are full.
     pub(crate) full: Row<Bytes>,
     pub(crate) page: Bytes,
-    pub(crate) counts: Counts,
+    /// How many URLs there are of each kind.
+    pub counts: Counts,
 }
 
 impl Report {

@@ -9,14 +9,17 @@ use Rattle.wait_rules.specs.declared.waits.WaitState.{WaitState}
 use Rattle.timed_sessions.specs.Told.{Outside}
 use Rattle.input_lines.specs.Lines.{lines_of}
 use Rattle.update_run.specs.Opening.{first_lists}
-use Rattle.update_run.specs.Printed.{ignored_text}
+use Rattle.update_run.specs.Printed.{told_rounds}
+use Rattle.honest_runs.specs.Met.{AreHonestRounds}
 use Rattle.honest_runs.specs.Replicas.{IsKeptSafely}
 use Rattle.verdict_report.specs.Printed.{report_lines, summary_text}
 use Rattle.verdict_report.specs.declared.verdicts.Judged.{Judged}
 use Rattle.judge_run.specs.Judging.{Case, FindState, AreCases, JudgesLines, first_finds, judged_of_all}
-use Rattle.judge_run.specs.Run.{Seen, EndsBegun}
-use Rattle.judge_run.specs.declared.judgement.Judgement.{Judgement}
+use Rattle.judge_run.specs.Run.{Seen}
 use Rattle.judge_run.specs.declared.plan.JudgePlan.{JudgePlan}
+use Rattle.judge_beside.specs.Run.{EndsOpened, publications_of}
+use Rattle.judge_beside.specs.declared.outcome.Outcome.{Outcome}
+use Rattle.judge_beside.specs.declared.plan.BesidePlan.{BesidePlan}
 use Rattle.judged_runs.specs.Complete.{AreComplete}
 use Rattle.judged_runs.specs.Verdicts.{VerdictsHold}
 
@@ -39,23 +42,30 @@ JudgedVerdictsHold = (history : History) (token_at : Naming) (plan : JudgePlan) 
     → IsWellFormed history → ArePublishedReplicas history token_at published
     → VerdictsHold history token_at published (first_finds waits) [] lines judges.cases all
 
--- Of the lines of a run's input each verdict holds, by the run's own cases. These verdicts are what was printed: one line for each, counted
--- from 1, behind the line of a store that is ignored and before the summary.
-pub record ReportHolds (history : History) (token_at : Naming) (plan : JudgePlan) (judgement : Judgement) (before after : Seen) (run : EndsBegun plan (Ok judgement) before after) : Type 0 where
-  pub hold : VerdictsHold history token_at (first_lists plan.names run.begins.kept ∷ []) (first_finds run.begins.waits) [] (lines_of run.begins.input) run.ends.judged.judges.cases run.ends.all
-  pub text : after.held ≡ appended before.held (ignored_text run.begins.kept ++ (report_lines 1 run.ends.all ++ summary_text run.ends.all))
+-- ---- a run that came to its end
 
--- The report of a run that came to its end holds, where the lists that it began with are replicas.
+-- the publications of a run
+abbrev pub publications_in : {plan : BesidePlan} {outcome : Outcome} {before after : Seen} → EndsOpened plan (Ok outcome) before after → Publications
+publications_in {plan = plan} run = publications_of (first_lists plan.names run.begins.kept) run.ends.updated.rounds
+
+-- The lists of each publication of a run are replicas, and of the lines of its input each verdict holds, on the publication that it names, by
+-- the run's own cases. These verdicts are what was printed: one line for each, counted from 1, behind the lines of the rounds and before
+-- the summary.
+pub record ReportHolds (history : History) (token_at : Naming) (plan : BesidePlan) (outcome : Outcome) (before after : Seen) (run : EndsOpened plan (Ok outcome) before after) : Type 0 where
+  pub published : ArePublishedReplicas history token_at (publications_in run)
+  pub hold : VerdictsHold history token_at (publications_in run) (first_finds run.begins.finds) [] (lines_of run.begins.input) run.ends.judges.judged.judges.cases run.ends.judges.all
+  pub text : after.held ≡ appended before.held
+      (told_rounds run.begins.kept (first_lists plan.names run.begins.kept) run.ends.updated.rounds ++ (report_lines 1 run.ends.judges.all ++ summary_text run.ends.judges.all))
+
+-- The report of a run holds that came to its end, where what was kept is no store, or reads as replicas, or nothing was kept, and the rounds
+-- that it made met an honest server.
 abbrev pub RunsOfVerdictsHold : Type 0
-RunsOfVerdictsHold = (history : History) (token_at : Naming) (plan : JudgePlan) (judgement : Judgement) (before after : Seen) (run : EndsBegun plan (Ok judgement) before after)
-    → IsWellFormed history → AreReplicas history token_at (first_lists plan.names run.begins.kept)
-    → ReportHolds history token_at plan judgement before after run
-
--- So it does where what was kept is no store, or reads as replicas, or nothing was kept: runs of updates that meet an honest server keep it so.
-abbrev pub KeptRunsOfVerdictsHold : Type 0
-KeptRunsOfVerdictsHold = (history : History) (token_at : Naming) (plan : JudgePlan) (judgement : Judgement) (before after : Seen) (run : EndsBegun plan (Ok judgement) before after)
+RunsOfVerdictsHold = (history : History) (token_at : Naming) (plan : BesidePlan) (outcome : Outcome) (before after : Seen) (run : EndsOpened plan (Ok outcome) before after)
     → IsWellFormed history → IsKeptSafely history token_at run.begins.kept
-    → ReportHolds history token_at plan judgement before after run
+    → AreHonestRounds history token_at (first_lists plan.names run.begins.kept) run.ends.updated.rounds
+    → ReportHolds history token_at plan outcome before after run
+
+-- ---- what is left open
 
 -- Of lines that are seen to have been judged in order, each verdict is decided where its finding was answered, and else names its cause.
 abbrev pub JudgedAreComplete : Type 0

@@ -1,3 +1,4 @@
 pub mod Verdicts
 pub mod Complete
 pub mod Law
+pub mod Saving

@@ -1,6 +1,9 @@
-ghost use Rattle.judged_runs.specs.Law.{JudgedAreComplete, JudgedVerdictsHold, KeptRunsOfVerdictsHold, RowsOfVerdictsHold, RunsOfVerdictsHold};
+ghost use Rattle.judged_runs.specs.Law.{JudgedAreComplete, JudgedVerdictsHold, RowsOfVerdictsHold, RunsOfVerdictsHold};
+ghost use Rattle.judged_runs.specs.Saving.{JudgingsSaveReplicas};
 
-use honest_runs::stores_begin_runs;
+use client_store::{cut_stores_are_not_read, read_texts_are_stores};
+use honest_runs::{rounds_save_replicas, stores_begin_runs};
+use sb_round::rounds_are_their_sessions;
 use verdict_laws::{
     resolutions_are_complete, resolutions_are_steps, resolved_verdicts_are_lookups,
 };
@@ -19,17 +22,15 @@ pub fn rows_of_verdicts_hold()
     resolutions_are_steps();
 }
 
-/// The same of a whole run that came to its end: each line of its report is of the verdict that is spoken of, or of the fault for which
-/// the line has no canonical form.
+/// The same of a whole run that came to its end, from a kept text that begins it with replicas, where the updates that it made beside the
+/// checks met an honest server: the lists of each publication are replicas, and each line of its report is of the verdict that is spoken of,
+/// or of the fault for which the line has no canonical form.
 pub fn runs_of_verdicts_hold()
-    // Where the lists that it began with are replicas.
-    ensures replicas { RunsOfVerdictsHold }
-
-    // Where what was kept begins a run with replicas.
-    ensures kept { KeptRunsOfVerdictsHold }
+    ensures { RunsOfVerdictsHold }
 {
     rows_of_verdicts_hold();
     stores_begin_runs();
+    rounds_save_replicas();
 }
 
 /// The law that nothing is left open without a cause: each URL that has a canonical form is said to be safe or unsafe where nothing had
@@ -38,4 +39,15 @@ pub fn judged_urls_are_decided()
     ensures { JudgedAreComplete }
 {
     resolutions_are_complete();
+}
+
+/// The law of what a run saves, wherever it ends: where it began with replicas, and the updates that it made met an honest server, each store
+/// that it handed to its keeper is one of replicas, and what is kept is what was kept before, or no store, or reads as replicas.
+pub fn judgings_save_replicas()
+    ensures { JudgingsSaveReplicas }
+{
+    rounds_are_their_sessions();
+    rounds_save_replicas();
+    cut_stores_are_not_read();
+    read_texts_are_stores();
 }

@@ -2,7 +2,7 @@
 use Rattle.std.specs.Prelude.{◌≡◌, ◌⊎◌, ℕ, ◌≤◌, Bool, List, [], ◌∷◌, ◌++◌, if◌then◌else◌, length, Option}
 use Rattle.sb_round.specs.Round.{Round}
 use Rattle.snapshot_publish.specs.Publications.{Publications}
-use Rattle.update_run.specs.Rounding.{StopsOneRound, StopsRounds}
+use Rattle.update_run.specs.Rounding.{StopsOneRound, StopsRounds, text_so_far}
 use Rattle.update_run.specs.Run.{Seen}
 use Rattle.update_run.specs.Saved.{saved_lists}
 use Rattle.update_run.specs.Steps.{WritesPage, TellsRound, TakesRounds}
@@ -63,4 +63,4 @@ pub record StopsAtPublication (plan : Plan) (client : Client) (before after : Se
 -- A client stopped in its rounds, as one does that publishes nothing, or at a publication.
 abbrev pub StopsPublishing : RunStop → Plan → Client → (before after : Seen) → Type 0
 StopsPublishing why plan client before after =
-    StopsRounds why plan client before after ⊎ ((why ≡ stop.OutOfMemory) × StopsAtPublication plan client before after)
+    StopsRounds why plan client (text_so_far client) before after ⊎ ((why ≡ stop.OutOfMemory) × StopsAtPublication plan client before after)

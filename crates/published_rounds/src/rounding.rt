@@ -1,4 +1,4 @@
-ghost use Rattle.std.specs.Prelude.{◌≡◌, ◌≢◌, ◌+◌, ◌^◌, ◌<◌, length, IfOk, IfErr, OnErr, IsErrOf, Err};
+ghost use Rattle.std.specs.Prelude.{◌≡◌, ◌≢◌, ◌≤◌, ◌+◌, ◌^◌, ◌<◌, length, IfOk, IfErr, OnErr, IsErrOf, Err};
 ghost use Rattle.http_edge.specs.Exchanges.{IsTarget};
 ghost use Rattle.sb_outside.specs.Outside.{Rose};
 ghost use Rattle.snapshot_publish.specs.Publications.{IsPrefixOf};
@@ -45,6 +45,7 @@ fn one_round<O: Sink, K: Keeper, L: Link, C: Clock, D: Dice, G: Gate>(
     ensures output_kept { result ≢ Err RunStop.WriteFault → O.faults out.new ≡ O.faults out.old }
     ensures keeper_failed { IsErrOf result RunStop.KeepFault → Rose (K.faults keep.old) (K.faults keep.new) }
     ensures keeper_kept { result ≢ Err RunStop.KeepFault → K.faults keep.new ≡ K.faults keep.old }
+    ensures link_counted { L.faults link.old ≤ L.faults link.new }
 {
     write_page(client, out)?;
     gate.pass(Point::Round(number));
@@ -84,6 +85,7 @@ fn publish_round<R: Wait, O: Sink, K: Keeper, L: Link, C: Clock, D: Dice, G: Gat
     ensures output_kept { result ≢ Err RunStop.WriteFault → O.faults out.new ≡ O.faults out.old }
     ensures keeper_failed { IsErrOf result RunStop.KeepFault → Rose (K.faults keep.old) (K.faults keep.new) }
     ensures keeper_kept { result ≢ Err RunStop.KeepFault → K.faults keep.new ≡ K.faults keep.old }
+    ensures link_counted { L.faults link.old ≤ L.faults link.new }
 {
     match one_round(
         alloc, plan, number, client, out, keep, link, clock, dice, gate,
@@ -146,6 +148,8 @@ pub fn publish_rounds<R: Wait, O: Sink, K: Keeper, L: Link, C: Clock, D: Dice, G
     ensures output_kept { result ≢ Err RunStop.WriteFault → O.faults out.new ≡ O.faults out.old }
     ensures keeper_failed { IsErrOf result RunStop.KeepFault → Rose (K.faults keep.old) (K.faults keep.new) }
     ensures keeper_kept { result ≢ Err RunStop.KeepFault → K.faults keep.new ≡ K.faults keep.old }
+    ensures link_counted { L.faults link.old ≤ L.faults link.new }
+    ensures link_idle { plan.now.rounds ≡ 0 → L.faults link.new ≡ L.faults link.old }
 {
     rounds_go_on();
     let mut refused = false;

@@ -3,21 +3,22 @@ use Rattle.std.proofs.Common.{◌≡◌, ◌≢◌, ℕ, suc, ◌-◌, ◌<◌, 
 use Rattle.std.specs.Prelude.{◌&&◌, not, nat_le, option_and_then, option_map, is_some, codes, IfOk}
 use Rattle.std.specs.Result.{result_ok}
 use Rattle.std.specs.Str.{bytes_eq, chars}
+use Rattle.std.specs.Str.Parse.{digits_value}
 use Rattle.std.proofs.lemmas.Slice.Eq.{bytes_eq-Decides}
 use borrow.Author.Tests.{ltb-true, leb-true}
 use Rattle.sb_model.specs.declared.names.ListName.{ListName}
 use Rattle.sb_model.specs.Names.{name_of}
 use Rattle.sb_words.specs.CommandLine.{Given, CommandShape, given_of, value_among}
 use Rattle.update_client.specs.declared.options.FetchOptions.{FetchOptions}
-use Rattle.sb_words.specs.Values.{names_of, few_names_of, different, has_each_once, lists_of, is_key, host_port_of}
+use Rattle.sb_words.specs.Values.{names_of, few_names_of, different, has_each_once, lists_of, is_key, is_numeral, host_port_of, within}
 use Rattle.http_edge.specs.Exchanges.{IsOneLine, IsTarget}
 use Rattle.http_edge.specs.declared.messages.Target.{Target}
-use Rattle.judge_run.specs.declared.plan.JudgePlan.{JudgePlan}
+use Rattle.judge_beside.specs.declared.plan.BesidePlan.{BesidePlan}
 use Rattle.sb_client.specs.declared.command.Command.{Command}
 use Rattle.update_run.specs.declared.plan.Plan.{Plan}
 use Rattle.sb_client.specs.declared.command.Command.TheVariants.{Replay, Run, Judge, Show, Vectors}
 use Rattle.sb_client.proofs.OneLines.{server_line, key_line, no_key_line}
-use Rattle.sb_client.specs.Command.{replay_shape, run_shape, judge_shape, bare_shape, given_to, lists_given, server_given, rounds_given, key_of, key_given, options_given, patience_given, updates_given, workers_given, has_flag, Asking, asking_of, asking_given, target_of, run_with, run_given, RunWords, run_words, judge_with, judge_given, JudgeWords, judge_words, replay_of, run_of, judge_of, asks_show, asks_vectors, IsNoCommand, IsCommandOf, AreFew, IsSound}
+use Rattle.sb_client.specs.Command.{replay_shape, run_shape, judge_shape, bare_shape, given_to, lists_given, server_given, rounds_given, key_of, key_given, options_given, number_or, patience_given, updates_given, workers_given, has_flag, Asking, asking_of, asking_given, target_of, run_with, run_given, RunWords, run_words, judge_with, judge_given, JudgeWords, judge_words, replay_of, run_of, judge_of, asks_show, asks_vectors, IsNoCommand, IsCommandOf, AreFew, AreWorkers, IsSound}
 
 -- what is known of a value
 pub ok_same : {T E A : Type 0} (r : Result T E) (f : T → A) (a b : A) → a ≡ b → IfOk r (λ x. f x ≡ a) → IfOk r (λ x. f x ≡ b)
@@ -118,15 +119,57 @@ run_by (Some asking) (Some rounds) names line sound e =
     (ap (λ (l : RunWords). l.plan.names) (sym is), subst (λ (l : RunWords). IsTarget l.plan.target) is (sound asking refl))
 
 judge_by : (asking : Option Asking) (updates workers seconds : Option ℕ) (names : List ListName) (line : JudgeWords) → ((found : Asking) → asking ≡ Some found → IsTarget (target_of found))
-    → option_and_then (λ asking. option_and_then (λ _. option_and_then (λ _. option_map (λ seconds. judge_words asking names seconds) seconds) workers) updates) asking ≡ Some line
+    → option_and_then (λ asking. option_and_then (λ updates. option_and_then (λ workers. option_map (λ seconds. judge_words asking names updates workers seconds) seconds) workers) updates) asking ≡ Some line
     → (line.plan.names ≡ names) × IsTarget line.plan.target
 judge_by None updates workers seconds names line sound e = absurd (cc)
 judge_by (Some asking) None workers seconds names line sound e = absurd (cc)
 judge_by (Some asking) (Some updates) None seconds names line sound e = absurd (cc)
 judge_by (Some asking) (Some updates) (Some workers) None names line sound e = absurd (cc)
 judge_by (Some asking) (Some updates) (Some workers) (Some seconds) names line sound e =
-    let is : judge_words asking names seconds ≡ line = cc in
+    let is : judge_words asking names updates workers seconds ≡ line = cc in
     (ap (λ (l : JudgeWords). l.plan.names) (sym is), subst (λ (l : JudgeWords). IsTarget l.plan.target) is (sound asking refl))
+
+-- a number that the words give is in its range, as its default is
+within_by : (low high number found : ℕ) (a b : Bool) → nat_le low number ≡ a → nat_le number high ≡ b → cond (a && b) (Some number) None ≡ Some found → (low ≤ found) × (found ≤ high)
+within_by low high number found true true h k e =
+    let same : number ≡ found = cc in
+    (subst (λ (n : ℕ). low ≤ n) same (leb-true _ _ h), subst (λ (n : ℕ). n ≤ high) same (leb-true _ _ k))
+within_by low high number found true false h k e = absurd (cc)
+within_by low high number found false b h k e = absurd (cc)
+
+numeral_by : (low high found : ℕ) (text : List ℕ) (b : Bool) → cond b (within low high (digits_value 10 text)) None ≡ Some found → (low ≤ found) × (found ≤ high)
+numeral_by low high found text true e = within_by low high (digits_value 10 text) found _ _ refl refl e
+numeral_by low high found text false e = absurd (cc)
+
+ranged_by : (low high default found : ℕ) (text : Option (List ℕ)) → low ≤ default → default ≤ high → number_or low high default text ≡ Some found → (low ≤ found) × (found ≤ high)
+ranged_by low high default found None h k e =
+    let same : default ≡ found = cc in
+    (subst (λ (n : ℕ). low ≤ n) same h, subst (λ (n : ℕ). n ≤ high) same k)
+ranged_by low high default found (Some text) h k e = numeral_by low high found text (is_numeral text) e
+
+-- workers are 1 to 16
+some_workers : (named : List (List ℕ × List ℕ)) (found : ℕ) → workers_given named ≡ Some found → AreWorkers found
+some_workers named found e = ranged_by 1 16 1 found (value_among (codes "workers") named) (omega arith) (omega arith) e
+
+workers_by : (asking : Option Asking) (updates workers seconds : Option ℕ) (names : List ListName) (line : JudgeWords) → ((found : ℕ) → workers ≡ Some found → AreWorkers found)
+    → option_and_then (λ asking. option_and_then (λ updates. option_and_then (λ workers. option_map (λ seconds. judge_words asking names updates workers seconds) seconds) workers) updates) asking ≡ Some line
+    → AreWorkers line.plan.workers
+workers_by None updates workers seconds names line some e = absurd (cc)
+workers_by (Some asking) None workers seconds names line some e = absurd (cc)
+workers_by (Some asking) (Some updates) None seconds names line some e = absurd (cc)
+workers_by (Some asking) (Some updates) (Some workers) None names line some e = absurd (cc)
+workers_by (Some asking) (Some updates) (Some workers) (Some seconds) names line some e =
+    let is : judge_words asking names updates workers seconds ≡ line = cc in
+    subst (λ (l : JudgeWords). AreWorkers l.plan.workers) is (some workers refl)
+
+workers_of : (given : Option Given) (line : JudgeWords) → option_and_then judge_given given ≡ Some line → AreWorkers line.plan.workers
+workers_of None line e = absurd (cc)
+workers_of (Some given) line e = by_lists (lists_given given) e
+  where
+    by_lists : (some : Option (List ListName)) → option_and_then (λ names. judge_with names given.named) some ≡ Some line → AreWorkers line.plan.workers
+    by_lists None h = absurd (cc)
+    by_lists (Some names) h =
+        workers_by (asking_given given.named) (updates_given given.named) (workers_given given.named) (patience_given given.named) names line (some_workers given.named) h
 
 -- of lists that the positional words name, and of what the options say for them
 module _ {Line : Type 0} (lists : Line → List ListName) (whom : Line → Target) (line_with : List ListName → List (List ℕ × List ℕ) → Option Line)
@@ -149,18 +192,19 @@ sound_run words line e =
     (λ names named line h. run_by (asking_given named) (rounds_given named) names line (sound_asking named) h)
     (given_to (codes "sbupdate") (codes "run") run_shape words) line e
 
-sound_judge : (words : List (List ℕ)) (line : JudgeWords) → judge_of words ≡ Some line → AreFew line.plan.names × IsTarget line.plan.target
+sound_judge : (words : List (List ℕ)) (line : JudgeWords) → judge_of words ≡ Some line → AreFew line.plan.names × IsTarget line.plan.target × AreWorkers line.plan.workers
 sound_judge words line e =
-    line_by (λ (line : JudgeWords). line.plan.names) (λ (line : JudgeWords). line.plan.target) judge_with
+    let both = line_by (λ (line : JudgeWords). line.plan.names) (λ (line : JudgeWords). line.plan.target) judge_with
     (λ names named line h. judge_by (asking_given named) (updates_given named) (workers_given named) (patience_given named) names line (sound_asking named) h)
-    (given_to (codes "sbcheck") (codes "judge") judge_shape words) line e
+    (given_to (codes "sbcheck") (codes "judge") judge_shape words) line e in
+    (both.0, both.1, workers_of (given_to (codes "sbcheck") (codes "judge") judge_shape words) line e)
 
 -- words with a plan are those of a line
 planned : (line : Option RunWords) (plan : Plan) → option_map (λ (line : RunWords). line.plan) line ≡ Some plan → (found : RunWords) × (line ≡ Some found) × (found.plan ≡ plan)
 planned None plan e = absurd (cc)
 planned (Some line) plan e = (line, refl, (let same : line.plan ≡ plan = cc in same))
 
-judge_planned : (line : Option JudgeWords) (plan : JudgePlan) → option_map (λ (line : JudgeWords). line.plan) line ≡ Some plan → (found : JudgeWords) × (line ≡ Some found) × (found.plan ≡ plan)
+judge_planned : (line : Option JudgeWords) (plan : BesidePlan) → option_map (λ (line : JudgeWords). line.plan) line ≡ Some plan → (found : JudgeWords) × (line ≡ Some found) × (found.plan ≡ plan)
 judge_planned None plan e = absurd (cc)
 judge_planned (Some line) plan e = (line, refl, (let same : line.plan ≡ plan = cc in same))
 
@@ -176,7 +220,7 @@ is_sound words (Run plan) e =
     subst (λ (plan : Plan). AreFew plan.names × IsTarget plan.target) line.2 (sound_run words line.0 line.1)
 is_sound words (Judge plan) e =
     let line = judge_planned (judge_of words) plan e in
-    subst (λ (plan : JudgePlan). AreFew plan.names × IsTarget plan.target) line.2 (sound_judge words line.0 line.1)
+    subst (λ (plan : BesidePlan). AreFew plan.names × IsTarget plan.target × AreWorkers plan.workers) line.2 (sound_judge words line.0 line.1)
 is_sound words Show e = tt
 is_sound words Vectors e = tt
 
@@ -414,7 +458,7 @@ is_no_run words command h none plan e =
     let same = found.1 in
     cc
 
-pub is_no_judge : (words : List (List ℕ)) (command : Command) → IsCommandOf words (Some command) → judge_of words ≡ None → (plan : JudgePlan) → command ≢ Judge plan
+pub is_no_judge : (words : List (List ℕ)) (command : Command) → IsCommandOf words (Some command) → judge_of words ≡ None → (plan : BesidePlan) → command ≢ Judge plan
 is_no_judge words command h none plan e =
     let is : IsCommandOf words (Some (Judge plan)) = subst (λ (command : Command). IsCommandOf words (Some command)) e h in
     let found = judge_planned (judge_of words) plan is in

@@ -1,43 +1,77 @@
 -- How a run that judges URLs can end, and what its report then says.
-use Rattle.std.proofs.Common.{◌≡◌, ◌≢◌, ◌⊎◌, ℕ, inl, inr, Ok, Err, refl, sym, ap, ◌∙◌}
+use Rattle.std.proofs.Common.{◌≡◌, ◌≢◌, ◌⊎◌, ℕ, Bool, true, false, inl, inr, Ok, Err, refl, sym, ap, subst, ◌∙◌}
 use Rattle.std.specs.Prelude.{IsErrOf, ◌==◌, if◌then◌else◌}
 use Rattle.sb_model.specs.History.{History, IsWellFormed}
 use Rattle.sb_model.specs.Naming.{Naming}
 use Rattle.sb_outside.specs.Outside.{Rose}
 use Rattle.input_lines.specs.Input.{GivesPast}
 use Rattle.judge_run.specs.Law.{CasesKeepToWaits}
-use Rattle.judge_run.specs.Run.{Ending, EndsBegun, EndsJudging, Seen}
+use Rattle.judge_run.specs.Run.{Seen}
 use Rattle.judge_run.specs.declared.judgement.Judgement.{Judgement}
 use Rattle.judge_run.specs.declared.judgement.Judgement.TheVariants.{Safe, Unsafe, Open}
-use Rattle.judge_run.specs.declared.plan.JudgePlan.{JudgePlan}
+use Rattle.judge_beside.specs.Plans.{finds_of}
+use Rattle.judge_beside.specs.Run.{Ending, EndsBeside, EndsOpened}
+use Rattle.judge_beside.specs.declared.outcome.Outcome.{Outcome}
+use Rattle.judge_beside.specs.declared.plan.BesidePlan.{BesidePlan}
 use Rattle.judge_run.specs.declared.stop.JudgeStop.{JudgeStop}
 use Rattle.judge_run.specs.declared.stop.JudgeStop.TheVariants.{ReadFault, PastLimits, WriteFault, KeepFault, OutOfMemory}
-use Rattle.judged_runs.specs.Law.{JudgedAreComplete, KeptRunsOfVerdictsHold}
-use Rattle.sb_client.specs.Ending.{judge_status_after, judge_status_of}
+use Rattle.judged_runs.specs.Law.{JudgedAreComplete, RunsOfVerdictsHold}
+use Rattle.judged_runs.specs.Saving.{JudgingsSaveReplicas, UpdatesHold}
+use Rattle.sb_round.specs.Rounds.{RoundsKeepToWaits}
+use Rattle.sb_client.specs.Ending.{judge_status_after, judge_status_of, judgement_status}
 use Rattle.sb_client.specs.Judged.{ReportsRightly}
 use Rattle.sb_client.specs.Runs.{IsFaultOf, IsJudgeRun, IsStatus}
 
 -- ---- ends have statuses of their own
 
-abbrev ending_with : ℕ → Ending
-ending_with status =
-    if status == 2 then Err ReadFault else if status == 3 then Err WriteFault else if status == 4 then Err KeepFault
-    else if status == 6 then Err PastLimits else if status == 8 then Err OutOfMemory
-    else if status == 20 then Ok Unsafe else if status == 21 then Ok Open else Ok Safe
+abbrev stop_with : ℕ → JudgeStop
+stop_with status =
+    if status == 2 then ReadFault else if status == 3 then WriteFault else if status == 4 then KeepFault
+    else if status == 6 then PastLimits else OutOfMemory
 
-known_ending : (ending : Ending) → ending_with (judge_status_of ending) ≡ ending
-known_ending (Ok Safe) = refl
-known_ending (Ok Unsafe) = refl
-known_ending (Ok Open) = refl
-known_ending (Err ReadFault) = refl
-known_ending (Err PastLimits) = refl
-known_ending (Err WriteFault) = refl
-known_ending (Err KeepFault) = refl
-known_ending (Err OutOfMemory) = refl
+known_stop : (stop : JudgeStop) → stop_with (judge_status_after stop) ≡ stop
+known_stop ReadFault = refl
+known_stop PastLimits = refl
+known_stop WriteFault = refl
+known_stop KeepFault = refl
+known_stop OutOfMemory = refl
+
+-- a status of what URLs come to, or of a refusal
+abbrev IsJudged : ℕ → Type 0
+IsJudged status = (status ≡ 0) ⊎ (status ≡ 5) ⊎ (status ≡ 20) ⊎ (status ≡ 21)
+
+judged_status : (refused : Bool) (judgement : Judgement) → IsJudged (if refused then 5 else judgement_status judgement)
+judged_status true judgement = inr (inl refl)
+judged_status false Safe = inl refl
+judged_status false Unsafe = inr (inr (inl refl))
+judged_status false Open = inr (inr (inr refl))
+
+no_stop : (stop : JudgeStop) (status : ℕ) → status ≡ judge_status_after stop → IsJudged status → ⊥
+no_stop ReadFault status told (inl h) = cc
+no_stop ReadFault status told (inr (inl h)) = cc
+no_stop ReadFault status told (inr (inr (inl h))) = cc
+no_stop ReadFault status told (inr (inr (inr h))) = cc
+no_stop PastLimits status told (inl h) = cc
+no_stop PastLimits status told (inr (inl h)) = cc
+no_stop PastLimits status told (inr (inr (inl h))) = cc
+no_stop PastLimits status told (inr (inr (inr h))) = cc
+no_stop WriteFault status told (inl h) = cc
+no_stop WriteFault status told (inr (inl h)) = cc
+no_stop WriteFault status told (inr (inr (inl h))) = cc
+no_stop WriteFault status told (inr (inr (inr h))) = cc
+no_stop KeepFault status told (inl h) = cc
+no_stop KeepFault status told (inr (inl h)) = cc
+no_stop KeepFault status told (inr (inr (inl h))) = cc
+no_stop KeepFault status told (inr (inr (inr h))) = cc
+no_stop OutOfMemory status told (inl h) = cc
+no_stop OutOfMemory status told (inr (inl h)) = cc
+no_stop OutOfMemory status told (inr (inr (inl h))) = cc
+no_stop OutOfMemory status told (inr (inr (inr h))) = cc
 
 -- a status that a stop has is of that stop
 pub judge_stop_of : (ending : Ending) (stop : JudgeStop) (status : ℕ) → status ≡ judge_status_of ending → status ≡ judge_status_after stop → IsErrOf ending stop
-judge_stop_of ending stop status told h = sym (known_ending ending) ∙ ap ending_with (sym told ∙ h) ∙ known_ending (Err stop)
+judge_stop_of (Ok outcome) stop status told h = absurd (no_stop stop status h (subst IsJudged (sym told) (judged_status outcome.refused outcome.judgement)))
+judge_stop_of (Err other) stop status told h = ap Err (sym (known_stop other) ∙ ap stop_with (sym told ∙ h) ∙ known_stop stop)
 
 -- a fault that is counted has its status
 pub judge_fault_of : {before after : ℕ} (ending : Ending) (stop : JudgeStop) (status : ℕ) → status ≡ judge_status_of ending
@@ -54,35 +88,46 @@ judge_unwritten ending status told read past (inr six) = past (judge_stop_of end
 
 -- ---- the statuses
 
+judged_known : (status : ℕ) → IsJudged status → IsStatus status × (status ≢ 1)
+judged_known status (inl h) = (inl h, λ other. cc)
+judged_known status (inr (inl h)) = (inr (inr (inr (inr (inr (inl h))))), λ other. cc)
+judged_known status (inr (inr (inl h))) = (inr (inr (inr (inr (inr (inr (inr (inr (inl h)))))))), λ other. cc)
+judged_known status (inr (inr (inr h))) = (inr (inr (inr (inr (inr (inr (inr (inr (inr h)))))))), λ other. cc)
+
 pub known_judging : (ending : Ending) (status : ℕ) → status ≡ judge_status_of ending → IsStatus status × (status ≢ 1)
-known_judging (Ok Safe) status told = (inl told, λ h. cc)
-known_judging (Ok Unsafe) status told = (inr (inr (inr (inr (inr (inr (inr (inr (inl told)))))))), λ h. cc)
-known_judging (Ok Open) status told = (inr (inr (inr (inr (inr (inr (inr (inr (inr told)))))))), λ h. cc)
+known_judging (Ok outcome) status told = judged_known status (subst IsJudged (sym told) (judged_status outcome.refused outcome.judgement))
 known_judging (Err ReadFault) status told = (inr (inr (inl told)), λ h. cc)
 known_judging (Err PastLimits) status told = (inr (inr (inr (inr (inr (inr (inl told)))))), λ h. cc)
 known_judging (Err WriteFault) status told = (inr (inr (inr (inl told))), λ h. cc)
 known_judging (Err KeepFault) status told = (inr (inr (inr (inr (inl told)))), λ h. cc)
 known_judging (Err OutOfMemory) status told = (inr (inr (inr (inr (inr (inr (inr (inl told))))))), λ h. cc)
 
--- where nothing hinders it, four are left
-judge_left_by : (plan : JudgePlan) (before after : Seen) (ending : Ending) (status : ℕ) → status ≡ judge_status_of ending → EndsJudging plan ending before after
-    → (status ≡ 2 → ⊥) → (status ≡ 3 → ⊥) → (status ≡ 4 → ⊥) → (GivesPast before.left after.left → ⊥) → (status ≡ 0) ⊎ (status ≡ 20) ⊎ (status ≡ 21) ⊎ (status ≡ 8)
-judge_left_by plan before after (Ok Safe) status told done two three four past = inl told
-judge_left_by plan before after (Ok Unsafe) status told done two three four past = inr (inl told)
-judge_left_by plan before after (Ok Open) status told done two three four past = inr (inr (inl told))
+-- where nothing hinders it, five are left
+abbrev AreLeft : ℕ → Type 0
+AreLeft status = (status ≡ 0) ⊎ (status ≡ 5) ⊎ (status ≡ 20) ⊎ (status ≡ 21) ⊎ (status ≡ 8)
+
+judged_left : (status : ℕ) → IsJudged status → AreLeft status
+judged_left status (inl h) = inl h
+judged_left status (inr (inl h)) = inr (inl h)
+judged_left status (inr (inr (inl h))) = inr (inr (inl h))
+judged_left status (inr (inr (inr h))) = inr (inr (inr (inl h)))
+
+judge_left_by : (plan : BesidePlan) (before after : Seen) (ending : Ending) (status : ℕ) → status ≡ judge_status_of ending → EndsBeside plan ending before after
+    → (status ≡ 2 → ⊥) → (status ≡ 3 → ⊥) → (status ≡ 4 → ⊥) → (GivesPast before.left after.left → ⊥) → AreLeft status
+judge_left_by plan before after (Ok outcome) status told done two three four past = judged_left status (subst IsJudged (sym told) (judged_status outcome.refused outcome.judgement))
 judge_left_by plan before after (Err ReadFault) status told done two three four past = absurd (two told)
 judge_left_by plan before after (Err PastLimits) status told done two three four past = absurd (past done.0)
 judge_left_by plan before after (Err WriteFault) status told done two three four past = absurd (three told)
 judge_left_by plan before after (Err KeepFault) status told done two three four past = absurd (four told)
-judge_left_by plan before after (Err OutOfMemory) status told done two three four past = inr (inr (inr told))
+judge_left_by plan before after (Err OutOfMemory) status told done two three four past = inr (inr (inr (inr told)))
 
-pub left_to_judge : {plan : JudgePlan} {status : ℕ} {before after : Seen} → IsJudgeRun plan status before after
-    → (status ≡ 2 → ⊥) → (status ≡ 3 → ⊥) → (status ≡ 4 → ⊥) → (GivesPast before.left after.left → ⊥) → (status ≡ 0) ⊎ (status ≡ 20) ⊎ (status ≡ 21) ⊎ (status ≡ 8)
+pub left_to_judge : {plan : BesidePlan} {status : ℕ} {before after : Seen} → IsJudgeRun plan status before after
+    → (status ≡ 2 → ⊥) → (status ≡ 3 → ⊥) → (status ≡ 4 → ⊥) → (GivesPast before.left after.left → ⊥) → AreLeft status
 left_to_judge {plan = plan} {status = status} {before = before} {after = after} run two three four past =
     judge_left_by plan before after run.ending status run.told run.done two three four past
 
 -- where memory was refused before anything was done
-pub judge_not_begun : (plan : JudgePlan) (seen : Seen) → IsJudgeRun plan 8 seen seen
+pub judge_not_begun : (plan : BesidePlan) (seen : Seen) → IsJudgeRun plan 8 seen seen
 judge_not_begun plan seen = record {
   ending = Err OutOfMemory;
   told = refl;
@@ -91,41 +136,28 @@ judge_not_begun plan seen = record {
 
 -- ---- the report
 
--- a status of what URLs come to
-abbrev IsJudged : ℕ → Type 0
-IsJudged status = (status ≡ 0) ⊎ (status ≡ 20) ⊎ (status ≡ 21)
-
-no_stop : (stop : JudgeStop) (status : ℕ) → status ≡ judge_status_after stop → IsJudged status → ⊥
-no_stop ReadFault status told (inl h) = cc
-no_stop ReadFault status told (inr (inl h)) = cc
-no_stop ReadFault status told (inr (inr h)) = cc
-no_stop PastLimits status told (inl h) = cc
-no_stop PastLimits status told (inr (inl h)) = cc
-no_stop PastLimits status told (inr (inr h)) = cc
-no_stop WriteFault status told (inl h) = cc
-no_stop WriteFault status told (inr (inl h)) = cc
-no_stop WriteFault status told (inr (inr h)) = cc
-no_stop KeepFault status told (inl h) = cc
-no_stop KeepFault status told (inr (inl h)) = cc
-no_stop KeepFault status told (inr (inr h)) = cc
-no_stop OutOfMemory status told (inl h) = cc
-no_stop OutOfMemory status told (inr (inl h)) = cc
-no_stop OutOfMemory status told (inr (inr h)) = cc
-
-judged_by : (plan : JudgePlan) (before after : Seen) (ending : Ending) (status : ℕ) → status ≡ judge_status_of ending → EndsJudging plan ending before after
-    → IsJudged status → (judgement : Judgement) × EndsBegun plan (Ok judgement) before after × (status ≡ judge_status_of (Ok judgement))
-judged_by plan before after (Ok judgement) status told done end = (judgement, done, told)
+judged_by : (plan : BesidePlan) (before after : Seen) (ending : Ending) (status : ℕ) → status ≡ judge_status_of ending → EndsBeside plan ending before after
+    → IsJudged status → (outcome : Outcome) × EndsOpened plan (Ok outcome) before after × (status ≡ judge_status_of (Ok outcome))
+judged_by plan before after (Ok outcome) status told done end = (outcome, done, told)
 judged_by plan before after (Err stop) status told done end = absurd (no_stop stop status told end)
 
-pub reports_rightly : (law : KeptRunsOfVerdictsHold) (waits : CasesKeepToWaits) (complete : JudgedAreComplete) (history : History) (token_at : Naming) (plan : JudgePlan) (status : ℕ) (before after : Seen)
+pub reports_rightly : (law : RunsOfVerdictsHold) (rounds : RoundsKeepToWaits) (waits : CasesKeepToWaits) (complete : JudgedAreComplete) (history : History) (token_at : Naming) (plan : BesidePlan) (status : ℕ) (before after : Seen)
     → IsJudgeRun plan status before after → IsWellFormed history → IsJudged status → ReportsRightly history token_at plan status before after
-reports_rightly law waits complete history token_at plan status before after run formed end =
+reports_rightly law rounds waits complete history token_at plan status before after run formed end =
     let judged = judged_by plan before after run.ending status run.told run.done end in
+    let whole = judged.1 in
+    let judges = whole.ends.judges.judged.judges in
     record {
-      judgement = judged.0;
-      run = judged.1;
+      outcome = judged.0;
+      run = whole;
       told = judged.2;
-      waits = waits plan _ _ _ judged.1.ends.judged.judges.cases judged.1.ends.judged.judges.are;
-      complete = complete plan _ _ _ _ _ _ _ _ _ judged.1.ends.judged.judges;
-      holds = λ safe. law history token_at plan judged.0 before after judged.1 formed safe;
+      update_waits = rounds _ _ plan.options plan.target plan.need_digest whole.ends.updated.rounds whole.ends.updated.made.are;
+      waits = waits (finds_of plan) _ _ _ judges.cases judges.are;
+      complete = complete (finds_of plan) _ _ _ _ _ _ _ _ _ judges;
+      holds = λ safe honest. law history token_at plan judged.0 before after whole formed safe honest;
     }
+
+-- ---- what is saved
+
+pub updates_hold : (law : JudgingsSaveReplicas) (plan : BesidePlan) (status : ℕ) (before after : Seen) → IsJudgeRun plan status before after → UpdatesHold plan before after
+updates_hold law plan status before after run = law plan run.ending before after run.done

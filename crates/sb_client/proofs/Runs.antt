@@ -21,7 +21,7 @@ use Rattle.input_lines.specs.Ending.{Ending}
 use Rattle.sb_client.specs.Ending.{run_status_after, run_status_of}
 use Rattle.sb_client.specs.Honest.{HoldsWhereHonest, KeepsStores}
 use Rattle.sb_client.specs.Runs.{AreCounted, EndsCounting, IsCountRun, IsFaultOf, IsJudgeRun, IsReplayRun, IsRunOf, IsShowRun, IsStatus, IsUpdateRun, judging_of}
-use Rattle.judge_run.specs.declared.plan.JudgePlan.{JudgePlan}
+use Rattle.judge_beside.specs.declared.plan.BesidePlan.{BesidePlan}
 use Rattle.sb_client.proofs.Endings.{known_status, no_fault}
 use Rattle.sb_client.proofs.Judgings.{known_judging}
 
@@ -161,7 +161,7 @@ module _ (status : ℕ) (left left' : Option (List (List ℕ))) (faults faults' 
   pub run_of_plan : (command : Command) (plan : Plan) → command ≡ Run plan → IsRunOf command status left left' faults faults' before after → IsUpdateRun plan status before after
   run_of_plan command plan e run = subst (λ (command : Command). IsRunOf command status left left' faults faults' before after) e run
 
-  pub run_of_judge : (command : Command) (plan : JudgePlan) → command ≡ Judge plan → IsRunOf command status left left' faults faults' before after
+  pub run_of_judge : (command : Command) (plan : BesidePlan) → command ≡ Judge plan → IsRunOf command status left left' faults faults' before after
       → IsJudgeRun plan status (judging_of left faults before) (judging_of left' faults' after)
   run_of_judge command plan e run = subst (λ (command : Command). IsRunOf command status left left' faults faults' before after) e run
 

@@ -1,6 +1,6 @@
 -- The command lines that the client takes.
 use Rattle.std.proofs.Common.{refl, leb-true}
-use Rattle.std.specs.Prelude.{ℕ, ◌*◌, ◌&&◌, not, ◌≡◌, ◌<◌, ◌≤◌, nat_le, length, Bool, true, false, is_some, if◌then◌else◌, List, [], ◌∷◌, Option, Some, None, option_map, option_and_then, codes}
+use Rattle.std.specs.Prelude.{ℕ, ◌*◌, ◌&&◌, ◌||◌, not, ◌≡◌, ◌<◌, ◌≤◌, nat_le, nat_lt, length, Bool, true, false, is_some, if◌then◌else◌, List, [], ◌∷◌, Option, Some, None, option_map, option_and_then, codes}
 use Rattle.std.specs.Option.{option_or}
 use Rattle.std.specs.Str.{bytes_eq, chars}
 use Rattle.sb_model.specs.declared.names.ListName.{ListName}
@@ -11,7 +11,7 @@ use Rattle.http_edge.specs.Exchanges.{IsTarget}
 use Rattle.http_edge.specs.declared.messages.Target.{Target}
 use Rattle.update_client.specs.declared.options.FetchOptions.{FetchOptions}
 use Rattle.update_run.specs.declared.plan.Plan.{Plan}
-use Rattle.judge_run.specs.declared.plan.JudgePlan.{JudgePlan}
+use Rattle.judge_beside.specs.declared.plan.BesidePlan.{BesidePlan}
 use Rattle.sb_client.specs.declared.command.Command.{Command}
 use Rattle.sb_client.specs.declared.command.Command.TheVariants.{Replay, Run, Judge, Show, Vectors}
 
@@ -186,12 +186,13 @@ judge_shape = record {
   takes_positionals = true;
 }
 
--- There are no updates beside the judging, and one worker.
+-- how many rounds of updates are made beside the checks: up to 16, and none where the words do not say
 abbrev pub updates_given : List (Text × Text) → Option ℕ
-updates_given named = number_given (codes "update") 0 0 0 named
+updates_given named = number_given (codes "update") 0 16 0 named
 
+-- on how many threads URLs are checked: 1 to 16, and one where the words do not say
 abbrev pub workers_given : List (Text × Text) → Option ℕ
-workers_given named = number_given (codes "workers") 1 1 1 named
+workers_given named = number_given (codes "workers") 1 16 1 named
 
 -- how many seconds a find is waited for at most: up to a day, and a minute where the words do not say
 abbrev pub patience_given : List (Text × Text) → Option ℕ
@@ -201,15 +202,18 @@ patience_given named = number_given (codes "patience") 0 86400 60 named
 pub record JudgeWords : Type 0 where
   pub store : Text
   pub server : Text
-  pub plan : JudgePlan
+  pub plan : BesidePlan
 
 -- The patience of a plan is in milliseconds.
-abbrev pub judge_words : Asking → List ListName → (seconds : ℕ) → JudgeWords
-judge_words asking names seconds = record {
+abbrev pub judge_words : Asking → List ListName → (rounds workers seconds : ℕ) → JudgeWords
+judge_words asking names rounds workers seconds = record {
   store = asking.store;
   server = asking.server;
   plan = record {
     names = names;
+    rounds = rounds;
+    workers = workers;
+    options = asking.options;
     target = target_of asking;
     need_digest = asking.need_digest;
     patience = 1000 * seconds;
@@ -219,8 +223,8 @@ judge_words asking names seconds = record {
 -- what the options say, for these lists
 abbrev pub judge_with : List ListName → List (Text × Text) → Option JudgeWords
 judge_with names named =
-    option_and_then (λ asking. option_and_then (λ _. option_and_then (λ _. option_map
-    (λ seconds. judge_words asking names seconds)
+    option_and_then (λ asking. option_and_then (λ rounds. option_and_then (λ workers. option_map
+    (λ seconds. judge_words asking names rounds workers seconds)
     (patience_given named))
     (workers_given named))
     (updates_given named))
@@ -241,6 +245,15 @@ store_of words = option_or (option_map (λ (line : RunWords). line.store) (run_o
 
 abbrev pub server_of : List Text → Option Text
 server_of words = option_or (option_map (λ (line : RunWords). line.server) (run_of words)) (option_map (λ (line : JudgeWords). line.server) (judge_of words))
+
+-- whether a command line of `judge` has updates
+abbrev pub has_updates : Option JudgeWords → Bool
+has_updates None = false
+has_updates (Some line) = nat_lt 0 line.plan.rounds
+
+-- Words of `run` replace the store, and words of `judge` that have updates.
+abbrev pub replaces_store : List Text → Bool
+replaces_store words = is_some (run_of words) || has_updates (judge_of words)
 
 -- ---- the other commands of `sbcheck`, and other words
 
@@ -271,10 +284,13 @@ IsCommandOf words (Some Vectors) = asks_vectors words ≡ true
 abbrev pub AreFew : List ListName → Type 0
 AreFew names = (0 < length names) × (length names ≤ 8)
 
--- What a command keeps to: its lists are 1 to 8, and the host and the key that it asks with stand each in one line.
+abbrev pub AreWorkers : ℕ → Type 0
+AreWorkers workers = (1 ≤ workers) × (workers ≤ 16)
+
+-- What a command keeps to: its lists are 1 to 8, the host and the key that it asks with stand each in one line, and its workers are 1 to 16.
 abbrev pub IsSound : Command → Type 0
 IsSound (Replay names) = AreFew names
 IsSound (Run plan) = AreFew plan.names × IsTarget plan.target
-IsSound (Judge plan) = AreFew plan.names × IsTarget plan.target
+IsSound (Judge plan) = AreFew plan.names × IsTarget plan.target × AreWorkers plan.workers
 IsSound Show = Unit {0}
 IsSound Vectors = Unit {0}

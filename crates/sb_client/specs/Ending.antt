@@ -6,7 +6,7 @@ use Rattle.input_lines.specs.declared.stop.Stop.TheVariants.{ReadFault, WriteFau
 use Rattle.update_run.specs.Run.{RunEnding}
 use Rattle.update_run.specs.declared.stop.RunStop.{RunStop}
 use Rattle.update_run.specs.declared.stop.RunStop.TheVariants as stop
-use Rattle.judge_run.specs.Run.{Ending as JudgeEnding}
+use Rattle.judge_beside.specs.Run.{Ending as JudgeEnding}
 use Rattle.judge_run.specs.declared.judgement.Judgement.{Judgement}
 use Rattle.judge_run.specs.declared.judgement.Judgement.TheVariants as judgement
 use Rattle.judge_run.specs.declared.stop.JudgeStop.{JudgeStop}
@@ -48,9 +48,9 @@ abbrev pub run_status_of : RunEnding → ℕ
 run_status_of (Ok refused) = if refused then 5 else 0
 run_status_of (Err stop) = run_status_after stop
 
--- and of the end of a run that judges URLs
+-- and of the end of a run that judges URLs, where a refusal of its updates has 5, whatever its URLs come to
 abbrev pub judge_status_of : JudgeEnding → ℕ
-judge_status_of (Ok judgement) = judgement_status judgement
+judge_status_of (Ok outcome) = if outcome.refused then 5 else judgement_status outcome.judgement
 judge_status_of (Err stop) = judge_status_after stop
 
 -- ---- a command that reads its input to the end, and then writes a text of it

@@ -6,8 +6,9 @@ use Rattle.sb_outside.specs.Outside.{appended, Rose}
 use Rattle.sb_outside.specs.Writing.{HasFront}
 use Rattle.update_run.specs.Run.{Seen, RunEnding, EndsRun}
 use Rattle.update_run.specs.declared.plan.Plan.{Plan}
-use Rattle.judge_run.specs.Run.{Seen as JudgeSeen, Ending as JudgeEnding, EndsJudging, seen as judging}
-use Rattle.judge_run.specs.declared.plan.JudgePlan.{JudgePlan}
+use Rattle.judge_run.specs.Run.{Seen as JudgeSeen, seen as judging}
+use Rattle.judge_beside.specs.Run.{Ending as JudgeEnding, EndsBeside}
+use Rattle.judge_beside.specs.declared.plan.BesidePlan.{BesidePlan}
 use Rattle.sb_client.specs.declared.command.Command.{Command}
 use Rattle.sb_client.specs.declared.command.Command.TheVariants.{Replay, Run, Judge, Show, Vectors}
 use Rattle.input_lines.specs.declared.stop.Stop.TheVariants.{WriteFault, OutOfMemory}
@@ -70,11 +71,12 @@ pub record IsUpdateRun (plan : Plan) (status : ℕ) (before after : Seen) : Type
 
 -- ---- `judge`
 
--- the URLs of the input are judged by the lists that are kept; 20 tells of an unsafe one, and 21 that none is, and one is open
-pub record IsJudgeRun (plan : JudgePlan) (status : ℕ) (before after : JudgeSeen) : Type 0 where
+-- the URLs of the input are judged, each by one of the publications of the lists; 5 tells of a refusal, or of a round without a response,
+-- 20 of an unsafe URL, and 21 that none is, and one is open
+pub record IsJudgeRun (plan : BesidePlan) (status : ℕ) (before after : JudgeSeen) : Type 0 where
   pub ending : JudgeEnding
   pub told : status ≡ judge_status_of ending
-  pub done : EndsJudging plan ending before after
+  pub done : EndsBeside plan ending before after
 
 -- what a run that judges URLs sees besides: what the input has left, and how many faults the link counts
 abbrev pub judging_of : Option (List (List ℕ)) → ℕ → Seen → JudgeSeen

@@ -12,7 +12,7 @@ ghost use Rattle.update_run.specs.Run.{seen};
 ghost use Rattle.http_edge.specs.Exchanges.{IsTarget};
 ghost use Rattle.honest_runs.specs.Replicas.{HandsReplicas, TellsReplicas};
 ghost use Rattle.update_run.specs.declared.plan.Plan.{Plan as PlanOf};
-ghost use Rattle.judge_run.specs.declared.plan.JudgePlan.{JudgePlan};
+ghost use Rattle.judge_beside.specs.declared.plan.BesidePlan.{BesidePlan};
 ghost use Rattle.judge_run.specs.Run.{seen as judging};
 ghost use Rattle.sb_client.specs.Command.{replay_of, run_of, judge_of, asks_show, asks_vectors, IsNoCommand, IsSound, JudgeWords, RunWords};
 ghost use Rattle.input_lines.specs.Lines.{lines_of, IsWithinLimits};
@@ -25,6 +25,7 @@ ghost use Rattle.served_runs.specs.Answered.{IsAnsweredIn};
 ghost use Rattle.sb_outside.specs.declared.links.Session.{Session};
 ghost use Rattle.sb_client.specs.Runs.{AreCounted, HasNoFault, IsCountRun, IsFaultOf, IsJudgeRun, IsReplayRun, IsRunOf, IsShowRun, IsStatus, IsUpdateRun, IsUsageRun};
 ghost use Rattle.sb_client.specs.Usage.{usage_of};
+ghost use Rattle.judged_runs.specs.Saving.{UpdatesHold};
 ghost use Rattle.sb_client.specs.Judged.{ReportsRightly};
 
 use crate::command::{Command, command_of};
@@ -35,10 +36,10 @@ use crate::vectors::vectors;
 use honest_runs::runs_hold;
 use input_lines::{Stop, fronts_are_within};
 use judge_run::cases_keep_to_waits;
-use judged_runs::{judged_urls_are_decided, runs_of_verdicts_hold};
+use judged_runs::{judged_urls_are_decided, judgings_save_replicas, runs_of_verdicts_hold};
 use sb_model::{ListName, OutOfMemory};
 use sb_outside::{Clock, Dice, Gate, Keeper, Link, Sink, Source};
-use sb_round::rounds_are_their_sessions;
+use sb_round::{rounds_are_their_sessions, rounds_keep_to_waits};
 use served_runs::{answered_runs_are_complete, answered_runs_keep_versions};
 use std::alloc::Global;
 use std::sync::Wait;
@@ -158,7 +159,17 @@ fn vectors_status<O: Sink>(alloc: Global, out: &mut O) -> u8
 }
 
 /// Runs a command, and answers the exit status.
-fn run_command<S: Source, O: Sink, K: Keeper, L: Link, C: Clock, D: Dice, G: Gate>(
+fn run_command<
+    R: Threads + Wait + Sync,
+    S: Source,
+    O: Sink,
+    K: Keeper,
+    L: Link,
+    C: Clock,
+    D: Dice,
+    G: Gate + Sync,
+>(
+    rt: &R,
     alloc: Global,
     command: Command,
     input: &mut S,
@@ -169,17 +180,17 @@ fn run_command<S: Source, O: Sink, K: Keeper, L: Link, C: Clock, D: Dice, G: Gat
     dice: &mut D,
     gate: &G,
 ) -> u8
-    requires { IsSound command }
+    requires sound { IsSound command }
     ensures does { IsRunOf command result (S.left input.old) (S.left input.new) (L.faults link.old) (L.faults link.new)
         (seen (outside (L.log link.old) (C.answers clock.old) (C.waits clock.old) (D.given dice.old))
         (keeping (K.handed keep.old) (K.kept keep.old)) (O.contents out.old))
         (seen (outside (L.log link.new) (C.answers clock.new) (C.waits clock.new) (D.given dice.new))
         (keeping (K.handed keep.new) (K.kept keep.new)) (O.contents out.new)) }
-    ensures unread { ((names : List ListName) → command ≢ Command.Replay names) → ((plan : JudgePlan) → command ≢ Command.Judge plan)
+    ensures unread { ((names : List ListName) → command ≢ Command.Replay names) → ((plan : BesidePlan) → command ≢ Command.Judge plan)
         → command ≢ Command.Show → input.new ≡ input.old }
     ensures unwritten { (result ≡ 2) ⊎ (result ≡ 6) → out.new ≡ out.old }
     ensures memory { command ≡ Command.Vectors → result ≡ 8 → out.new ≡ out.old }
-    ensures untouched { ((plan : PlanOf) → command ≢ Command.Run plan) → ((plan : JudgePlan) → command ≢ Command.Judge plan)
+    ensures untouched { ((plan : PlanOf) → command ≢ Command.Run plan) → ((plan : BesidePlan) → command ≢ Command.Judge plan)
         → (keep.new ≡ keep.old) × (link.new ≡ link.old) × (clock.new ≡ clock.old) × (dice.new ≡ dice.old) }
     ensures counts { AreCounted result (S.faults input.old) (S.faults input.new) (O.faults out.old) (O.faults out.new)
         (K.faults keep.old) (K.faults keep.new) }
@@ -187,7 +198,9 @@ fn run_command<S: Source, O: Sink, K: Keeper, L: Link, C: Clock, D: Dice, G: Gat
     match command {
         Command::Replay(names) => replay_status(alloc, names.as_slice(), input, out),
         Command::Run(plan) => run_status(alloc, &plan, out, keep, link, clock, dice, gate),
-        Command::Judge(plan) => judge_status(alloc, &plan, input, out, keep, link, clock, dice),
+        Command::Judge(plan) => judge_status(
+            rt, alloc, &plan, input, out, keep, link, clock, dice, gate,
+        ),
         Command::Show => show_status(alloc, input, out),
         Command::Vectors => vectors_status(alloc, out),
     }
@@ -204,15 +217,19 @@ fn run_command<S: Source, O: Sink, K: Keeper, L: Link, C: Clock, D: Dice, G: Gat
 /// one, and writes what became of each round and at the end a line for each list. Where they say no number of rounds, it makes
 /// 4,294,967,295. What was printed is written before each round, and then the gate is passed.
 ///
-/// `judge` reads the input likewise, takes each line as a URL, loads the lists that the keeper keeps, looks each URL up in order and asks
-/// the server where a hit has to be asked for, once the waits allow it and at most for the patience that the words say; and it writes
-/// a line for each URL and a summary. The keeper is handed nothing. A find that fails leaves its URL undecided.
+/// `judge` reads the input likewise, takes each line as a URL, loads the lists that the keeper keeps, and publishes them as publication 0.
+/// It checks the URLs on as many threads as the words say, and makes as many rounds of updates beside as they say, each as `run` does: after
+/// a round that installed a list the keeper keeps the lists, and then they are published. Each URL is judged by the one publication that its
+/// check saw: the server is asked where a hit has to be asked for, once the waits allow it and at most for the patience that the words say.
+/// It writes what became of each round, then a line for each URL, with the number of its publication, and a summary. With no updates, which
+/// is so where the words say none, the keeper is handed nothing. A find that fails leaves its URL undecided.
 ///
 /// `show` reads the input likewise, takes each line as a URL, and writes its canonical text and its expressions, each
 /// after its SHA-256. `vectors` reads nothing, and writes how many of the published examples are met. Neither these nor `replay` use the
-/// keeper, the link, the clock or the dice, `run` does not use the input, and `run` alone uses the gate.
+/// keeper, the link, the clock or the dice, `run` does not use the input, and `run` and `judge` alone use the gate.
 ///
-/// `rt` is a handle for threads and for waiting. No command takes it today.
+/// `rt` is a handle for threads and for waiting. `judge` alone takes it, where it has updates or more than one worker: its threads have ended
+/// when it ends, in each case.
 ///
 /// | Status | Comes |
 /// |---|---|
@@ -221,11 +238,11 @@ fn run_command<S: Source, O: Sink, K: Keeper, L: Link, C: Clock, D: Dice, G: Gat
 /// | 2 | only where the input's count of faults rose |
 /// | 3 | only where the output's count of faults rose |
 /// | 4 | only where the keeper's count of faults rose |
-/// | 5 | exactly where a line of a replay or a response of a run has no reading or an update that is refused, or a round of a run brought no response, and the run came to its end |
+/// | 5 | exactly where a line of a replay or a response of a round has no reading or an update that is refused, or a round brought no response, and the command came to its end |
 /// | 6 | only where the input passes 201,326,592 bytes or 65,536 lines before its end or a fault |
 /// | 8 | where memory was refused |
-/// | 20 | exactly where a URL is judged unsafe, and the run came to its end |
-/// | 21 | exactly where a URL that is shown has no canonical form, or none is judged unsafe and one is undecided or has no canonical form, or an example is not met, and the run came to its end |
+/// | 20 | exactly where a URL is judged unsafe, no round gives 5, and the run came to its end |
+/// | 21 | exactly where a URL that is shown has no canonical form, or none is judged unsafe, one is undecided or has no canonical form and no round gives 5, or an example is not met, and the run came to its end |
 pub fn run_client<
     R: Threads + Wait + Sync,
     S: Source,
@@ -236,7 +253,7 @@ pub fn run_client<
     D: Dice,
     G: Gate + Sync,
 >(
-    _rt: &R,
+    rt: &R,
     alloc: Global,
     words: &[String],
     input: &mut S,
@@ -303,7 +320,7 @@ pub fn run_client<
         → S.left input.old ≡ Some pieces → IsWithinLimits (next_piece pieces)
         → HasNoFault (S.faults input.old) (S.faults input.new) → HasNoFault (O.faults out.old) (O.faults out.new)
         → HasNoFault (K.faults keep.old) (K.faults keep.new)
-        → (result ≡ 0) ⊎ (result ≡ 20) ⊎ (result ≡ 21) ⊎ (result ≡ 8) }
+        → (result ≡ 0) ⊎ (result ≡ 5) ⊎ (result ≡ 20) ⊎ (result ≡ 21) ⊎ (result ≡ 8) }
 
     // The headline: where the bodies that the source tells are honest and no digest collides, each list that a
     // replay prints is the server's at the version that its token names, or is empty without a token.
@@ -374,12 +391,22 @@ pub fn run_client<
         (seen (outside (L.log link.new) (C.answers clock.new) (C.waits clock.new) (D.given dice.new))
         (keeping (K.handed keep.new) (K.kept keep.new)) (O.contents out.new)) }
 
-    // The headline of a judging: where it came to its end, its finds kept to their waits, and each URL is decided where nothing had to be asked
-    // or its find was allowed, passed and read; and where it began with replicas of the server's lists, each verdict whose deciding answers
-    // were faithful to these is borne out, and equals a look-up in the full lists where no hit was left open. These verdicts are what was
-    // printed. Nothing is asked of answers that did not decide the verdict that is spoken of.
+    // The headline of a judging's updates: wherever the run ends, where it began with replicas of the server's lists, and the updates that it
+    // made are honest and no digest collides, each text that the keeper is handed is the store of replicas, and what it keeps is what it
+    // kept, or no store, or reads as replicas.
+    ensures judge_saves { (line : JudgeWords) → judge_of (map string_bytes words.now) ≡ Some line → UpdatesHold line.plan
+        (judging (S.left input.old) (outside (L.log link.old) (C.answers clock.old) (C.waits clock.old) (D.given dice.old))
+        (L.faults link.old) (keeping (K.handed keep.old) (K.kept keep.old)) (O.contents out.old))
+        (judging (S.left input.new) (outside (L.log link.new) (C.answers clock.new) (C.waits clock.new) (D.given dice.new))
+        (L.faults link.new) (keeping (K.handed keep.new) (K.kept keep.new)) (O.contents out.new)) }
+
+    // The headline of a judging: where it came to its end, its updates and its finds kept to their waits, and each URL is decided where
+    // nothing had to be asked or its find was allowed, passed and read. Where it began with replicas of the server's lists, and the updates
+    // that it made are honest and no digest collides, the lists of each publication are replicas; then each verdict whose deciding answers
+    // were faithful to the publication that it names is borne out, and equals a look-up in the full lists where no hit was left open. These
+    // verdicts are what was printed. Nothing is asked of answers that did not decide the verdict that is spoken of.
     ensures verdicts { (line : JudgeWords) (history : History) (token_at : Naming) → judge_of (map string_bytes words.now) ≡ Some line
-        → IsWellFormed history → (result ≡ 0) ⊎ (result ≡ 20) ⊎ (result ≡ 21) → ReportsRightly history token_at line.plan result
+        → IsWellFormed history → (result ≡ 0) ⊎ (result ≡ 5) ⊎ (result ≡ 20) ⊎ (result ≡ 21) → ReportsRightly history token_at line.plan result
         (judging (S.left input.old) (outside (L.log link.old) (C.answers clock.old) (C.waits clock.old) (D.given dice.old))
         (L.faults link.old) (keeping (K.handed keep.old) (K.kept keep.old)) (O.contents out.old))
         (judging (S.left input.new) (outside (L.log link.new) (C.answers clock.new) (C.waits clock.new) (D.given dice.new))
@@ -392,10 +419,14 @@ pub fn run_client<
     answered_runs_are_complete();
     answered_runs_keep_versions();
     runs_of_verdicts_hold();
+    judgings_save_replicas();
     cases_keep_to_waits();
+    rounds_keep_to_waits();
     judged_urls_are_decided();
     match command_of(alloc, words) {
-        Ok(Some(command)) => run_command(alloc, command, input, out, keep, link, clock, dice, gate),
+        Ok(Some(command)) => run_command(
+            rt, alloc, command, input, out, keep, link, clock, dice, gate,
+        ),
         Ok(None) => tell_usage(words, out),
         Err(OutOfMemory) => 8,
     }

@@ -4,7 +4,7 @@ ghost use Rattle.sb_client.specs.Command.{asking_of, bare_shape, judge_given, ju
 
 use crate::judge_words::judge_plan;
 use crate::options::{Asking, are_words, asking_in, target_of};
-use judge_run::JudgePlan;
+use judge_beside::BesidePlan;
 use sb_model::{ListName, OutOfMemory, Row};
 use sb_words::{OptionKind, OptionShape, Shape, Words, lists, number, read_words};
 use std::alloc::Global;
@@ -75,7 +75,7 @@ pub(crate) enum Command {
     /// A run of a client.
     Run(Plan),
     /// A run that judges URLs.
-    Judge(JudgePlan),
+    Judge(BesidePlan),
     Show,
     Vectors,
 }

@@ -1,15 +1,19 @@
-ghost use Rattle.std.specs.Prelude.{◌≡◌, ◌⊎◌, ◌≤◌, ◌<◌, length};
+ghost use Rattle.std.specs.Prelude.{◌≡◌, ◌⊎◌, ◌≤◌, length};
 ghost use Rattle.http_edge.specs.Exchanges.{IsTarget};
 ghost use Rattle.timed_sessions.specs.Told.{outside};
 ghost use Rattle.update_client.specs.Held.{most_lists};
 ghost use Rattle.update_run.specs.Saved.{keeping};
 ghost use Rattle.judge_run.specs.Run.{seen as judging};
+ghost use Rattle.sb_client.specs.Command.{AreWorkers};
 ghost use Rattle.sb_client.specs.Ending.{judge_status_after, judge_status_of, judgement_status};
 ghost use Rattle.sb_client.specs.Runs.{IsFaultOf, IsJudgeRun};
 
-use judge_run::{JudgePlan, JudgeStop, Judgement, judge};
-use sb_outside::{Clock, Dice, Keeper, Link, Sink, Source};
+use judge_beside::{BesidePlan, Outcome, judge};
+use judge_run::{JudgeStop, Judgement};
+use sb_outside::{Clock, Dice, Gate, Keeper, Link, Sink, Source};
 use std::alloc::Global;
+use std::sync::Wait;
+use std::thread::Threads;
 
 /// The exit status of what URLs come to.
 fn status_of_judgement(judgement: Judgement) -> u8
@@ -36,28 +40,41 @@ fn status_of_judge_stop(stop: JudgeStop) -> u8
 }
 
 /// The exit status of a run that judges URLs.
-fn judge_exit_status(ending: Result<Judgement, JudgeStop>) -> u8
+fn judge_exit_status(ending: Result<Outcome, JudgeStop>) -> u8
     ensures { result ≡ judge_status_of ending }
 {
     match ending {
-        Ok(judgement) => status_of_judgement(judgement),
+        Ok(outcome) if outcome.refused => 5,
+        Ok(outcome) => status_of_judgement(outcome.judgement),
         Err(stop) => status_of_judge_stop(stop),
     }
 }
 
 /// Judges the URLs of the input, and answers the exit status.
-pub(crate) fn judge_status<S: Source, O: Sink, K: Keeper, L: Link, C: Clock, D: Dice>(
+pub(crate) fn judge_status<
+    R: Threads + Wait + Sync,
+    S: Source,
+    O: Sink,
+    K: Keeper,
+    L: Link,
+    C: Clock,
+    D: Dice,
+    G: Gate + Sync,
+>(
+    rt: &R,
     alloc: Global,
-    plan: &JudgePlan,
+    plan: &BesidePlan,
     input: &mut S,
     out: &mut O,
     keep: &mut K,
     link: &mut L,
     clock: &mut C,
     dice: &mut D,
+    gate: &G,
 ) -> u8
     requires few { length plan.now.names ≤ most_lists }
     requires target { IsTarget plan.now.target }
+    requires workers { AreWorkers plan.now.workers }
     ensures judges { IsJudgeRun plan.now result
         (judging (S.left input.old) (outside (L.log link.old) (C.answers clock.old) (C.waits clock.old) (D.given dice.old))
         (L.faults link.old) (keeping (K.handed keep.old) (K.kept keep.old)) (O.contents out.old))
@@ -68,5 +85,5 @@ pub(crate) fn judge_status<S: Source, O: Sink, K: Keeper, L: Link, C: Clock, D: 
     ensures written { IsFaultOf 3 result (O.faults out.old) (O.faults out.new) }
     ensures saved { IsFaultOf 4 result (K.faults keep.old) (K.faults keep.new) }
 {
-    judge_exit_status(judge(alloc, plan, input, out, keep, link, clock, dice))
+    judge_exit_status(judge(rt, alloc, plan, input, out, keep, link, clock, dice, gate))
 }

@@ -10,8 +10,8 @@ pub const UPDATE_USAGE: &str = "usage: sbupdate COMMAND
 /// What `sbcheck` prints where the words are no command line.
 pub const CHECK_USAGE: &str = "usage: sbcheck COMMAND
 
-  sbcheck judge --store PATH --server HOST:PORT [--patience SECONDS] [--key KEY] [--no-digest] LIST...
-      judges the URLs of standard input, one a line, by the lists of a store
+  sbcheck judge --store PATH --server HOST:PORT [--update N] [--workers N] [--patience SECONDS] [--key KEY] [--max-update N] [--max-database N] [--raw-only] [--no-digest] LIST...
+      judges the URLs of standard input, one a line, by the lists of a store, which may be updated meanwhile
   sbcheck show
       prints the canonical form of the URLs of standard input, one a line, and their expressions with the hash of each
   sbcheck vectors

@@ -26,14 +26,14 @@ use Rattle.sb_round.specs.Run.{lists_after}
 use Rattle.update_run.specs.Opening.{first_lists, lists_from, HasLoaded, HasOpened}
 use Rattle.update_run.specs.Printed.{ignored_text, list_line}
 use Rattle.update_run.specs.Run.{Seen, seen, HasMade, IsLoaded, IsRun, RunEnding, EndsRun, StopsAtSave, StopsAfter, BreaksOffAfter}
-use Rattle.update_run.specs.Rounding.{TakesAllRounds, StopsAfterRounds, BreaksOffAfterRounds, FailsAfterRounds, StopsRounds, EndsRounds, EndsFrom, text_so_far, whole_text}
+use Rattle.update_run.specs.Rounding.{TakesAllRounds, StopsAfterRounds, BreaksOffAfterRounds, FailsAfterRounds, StopsRounds, EndsRounds, EndsFrom, text_so_far, text_until, whole_text}
 use Rattle.update_run.specs.Saved.{Keeping, keeping, saved_lists}
 use Rattle.update_run.specs.declared.client.Client.{Client}
 use Rattle.update_run.specs.declared.plan.Plan.{Plan}
 use Rattle.update_run.specs.declared.stop.RunStop.{RunStop}
 use Rattle.update_run.specs.declared.stop.RunStop.TheVariants as stop
 use Rattle.update_run.proofs.Entries.{told_nothing}
-use Rattle.update_run.proofs.Ways.{way_ends, way_longer, front_after}
+use Rattle.update_run.proofs.Ways.{way_ends, way_longer, front_after, front_of_more}
 
 -- ---- there is a list
 
@@ -113,7 +113,7 @@ until_all count all text whole same = go (nat_lt count all) (none count all same
 
 ends_short : (plan : Plan) (client client' : Client) (o o' : Outside) (k k' : Keeping) (h h' h'' : Option (List ℕ)) (refused : Bool)
     → TakesAllRounds plan client client' (seen o k h) (seen o' k' h') refused → HasFront h' h'' (client'.page ++ flat_map list_line client'.lists)
-    → StopsAfterRounds plan client (seen o k h) (seen o' k' h'')
+    → StopsAfterRounds plan client (text_until plan.rounds client) (seen o k h) (seen o' k' h'')
 ends_short plan client client' o o' k k' h h' h'' refused all front =
     let takes = all.takes in
     let before = text_so_far client all.rounds in
@@ -132,10 +132,39 @@ ends_short plan client client' o o' k k' h h' h'' refused all front =
 
 pub ends_if : (why : RunStop) (plan : Plan) (client client' : Client) (o o' : Outside) (k k' : Keeping) (h h' h'' : Option (List ℕ)) (refused : Bool)
     → why ≢ stop.KeepFault → TakesAllRounds plan client client' (seen o k h) (seen o' k' h') refused → HasFront h' h'' (client'.page ++ flat_map list_line client'.lists)
-    → StopsRounds why plan client (seen o k h) (seen o' k' h'')
+    → StopsRounds why plan client (text_until plan.rounds client) (seen o k h) (seen o' k' h'')
 ends_if stop.WriteFault plan client client' o o' k k' h h' h'' refused other all front = ends_short plan client client' o o' k k' h h' h'' refused all front
 ends_if stop.KeepFault plan client client' o o' k k' h h' h'' refused other all front = absurd (other refl)
 ends_if stop.OutOfMemory plan client client' o o' k k' h h' h'' refused other all front = inl (ends_short plan client client' o o' k k' h h' h'' refused all front)
+
+-- a front of the rounds' text is one of the text up to the stop
+until_more : (more : Bool) (before after : Option (List ℕ)) (text lines : List ℕ) → HasFront before after text → HasFront before after (if more then text else text ++ lines)
+until_more true before after text lines front = front
+until_more false before after text lines front = front_of_more text lines front
+
+until : (all : ℕ) (client : Client) (rounds : List Round) (before after : Option (List ℕ)) → HasFront before after (text_so_far client rounds) → HasFront before after (text_until all client rounds)
+until all client rounds before after front =
+    until_more (nat_lt (length rounds) all) before after (text_so_far client rounds) (flat_map list_line (lists_after client.lists (map body_of rounds))) front
+
+after_until : (plan : Plan) (client : Client) (before after : Seen) → StopsAfterRounds plan client (text_so_far client) before after → StopsAfterRounds plan client (text_until plan.rounds client) before after
+after_until plan client before after stops = record {
+  rounds = stops.rounds;
+  few = stops.few;
+  lists = stops.lists;
+  waits = stops.waits;
+  made = stops.made;
+  stores = stops.stores;
+  most = stops.most;
+  saved = stops.saved;
+  front = until plan.rounds client stops.rounds before.held after.held stops.front;
+}
+
+pub stops_until : (why : RunStop) (plan : Plan) (client : Client) (before after : Seen)
+    → StopsRounds why plan client (text_so_far client) before after → StopsRounds why plan client (text_until plan.rounds client) before after
+stops_until stop.WriteFault plan client before after stops = after_until plan client before after stops
+stops_until stop.KeepFault plan client before after stops = stops
+stops_until stop.OutOfMemory plan client before after (inl stops) = inl (after_until plan client before after stops)
+stops_until stop.OutOfMemory plan client before after (inr breaks) = inr breaks
 
 -- ---- from what was kept on
 
@@ -162,7 +191,7 @@ module _ (plan : Plan) (kept : Option (List ℕ)) (waits : WaitState) (before : 
       refusal = ends.refusal;
     }
 
-    ran_short : StopsAfterRounds plan (first_client plan kept waits) (seen opened before.keeper before.held) after → StopsAfter plan before after
+    ran_short : StopsAfterRounds plan (first_client plan kept waits) (text_until plan.rounds (first_client plan kept waits)) (seen opened before.keeper before.held) after → StopsAfter plan before after
     ran_short stops = record {
       kept = kept;
       loaded = loaded;

@@ -1,21 +1,19 @@
 -- Where a client stops, after some rounds.
-use Rattle.std.proofs.Common.{◌≡◌, ◌+◌, ◌≤◌, ℕ, List, [], ◌∷◌, ◌++◌, Bool, true, false, length, map, refl, sym, ap, ◌∙◌, subst, inl, inr, append_assoc, arith}
-use Rattle.std.specs.Prelude.{nat_lt, if◌then◌else◌, Option, IsTrue}
-use Rattle.std.specs.List.{flat_map}
+use Rattle.std.proofs.Common.{◌≡◌, ◌+◌, ◌≤◌, ℕ, List, [], ◌∷◌, ◌++◌, Bool, true, false, length, refl, sym, ap, ◌∙◌, subst, inl, inr, append_assoc, arith}
+use Rattle.std.specs.Prelude.{if◌then◌else◌, IsTrue}
 use Rattle.sb_outside.specs.Outside.{appended}
 use Rattle.sb_outside.specs.Writing.{HasFront}
 use Rattle.update_client.specs.Held.{Held}
 use Rattle.wait_rules.specs.declared.waits.WaitState.{WaitState}
 use Rattle.timed_sessions.specs.Told.{Outside}
 use Rattle.sb_round.specs.Printed.{round_lines}
-use Rattle.sb_round.specs.Run.{lists_after}
 use Rattle.sb_round.specs.Round.{Round, MakesRound}
-use Rattle.sb_round.specs.Rounds.{MakesRounds, GoesOnWithRounds, body_of}
+use Rattle.sb_round.specs.Rounds.{MakesRounds, GoesOnWithRounds}
 use Rattle.sb_round.specs.declared.rounds.RoundEnd.{RoundEnd}
 use Rattle.update_run.specs.Saved.{Keeping, HasSaved, FailsToSave, MayLackLast, has_installed, saved_after, saved_lists}
-use Rattle.update_run.specs.Printed.{list_line, saved_line, told_end}
+use Rattle.update_run.specs.Printed.{saved_line, told_end}
 use Rattle.update_run.specs.Run.{Seen}
-use Rattle.update_run.specs.Rounding.{StopsAtStart, StopsOneRound, StopsAfterRounds, BreaksOffAfterRounds, FailsAfterRounds, StopsRounds, text_so_far, text_until}
+use Rattle.update_run.specs.Rounding.{StopsAtStart, StopsOneRound, StopsAfterRounds, BreaksOffAfterRounds, FailsAfterRounds, StopsRounds, text_so_far}
 use Rattle.update_run.specs.Steps.{MayHaveSaved, StopsWithin, StopsRound, TakesRounds}
 use Rattle.update_run.specs.declared.client.Client.{Client}
 use Rattle.update_run.specs.declared.plan.Plan.{Plan}
@@ -23,22 +21,13 @@ use Rattle.update_run.specs.declared.stop.RunStop.{RunStop}
 use Rattle.update_run.specs.declared.stop.RunStop.TheVariants as stop
 use Rattle.update_run.proofs.OneByOne.{goes_on_writing, one_longer, made_all, saved_all, text_all}
 use Rattle.update_run.proofs.Saves.{saved_both, lacks_last}
-use Rattle.update_run.proofs.Ways.{appended_twice, taken_whole, front_after, front_of_way, front_of_more}
-
--- a front of the rounds' text is one of the text up to the stop
-until_more : (more : Bool) (before after : Option (List ℕ)) (text lines : List ℕ) → HasFront before after text → HasFront before after (if more then text else text ++ lines)
-until_more true before after text lines front = front
-until_more false before after text lines front = front_of_more text lines front
-
-until : (all : ℕ) (client : Client) (rounds : List Round) (before after : Option (List ℕ)) → HasFront before after (text_so_far client rounds) → HasFront before after (text_until all client rounds)
-until all client rounds before after front =
-    until_more (nat_lt (length rounds) all) before after (text_so_far client rounds) (flat_map list_line (lists_after client.lists (map body_of rounds))) front
+use Rattle.update_run.proofs.Ways.{appended_twice, taken_whole, front_after, front_of_way}
 
 -- ---- before a round and within one
 
 stopped_at_start : (why : RunStop) (plan : Plan) (rounds : List Round) (client between : Client) (first mid after : Seen) (refused : Bool)
     → length rounds ≤ plan.rounds → TakesRounds plan 1 rounds client between first mid refused → StopsAtStart why between mid after
-    → StopsAfterRounds plan client first after
+    → StopsAfterRounds plan client (text_so_far client) first after
 stopped_at_start why plan rounds client between first mid after refused few so_far stops = record {
   rounds = rounds;
   few = few;
@@ -48,7 +37,7 @@ stopped_at_start why plan rounds client between first mid after refused few so_f
   stores = saved_lists client.lists rounds;
   most = inl refl;
   saved = subst (λ k. HasSaved (saved_lists client.lists rounds) first.keeper k) (sym stops.keeper) so_far.saved;
-  front = until plan.rounds client rounds first.held after.held (front_of_way between.page (text_so_far client rounds) so_far.text stops.front);
+  front = front_of_way between.page (text_so_far client rounds) so_far.text stops.front;
 }
 
 -- In what follows nothing waits before the round that is stopped.
@@ -93,7 +82,7 @@ stopped_telling : (plan : Plan) (number : ℕ) (rounds : List Round) (client bet
     → GoesOnWithRounds → 1 + length rounds ≡ number → number ≤ plan.rounds → between.page ≡ [] → TakesRounds plan 1 rounds client between first mid refused
     → MakesRound between.lists between.waits plan.options plan.target plan.need_digest mid.outside after.outside lists waits end
     → MayHaveSaved (saved_after end.taken lists) mid.keeper after.keeper → HasFront mid.held after.held (told_end number end)
-    → StopsAfterRounds plan client first after
+    → StopsAfterRounds plan client (text_so_far client) first after
 stopped_telling plan number rounds client between first mid after refused lists waits end go count few none so_far made may front =
     let text = text_all plan 1 rounds client between first mid after lists waits end go so_far.made made in
     let stores = saved_all plan 1 rounds client between first mid after lists waits end go so_far.made made in
@@ -109,8 +98,7 @@ stopped_telling plan number rounds client between first mid after refused lists 
       stores = saved.stores;
       most = saved.most;
       saved = saved.saved;
-      front = until plan.rounds client (rounds ++ made.round ∷ []) first.held after.held
-          (subst (λ all. HasFront first.held after.held all) text (front_after between.page (text_so_far client rounds) lines so_far.text behind));
+      front = subst (λ all. HasFront first.held after.held all) text (front_after between.page (text_so_far client rounds) lines so_far.text behind);
     }
 
 lists_true : (b : Bool) (lists : List Held) → IsTrue b → (if b then lists ∷ [] else []) ≡ lists ∷ []
@@ -157,7 +145,7 @@ stopped_saving plan number rounds client between first mid after refused lists w
 
 in_round : (why : RunStop) (plan : Plan) (number : ℕ) (rounds : List Round) (client between : Client) (first mid after : Seen) (refused : Bool)
     → GoesOnWithRounds → 1 + length rounds ≡ number → number ≤ plan.rounds → between.page ≡ [] → TakesRounds plan 1 rounds client between first mid refused → StopsRound why plan number between mid after
-    → StopsRounds why plan client first after
+    → StopsRounds why plan client (text_so_far client) first after
 in_round stop.WriteFault plan number rounds client between first mid after refused go count few none so_far ends =
     stopped_telling plan number rounds client between first mid after refused ends.lists ends.waits ends.end go count few none so_far ends.made (inl ends.stops.0) ends.stops.1
 in_round stop.KeepFault plan number rounds client between first mid after refused go count few none so_far ends =
@@ -170,9 +158,9 @@ in_round stop.OutOfMemory plan number rounds client between first mid after refu
 
 pub stopped : (why : RunStop) (plan : Plan) (number : ℕ) (rounds : List Round) (client between : Client) (first mid after : Seen) (refused : Bool)
     → GoesOnWithRounds → 1 + length rounds ≡ number → number ≤ plan.rounds → TakesRounds plan 1 rounds client between first mid refused → StopsOneRound why plan number between mid after
-    → StopsRounds why plan client first after
+    → StopsRounds why plan client (text_so_far client) first after
 stopped why plan number rounds client between first mid after refused go count few so_far (inl starts) =
-    subst (λ w. StopsRounds w plan client first after) (sym starts.output)
+    subst (λ w. StopsRounds w plan client (text_so_far client) first after) (sym starts.output)
     (stopped_at_start why plan rounds client between first mid after refused (omega (arith, count, few)) so_far starts)
 stopped why plan number rounds client between first mid after refused go count few so_far (inr both) =
     in_round why plan number rounds client both.between first (record mid { held = both.held }) after refused go count few (ap (λ (c : Client). c.page) both.writes.is)

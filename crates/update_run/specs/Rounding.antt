@@ -75,8 +75,9 @@ pub record TakesAllRounds (plan : Plan) (client client' : Client) (before after 
   pub all : length rounds ≡ plan.rounds
   pub takes : TakesRounds plan 1 rounds client client' before after refused
 
--- After some rounds the client stopped, where the keeper did not fail.
-pub record StopsAfterRounds (plan : Plan) (client : Client) (before after : Seen) : Type 0 where
+-- After some rounds the client stopped, where the keeper did not fail. What is written is a front of this text of them, of which something
+-- is missing.
+pub record StopsAfterRounds (plan : Plan) (client : Client) (text : List Round → List ℕ) (before after : Seen) : Type 0 where
   pub rounds : List Round
   pub few : length rounds ≤ plan.rounds
   pub lists : List Held
@@ -85,7 +86,7 @@ pub record StopsAfterRounds (plan : Plan) (client : Client) (before after : Seen
   pub stores : List (List Held)
   pub most : MayLackLast (saved_lists client.lists rounds) stores
   pub saved : HasSaved stores before.keeper after.keeper
-  pub front : HasFront before.held after.held (text_until plan.rounds client rounds)
+  pub front : HasFront before.held after.held (text rounds)
 
 -- After some rounds a further one was broken off.
 pub record BreaksOffAfterRounds (plan : Plan) (client : Client) (before after : Seen) : Type 0 where
@@ -116,11 +117,12 @@ pub record FailsAfterRounds (plan : Plan) (client : Client) (before after : Seen
   pub text : after.held ≡ appended before.held written
   pub lacks : written ++ saved_line (length rounds) ≡ text_so_far client rounds
 
-abbrev pub StopsRounds : RunStop → Plan → Client → (before after : Seen) → Type 0
-StopsRounds stop.WriteFault plan client before after = StopsAfterRounds plan client before after
-StopsRounds stop.KeepFault plan client before after = FailsAfterRounds plan client before after
-StopsRounds stop.OutOfMemory plan client before after =
-    StopsAfterRounds plan client before after ⊎ BreaksOffAfterRounds plan client before after
+-- A client stopped after some rounds, of which this was to be written, or in one.
+abbrev pub StopsRounds : RunStop → Plan → Client → (text : List Round → List ℕ) → (before after : Seen) → Type 0
+StopsRounds stop.WriteFault plan client text before after = StopsAfterRounds plan client text before after
+StopsRounds stop.KeepFault plan client text before after = FailsAfterRounds plan client before after
+StopsRounds stop.OutOfMemory plan client text before after =
+    StopsAfterRounds plan client text before after ⊎ BreaksOffAfterRounds plan client before after
 
 -- ---- rounds, and the lists at the end
 
@@ -137,4 +139,4 @@ pub record EndsRounds (plan : Plan) (client : Client) (refused : Bool) (before a
 
 abbrev pub EndsFrom : Plan → RunEnding → Client → (before after : Seen) → Type 0
 EndsFrom plan (Ok refused) client before after = EndsRounds plan client refused before after
-EndsFrom plan (Err why) client before after = StopsRounds why plan client before after
+EndsFrom plan (Err why) client before after = StopsRounds why plan client (text_until plan.rounds client) before after

@@ -1,4 +1,4 @@
-ghost use Rattle.std.specs.Prelude.{◌≡◌, ◌≢◌, [], IfOk, OnOk, OnErr, IfErr, IsErrOf, Err};
+ghost use Rattle.std.specs.Prelude.{◌≡◌, ◌≢◌, ◌≤◌, [], IfOk, OnOk, OnErr, IfErr, IsErrOf, Err};
 ghost use Rattle.std.specs.List.{list_any};
 ghost use Rattle.http_edge.specs.Exchanges.{IsTarget};
 ghost use Rattle.sb_outside.specs.Outside.{Rose};
@@ -7,7 +7,7 @@ ghost use Rattle.sb_round.specs.declared.rounds.Taken.{Taken as TakenUpdate};
 ghost use Rattle.timed_sessions.specs.Told.{outside};
 ghost use Rattle.update_client.specs.Step.{is_refused};
 ghost use Rattle.update_run.specs.Printed.{has_refusal as has_refusal_one};
-ghost use Rattle.update_run.specs.Rounding.{WritesAndTakes, StopsOneRound, TakesAllRounds, StopsRounds};
+ghost use Rattle.update_run.specs.Rounding.{WritesAndTakes, StopsOneRound, TakesAllRounds, StopsRounds, text_so_far};
 ghost use Rattle.update_run.specs.Run.{seen};
 ghost use Rattle.update_run.specs.Saved.{keeping};
 ghost use Rattle.update_run.specs.Steps.{WritesPage, TakesRound, TellsRound, StopsRound};
@@ -91,6 +91,7 @@ pub fn make_round<O: Sink, K: Keeper, L: Link, C: Clock, D: Dice>(
     ensures output_kept { result ≢ Err RunStop.WriteFault → O.faults out.new ≡ O.faults out.old }
     ensures keeper_failed { IsErrOf result RunStop.KeepFault → Rose (K.faults keep.old) (K.faults keep.new) }
     ensures keeper_kept { result ≢ Err RunStop.KeepFault → K.faults keep.new ≡ K.faults keep.old }
+    ensures link_counted { L.faults link.old ≤ L.faults link.new }
 {
     let end = match run_round(
         alloc,
@@ -213,7 +214,7 @@ pub(crate) fn all_rounds<O: Sink, K: Keeper, L: Link, C: Clock, D: Dice, G: Gate
         (keeping (K.handed keep.old) (K.kept keep.old)) (O.contents out.old))
         (seen (outside (L.log link.new) (C.answers clock.new) (C.waits clock.new) (D.given dice.new))
         (keeping (K.handed keep.new) (K.kept keep.new)) (O.contents out.new)) refused) }
-    ensures stopped { IfErr result (λ stop. StopsRounds stop plan.now client.old
+    ensures stopped { IfErr result (λ stop. StopsRounds stop plan.now client.old (text_so_far client.old)
         (seen (outside (L.log link.old) (C.answers clock.old) (C.waits clock.old) (D.given dice.old))
         (keeping (K.handed keep.old) (K.kept keep.old)) (O.contents out.old))
         (seen (outside (L.log link.new) (C.answers clock.new) (C.waits clock.new) (D.given dice.new))

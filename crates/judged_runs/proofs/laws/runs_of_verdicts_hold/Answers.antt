@@ -1,19 +1,25 @@
 use Rattle.std.proofs.Common.{[], ◌∷◌}
 use Rattle.update_run.specs.Opening.{first_lists}
+use Rattle.update_run.specs.Saved.{saved_lists}
 use Rattle.input_lines.specs.Lines.{lines_of}
+use Rattle.judge_beside.specs.Plans.{finds_of}
+use Rattle.judged_runs.specs.Law.{ArePublishedReplicas, publications_in}
+use Rattle.judged_runs.proofs.Published.{are_published}
 use Rattle.judged_runs.proofs.laws.runs_of_verdicts_hold.Goals as goal
 
-pub returns-clause-replicas : goal.returns-clause-replicas
-returns-clause-replicas c history token_at plan judgement before after run well replicas =
-    let judged = run.ends.judged in
+pub returns : goal.returns
+returns c history token_at plan outcome before after run well safe honest =
+    let judged = run.ends.judges.judged in
+    let rounds = run.ends.updated.rounds in
+    let first = first_lists plan.names run.begins.kept in
+    let replicas : ArePublishedReplicas history token_at (publications_in run) = (
+      c.stores_begin_runs.ensures history token_at run.begins.kept plan.names safe,
+      are_published history token_at plan.names (saved_lists first rounds) (c.rounds_save_replicas.ensures history token_at plan.names run.begins.kept rounds well safe honest),
+    ) in
     record {
+      published = replicas;
       hold =
-          c.rows_of_verdicts_hold.ensures.judged history token_at plan (first_lists plan.names run.begins.kept ∷ []) run.begins.waits judged.finds
-          run.begins.opened after.outside before.faults after.faults (lines_of run.begins.input) run.ends.all judged.judges well (replicas, tt);
-      text = run.ends.text;
+          c.rows_of_verdicts_hold.ensures.judged history token_at (finds_of plan) (publications_in run) run.begins.finds judged.finds
+          run.ends.updated.outside after.outside run.ends.updated.faults_then after.faults (lines_of run.begins.input) run.ends.judges.all judged.judges well replicas;
+      text = run.ends.judges.text;
     }
-
-pub returns-clause-kept : goal.returns-clause-kept
-returns-clause-kept c history token_at plan judgement before after run well safe =
-    returns-clause-replicas c history token_at plan judgement before after run well
-    (c.stores_begin_runs.ensures history token_at run.begins.kept plan.names safe)

@@ -7,7 +7,7 @@ use Rattle.published_rounds.proofs.rounding.publish_rounds.Goals as goal
 
 pub loop-made-init : goal.loop-made-init
 loop-made-init g c =
-    ([], refl, record { takes = begins_steps c.rounds_go_on.ensures.none _ 1 _ _; published_are = sym (append-nil c.args.publisher.now.list) }, refl, refl, refl)
+    ([], refl, record { takes = begins_steps c.rounds_go_on.ensures.none _ 1 _ _; published_are = sym (append-nil c.args.publisher.now.list) }, refl, refl, refl, omega arith, λ _. refl)
 
 pub publish_round-requires-clause-room : goal.publish_round-requires-clause-room
 publish_round-requires-clause-room g c =
@@ -32,6 +32,8 @@ loop-made-preserved g c =
       c.in-Ok.ensures.boxes ∙ inv.3,
       c.in-Ok.ensures.output_kept (λ e. cc) ∙ inv.4,
       c.in-Ok.ensures.keeper_kept (λ e. cc) ∙ inv.5,
+      omega (arith, inv.6, c.publish_round.ensures.link_counted),
+      λ none. absurd (omega (arith, none)),
     )
 
 pub returns-in-Err-clause-stopped : goal.returns-in-Err-clause-stopped

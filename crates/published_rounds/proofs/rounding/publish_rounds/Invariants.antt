@@ -1,4 +1,4 @@
-use Rattle.std.proofs.Common.{◌≡◌, List, length}
+use Rattle.std.proofs.Common.{◌≡◌, ◌≤◌, List, length}
 use Rattle.timed_sessions.specs.Told.{outside}
 use Rattle.sb_round.specs.Round.{Round}
 use Rattle.update_run.specs.Run.{seen}
@@ -19,3 +19,5 @@ invariant-loop-made g l =
     × (l.publisher.boxes ≡ l.initial.publisher.boxes)
     × (g.O.Sink.faults l.out ≡ g.O.Sink.faults l.initial.out)
     × (g.K.Keeper.faults l.keep ≡ g.K.Keeper.faults l.initial.keep)
+    × (g.L.Link.faults l.initial.link ≤ g.L.Link.faults l.link)
+    × (l.made ≡ 0 → g.L.Link.faults l.link ≡ g.L.Link.faults l.initial.link)

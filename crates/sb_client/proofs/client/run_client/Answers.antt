@@ -2,12 +2,12 @@ use Rattle.std.proofs.Common.{ℕ, List, refl, map, string_bytes}
 use Rattle.sb_client.proofs.Commands.{is_found, is_sound, no_command, is_no_judge, is_no_replay, is_no_run, is_no_show, judge_found, replay_found, run_found, show_found, vectors_found, vectors_alone}
 use Rattle.sb_client.proofs.Endings.{left_over, not_begun, not_risen, whole_of}
 use Rattle.sb_client.proofs.Runs.{count_not_begun, left_to_run, none_counted, run_not_begun, run_of_judge, run_of_plan, run_of_replay, run_hands, run_keeps, run_of_show, run_of_vectors, run_tells, status_of_run}
-use Rattle.sb_client.proofs.Judgings.{judge_not_begun, left_to_judge, reports_rightly}
+use Rattle.sb_client.proofs.Judgings.{judge_not_begun, left_to_judge, reports_rightly, updates_hold}
 use Rattle.sb_client.proofs.Served.{run_answered, run_complete, run_versions}
 use Rattle.sb_client.proofs.client.run_client.Goals as goal
 
-pub run_command-requires : goal.run_command-requires
-run_command-requires g c = is_sound (map string_bytes c.args.words.now) c.in-Ok-Some.command (is_found _ _ _ c.in-Ok-Some.field-0-is c.in-Ok-Some.ensures)
+pub run_command-requires-clause-sound : goal.run_command-requires-clause-sound
+run_command-requires-clause-sound g c _ _ = is_sound (map string_bytes c.args.words.now) c.in-Ok-Some.command (is_found _ _ _ c.in-Ok-Some.field-0-is c.in-Ok-Some.ensures)
 
 -- ---- the statuses
 
@@ -163,5 +163,13 @@ returns-in-Ok-Some-clause-versions g c line history token_at least kept sessions
 
 pub returns-in-Ok-Some-clause-verdicts : goal.returns-in-Ok-Some-clause-verdicts
 returns-in-Ok-Some-clause-verdicts g c line history token_at words formed status =
-    reports_rightly c.runs_of_verdicts_hold.ensures.kept c.cases_keep_to_waits.ensures c.judged_urls_are_decided.ensures history token_at line.plan _ _ _
+    reports_rightly c.runs_of_verdicts_hold.ensures c.rounds_keep_to_waits.ensures c.cases_keep_to_waits.ensures c.judged_urls_are_decided.ensures history token_at line.plan _ _ _
     (run_of_judge _ _ _ _ _ _ _ c.in-Ok-Some.command line.plan (judge_found _ _ _ c.in-Ok-Some.field-0-is c.in-Ok-Some.ensures line words) c.run_command.ensures.does) formed status
+
+pub returns-in-Ok-Some-clause-judge_saves : goal.returns-in-Ok-Some-clause-judge_saves
+returns-in-Ok-Some-clause-judge_saves g c line words =
+    updates_hold c.judgings_save_replicas.ensures line.plan _ _ _
+    (run_of_judge _ _ _ _ _ _ _ c.in-Ok-Some.command line.plan (judge_found _ _ _ c.in-Ok-Some.field-0-is c.in-Ok-Some.ensures line words) c.run_command.ensures.does)
+
+pub returns-in-Err-clause-judge_saves : goal.returns-in-Err-clause-judge_saves
+returns-in-Err-clause-judge_saves g c line words = updates_hold c.judgings_save_replicas.ensures line.plan 8 _ _ (judge_not_begun line.plan _)

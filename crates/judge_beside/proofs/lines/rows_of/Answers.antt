@@ -1,0 +1,11 @@
+use Rattle.std.proofs.Common.{List, ℕ, [], ◌∷◌, ◌++◌, ◌∙◌, ap}
+use Rattle.input_lines.specs.Lines.{lines_of}
+use Rattle.judge_run.proofs.Cases.{left_after}
+use Rattle.judge_beside.proofs.lines.rows_of.Goals as goal
+
+pub loop-rest-preserved : goal.loop-rest-preserved
+loop-rest-preserved c =
+    let line = c.first_line.result.0.now in
+    let rest = lines_of c.first_line.result.1.now in
+    ap (λ (lines : List (List ℕ)). lines ++ rest) (c.in_ok-push.ensures.ok ∙ ap (λ (one : List ℕ). c.loop-rest.lines ++ one ∷ []) c.in_ok-from_slice.ensures)
+    ∙ left_after c.loop-rest.lines (lines_of c.loop-rest.rest.now) (lines_of c.args.text.now) line rest c.first_line.ensures.lines c.loop-rest.invariant
