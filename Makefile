@@ -5,7 +5,7 @@
 
 SHELL := /bin/bash
 LIST := MALWARE/ANY_PLATFORM/URL
-PROGRAMS := sbupdate sbcheck sblistd kernels
+PROGRAMS := sbupdate sbcheck sblistd kernels publication_kernels
 INSTALLED := sbupdate sbcheck sblistd
 BUILT := $(wildcard bin/sbupdate bin/sblistd)
 
