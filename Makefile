@@ -93,6 +93,7 @@ try-readme: all
 bench: all
 	python3 bench/bench.py
 	python3 bench/door.py
+	python3 bench/workers.py
 
 clean:
 	rm -rf bin
