@@ -11,6 +11,7 @@ looks, and the longest of a million, alone and while another thread publishes si
 
 import argparse
 import hashlib
+import multiprocessing
 import os
 import re
 import statistics
@@ -54,6 +55,11 @@ def write_urls(path, members):
             if all(hashlib.sha256(host + end).digest()[:4] not in members for host in hosts for end in ends):
                 file.write(b"http://%s%s\n" % (hosts[0], ends[0]))
                 made += 1
+
+
+def write_inputs(folder):
+    members = write_store(os.path.join(folder, "store"))
+    write_urls(os.path.join(folder, "urls"), members)
 
 
 def run(words, path):
@@ -122,8 +128,9 @@ def main():
     counts = [int(count) for count in words.workers.split(",")]
     print(f"{URLS:,} URLs by {PREFIXES:,} prefixes, on {os.cpu_count()} processors; the least of {words.runs} runs in turn")
     with tempfile.TemporaryDirectory() as folder:
-        members = write_store(os.path.join(folder, "store"))
-        write_urls(os.path.join(folder, "urls"), members)
+        # in a process of its own, as what this one holds would show in the resident sets
+        with multiprocessing.get_context("spawn").Pool(1) as pool:
+            pool.apply(write_inputs, [folder])
         judge(folder, counts, words.runs)
         look(folder, words.runs)
 
