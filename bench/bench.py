@@ -335,20 +335,21 @@ def ask(port, request):
             pass
 
 
-def serve(journal, request, connections):
-    """Serves connections one after the other: the wall time from the second to the last, and the server's processor times."""
+def serve(journal, requests, connections):
+    """Serves connections with these requests by turns, one after the other: the wall time from the second to the last, and the
+    server's processor times."""
     port = free_port()
     words = ["--journal", journal, "--listen", f"127.0.0.1:{port}", "--connections", str(connections)]
     ran = subprocess.Popen([SBLISTD, "serve", *words], stdout=subprocess.DEVNULL)
     for _ in range(1_000):
         try:
-            ask(port, request)
+            ask(port, requests[0])
             break
         except ConnectionRefusedError:
             time.sleep(0.01)
     start = time.perf_counter()
-    for _ in range(connections - 1):
-        ask(port, request)
+    for turn in range(1, connections):
+        ask(port, requests[turn % len(requests)])
     wall = time.perf_counter() - start
     _, status, usage = os.wait4(ran.pid, 0)
     ran.returncode = os.waitstatus_to_exitcode(status)
@@ -357,10 +358,10 @@ def serve(journal, request, connections):
     return wall, usage.ru_utime, usage.ru_stime
 
 
-def time_connections(name, journal, path, body, few, many):
-    """Tells what each further connection with this body takes."""
-    text = f"POST {path} HTTP/1.1\r\nContent-Length: {len(body)}\r\n\r\n".encode("ascii") + body
-    small, large = serve(journal, text, few), serve(journal, text, many)
+def time_connections(name, journal, path, bodies, few, many):
+    """Tells what each further connection takes, with these bodies by turns."""
+    texts = [f"POST {path} HTTP/1.1\r\nContent-Length: {len(body)}\r\n\r\n".encode("ascii") + body for body in bodies]
+    small, large = serve(journal, texts, few), serve(journal, texts, many)
     wall, user, system = ((more - less) / (many - few) for less, more in zip(small, large))
     tell(name, f"{1 / wall:,.0f} a second", f"{user * 1e3:.2f} ms of its own and {system * 1e3:.2f} ms of the system's each")
 
@@ -380,17 +381,21 @@ def find_body(journal, count):
 
 
 def bench_serve(folder):
-    """A server of one list. What it does for itself is its user time; the rest is the system's, of its sockets, and the client's."""
+    """A server of one list. What it does for itself is its user time; the rest is the system's, of its sockets, and the client's. It
+    keeps 8 answers, so 16 bodies that say the same in other bytes have each answer made."""
     journal, request = os.path.join(folder, "journal"), os.path.join(folder, "request")
     in_child(write_journal, journal, [LIST], SERVED_CHANGES, LONG_HASHES)
     print(f"sblistd serve, a list of about {SERVED_CHANGES * LONG_HASHES:,} prefixes")
     for name, version, few, many in (("one who has the newest", SERVED_CHANGES, 2, 1_002), ("one who has nothing", None, 2, 22)):
         write_request(request, version, 0)
-        with open(request, "rb") as body:
-            time_connections(name, journal, "/v4/threatListUpdates:fetch", body.read(), few, many)
+        with open(request, "rb") as file:
+            body = file.read()
+        bodies = [body + b" " * more for more in range(16)]
+        time_connections(name, journal, "/v4/threatListUpdates:fetch", bodies, few, many)
+        time_connections(f"{name}, kept", journal, "/v4/threatListUpdates:fetch", [body], few, many)
     for count in (1, 30, 1_024):
         name = "a find of a prefix" if count == 1 else f"a find of {count:,} prefixes"
-        time_connections(name, journal, "/v4/fullHashes:find", find_body(journal, count), 2, 502)
+        time_connections(name, journal, "/v4/fullHashes:find", [find_body(journal, count)], 2, 502)
 
 
 def bench_rice(runs):

@@ -11,15 +11,18 @@ use Rattle.http_edge.specs.declared.messages.HttpRequest.{HttpRequest}
 use Rattle.http_edge.specs.declared.messages.Status.{Status}
 use Rattle.http_serving.specs.Law.{HasOneAnswer, IsAnsweredAsRead}
 use Rattle.http_serving.specs.Serving.{IsAnswerAfter, HasWritten, Serves, HasAnswer, AnswersAtMost, IsComplete}
-use Rattle.http_serving.specs.Steps.{IsStopAfter, IsSent}
+use Rattle.http_serving.specs.Steps.{answer_status, answer_text, IsStopAfter, IsSent}
+use Rattle.http_serving.specs.Written.{IsRightAnswer, IsTextOfRight}
 use Rattle.http_serving.specs.declared.ends.ConnectionEnd.{ConnectionEnd}
 use Rattle.http_serving.specs.declared.ends.ConnectionEnd.TheVariants as end
+use Rattle.http_serving.specs.declared.responses.Answer.{Answer}
+use Rattle.http_serving.specs.declared.responses.Answer.TheVariants.{Made, Written}
 use Rattle.http_serving.proofs.Requests.{IsFrontOf, front_of_gives, no_status, same_request}
 
 -- ---- a response on its way
 
 written_of_sent : (Right : HttpRequest → Status → Allow → List ℕ → Type 0) (received : Result HttpRequest RequestFault) (status : Status) (allow : Allow) (body : List ℕ) (how : ConnectionEnd)
-    → (before after : Option (List ℕ)) → IsAnswerAfter Right received status allow body → IsSent status allow body how before after → HasWritten Right received how before after
+    → (before after : Option (List ℕ)) → IsAnswerAfter Right received status allow body → IsSent status (response_text status allow body) how before after → HasWritten Right received how before after
 written_of_sent Right received status allow body (end.Answered told) before after answer sent = record {
   allow = allow;
   body = body;
@@ -36,21 +39,28 @@ written_of_sent Right received status allow body end.WriteFault before after ans
 written_of_sent Right received status allow body end.ReadFault before after answer sent = absurd sent
 written_of_sent Right received status allow body end.OutOfMemory before after answer sent = sent
 
-pub served : (Right : HttpRequest → Status → Allow → List ℕ → Type 0) (received : Result HttpRequest RequestFault) (status : Status) (allow : Allow) (body : List ℕ) (how : ConnectionEnd)
+-- the text of a right answer is that of a right response
+text_right : (Right : Status → Allow → List ℕ → Type 0) (answer : Answer) → IsRightAnswer Right answer → IsTextOfRight Right (answer_status answer) (answer_text answer)
+text_right Right (Made response) right = record { allow = response.allow; body = response.body; right = right; whole = refl }
+text_right Right (Written written) right = right
+
+pub served : (Right : HttpRequest → Status → Allow → List ℕ → Type 0) (received : Result HttpRequest RequestFault) (answer : Answer) (how : ConnectionEnd)
     → (left later last : Option (List (List ℕ))) (before between after : Option (List ℕ))
     → (bytes : List ℕ) × (ended : Bool) × Gives bytes ended left later × RequestOutcome bytes ended received × ReadsToRequest bytes ended received
-    → last ≡ later → between ≡ before → IsAnswerAfter Right received status allow body → IsSent status allow body how between after
+    → last ≡ later → between ≡ before → IsRightAnswer (IsAnswerAfter Right received) answer → IsSent (answer_status answer) (answer_text answer) how between after
     → Serves Right how left last before after
-served Right received status allow body how left later last before between after (bytes, ended, gives, read, prompt) same-left same-contents response sent = record {
-  bytes = bytes;
-  ended = ended;
-  received = received;
-  gives = subst (Gives bytes ended left) (sym same-left) gives;
-  outcome = read;
-  prompt = prompt;
-  written = written_of_sent Right received status allow body how before after response
-      (subst (λ (held : Option (List ℕ)). IsSent status allow body how held after) same-contents sent);
-}
+served Right received answer how left later last before between after (bytes, ended, gives, read, prompt) same-left same-contents response sent =
+    let text = text_right (IsAnswerAfter Right received) answer response in record {
+      bytes = bytes;
+      ended = ended;
+      received = received;
+      gives = subst (Gives bytes ended left) (sym same-left) gives;
+      outcome = read;
+      prompt = prompt;
+      written = written_of_sent Right received (answer_status answer) text.allow text.body how before after text.right
+          (subst (λ (t : List ℕ). IsSent (answer_status answer) t how before after) text.whole
+          (subst (λ (held : Option (List ℕ)). IsSent (answer_status answer) (answer_text answer) how held after) same-contents sent));
+    }
 
 pub stopped : (Right : HttpRequest → Status → Allow → List ℕ → Type 0) (received : Result HttpRequest RequestFault) (how : ConnectionEnd)
     → (left later : Option (List (List ℕ))) (before after : Option (List ℕ))

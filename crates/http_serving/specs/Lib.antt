@@ -1,4 +1,5 @@
 pub mod Routes
+pub mod Written
 pub mod Serving
 pub mod Printed
 pub mod Returning

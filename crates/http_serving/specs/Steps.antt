@@ -5,11 +5,12 @@ use Rattle.sb_outside.specs.Writing.{HasFront}
 use Rattle.http_edge.specs.Responses.{response_text}
 use Rattle.http_edge.specs.declared.faults.RequestFault.{RequestFault}
 use Rattle.http_edge.specs.declared.faults.RequestFault.TheVariants as fault
-use Rattle.http_edge.specs.declared.messages.Allow.{Allow}
 use Rattle.http_edge.specs.declared.messages.HttpRequest.{HttpRequest}
 use Rattle.http_edge.specs.declared.messages.Status.{Status}
 use Rattle.http_serving.specs.declared.ends.ConnectionEnd.{ConnectionEnd}
 use Rattle.http_serving.specs.declared.ends.ConnectionEnd.TheVariants as end
+use Rattle.http_serving.specs.declared.responses.Answer.{Answer}
+use Rattle.http_serving.specs.declared.responses.Answer.TheVariants.{Made, Written}
 
 -- How a connection ends that has no response, after what was received.
 abbrev pub IsStopAfter : Result HttpRequest RequestFault → ConnectionEnd → Type 0
@@ -17,9 +18,18 @@ IsStopAfter received end.ReadFault = received ≡ Err fault.ReadFault
 IsStopAfter received end.OutOfMemory = received ≢ Err fault.ReadFault
 IsStopAfter received how = ⊥
 
--- what was written of a response, by how the connection ended
-abbrev pub IsSent : Status → Allow → List ℕ → ConnectionEnd → (before after : Option (List ℕ)) → Type 0
-IsSent status allow body (end.Answered told) before after = (told ≡ status) × (after ≡ appended before (response_text status allow body))
-IsSent status allow body end.WriteFault before after = HasFront before after (response_text status allow body)
-IsSent status allow body end.OutOfMemory before after = after ≡ before
-IsSent status allow body end.ReadFault before after = ⊥
+-- an answer as it is sent: its status, and its whole text
+abbrev pub answer_status : Answer → Status
+answer_status (Made response) = response.status
+answer_status (Written written) = written.status
+
+abbrev pub answer_text : Answer → List ℕ
+answer_text (Made response) = response_text response.status response.allow response.body
+answer_text (Written written) = written.text
+
+-- what was written of the text of a response, by how the connection ended
+abbrev pub IsSent : Status → List ℕ → ConnectionEnd → (before after : Option (List ℕ)) → Type 0
+IsSent status text (end.Answered told) before after = (told ≡ status) × (after ≡ appended before text)
+IsSent status text end.WriteFault before after = HasFront before after text
+IsSent status text end.OutOfMemory before after = after ≡ before
+IsSent status text end.ReadFault before after = ⊥

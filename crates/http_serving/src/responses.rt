@@ -1,12 +1,14 @@
 ghost use Rattle.std.specs.Prelude.{◌≡◌, ◌≢◌, ◌≤◌, [], IfOk};
 ghost use Rattle.sb_outside.specs.Outside.{Rose};
+ghost use Rattle.http_edge.specs.Responses.{response_text};
 ghost use Rattle.http_serving.specs.Serving.{refusal_status};
-ghost use Rattle.http_serving.specs.Steps.{IsSent};
+ghost use Rattle.http_serving.specs.Steps.{answer_status, answer_text, IsSent};
 
 use crate::ends::ConnectionEnd;
+use crate::text_sink::TextSink;
 use http_edge::{Allow, RequestFault, ResponseFault, Status, write_response};
-use sb_model::Bytes;
-use sb_outside::Sink;
+use sb_model::{Bytes, OutOfMemory};
+use sb_outside::{Failed, Sink, write_all};
 use std::alloc::Global;
 
 /// A response: a status, the method that a 405 allows, and the body that goes with it.
@@ -16,6 +18,22 @@ pub struct Response {
     /// The method that `Allow` names where the status is 405. With another status it has no meaning.
     pub allow: Allow,
     pub body: Bytes,
+}
+
+/// A response that is written out: its status, and its whole text, with the head before the body.
+#[derive(Debug, Drop)]
+pub struct WrittenResponse {
+    pub status: Status,
+    pub text: Bytes,
+}
+
+/// What a server gives to be sent.
+#[derive(Debug, Drop)]
+pub enum Answer {
+    /// A response, whose head is made when it is sent.
+    Made(Response),
+    /// The whole text of a response.
+    Written(WrittenResponse),
 }
 
 /// A response without a body. The method is named where the status is 405, and nowhere else.
@@ -44,9 +62,30 @@ pub(crate) fn refusal_status(fault: RequestFault) -> Option<Status>
     }
 }
 
+/// Writes a response out, as it is sent.
+pub fn write_out(alloc: Global, response: &Response) -> Result<WrittenResponse, OutOfMemory>
+    ensures status { IfOk result (λ written. written.status ≡ response.now.status) }
+    ensures text { IfOk result (λ written. written.text ≡ response_text response.now.status response.now.allow response.now.body) }
+{
+    let Response {
+        status,
+        allow,
+        body,
+    } = response;
+    let mut sink = TextSink::new(alloc);
+    match write_response(alloc, &mut sink, *status, *allow, body.as_slice()) {
+        Ok(()) => Ok(WrittenResponse {
+            status: *status,
+            text: sink.into_text(),
+        }),
+        Err(ResponseFault::WriteFault | ResponseFault::OutOfMemory) => Err(OutOfMemory),
+    }
+}
+
 /// Writes a response.
-pub(crate) fn send<O: Sink>(alloc: Global, sink: &mut O, response: &Response) -> ConnectionEnd
-    ensures sent { IsSent response.now.status response.now.allow response.now.body result (O.contents sink.old) (O.contents sink.new) }
+fn send_made<O: Sink>(alloc: Global, sink: &mut O, response: &Response) -> ConnectionEnd
+    ensures sent { IsSent response.now.status (response_text response.now.status response.now.allow response.now.body) result
+        (O.contents sink.old) (O.contents sink.new) }
     ensures failed { result ≡ ConnectionEnd.WriteFault → Rose (O.faults sink.old) (O.faults sink.new) }
     ensures kept { result ≢ ConnectionEnd.WriteFault → O.faults sink.new ≡ O.faults sink.old }
     ensures counted { O.faults sink.old ≤ O.faults sink.new }
@@ -61,5 +100,33 @@ pub(crate) fn send<O: Sink>(alloc: Global, sink: &mut O, response: &Response) ->
         Ok(()) => ConnectionEnd::Answered(*status),
         Err(ResponseFault::WriteFault) => ConnectionEnd::WriteFault,
         Err(ResponseFault::OutOfMemory) => ConnectionEnd::OutOfMemory,
+    }
+}
+
+/// Writes the text of a response.
+fn send_written<O: Sink>(sink: &mut O, written: &WrittenResponse) -> ConnectionEnd
+    ensures sent { IsSent written.now.status written.now.text result (O.contents sink.old) (O.contents sink.new) }
+    ensures failed { result ≡ ConnectionEnd.WriteFault → Rose (O.faults sink.old) (O.faults sink.new) }
+    ensures kept { result ≢ ConnectionEnd.WriteFault → O.faults sink.new ≡ O.faults sink.old }
+    ensures counted { O.faults sink.old ≤ O.faults sink.new }
+    ensures other { O.front sink.new ≡ O.front sink.old }
+{
+    match write_all(sink, written.text.as_slice()) {
+        Ok(()) => ConnectionEnd::Answered(written.status),
+        Err(Failed) => ConnectionEnd::WriteFault,
+    }
+}
+
+/// Sends an answer.
+pub(crate) fn send<O: Sink>(alloc: Global, sink: &mut O, answer: &Answer) -> ConnectionEnd
+    ensures sent { IsSent (answer_status answer.now) (answer_text answer.now) result (O.contents sink.old) (O.contents sink.new) }
+    ensures failed { result ≡ ConnectionEnd.WriteFault → Rose (O.faults sink.old) (O.faults sink.new) }
+    ensures kept { result ≢ ConnectionEnd.WriteFault → O.faults sink.new ≡ O.faults sink.old }
+    ensures counted { O.faults sink.old ≤ O.faults sink.new }
+    ensures other { O.front sink.new ≡ O.front sink.old }
+{
+    match answer {
+        Answer::Made(response) => send_made(alloc, sink, response),
+        Answer::Written(written) => send_written(sink, written),
     }
 }

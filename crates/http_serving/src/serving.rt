@@ -8,9 +8,10 @@ ghost use Rattle.http_serving.specs.Returning.{IsFresh, IsReturned};
 ghost use Rattle.http_serving.specs.Routes.{AsksAt, IsRouted, Route, RoutedAnswer};
 ghost use Rattle.http_serving.specs.Serving.{IsAnswerAfter, IsComplete, IsServed, IsUntouched, Serves};
 ghost use Rattle.http_serving.specs.Steps.{IsStopAfter};
+ghost use Rattle.http_serving.specs.Written.{IsRightAnswer};
 
 use crate::ends::ConnectionEnd;
-use crate::responses::{Response, bare, refusal_status, send};
+use crate::responses::{Answer, bare, refusal_status, send};
 use crate::routes::Routed;
 use http_edge::{Allow, HttpRequest, RequestFault, Status, read_request};
 use sb_model::{Bytes, OutOfMemory};
@@ -26,60 +27,69 @@ pub trait Answers {
     // it. It may be any relation, so also one of what a session of the server's own brought.
     ghost right: { Self → Self → ℕ → HttpRequest → Status → Allow → List ℕ → Type 0 };
 
+    // what an answer leaves of a server, whether it is given or memory was refused
+    ghost stays: { Self → Self → Type 0 };
+
     /// What a request asks for.
     fn find(&self, request: &HttpRequest) -> Routed
         ensures { IsRouted routes request.now result };
 
-    /// The response to a request that asks for the route at a place.
+    /// The answer to a request that asks for the route at a place: a response, or the text of one.
     fn answer(
         &mut self,
         alloc: Global,
         place: usize,
         request: &HttpRequest,
-    ) -> Result<Response, OutOfMemory>
+    ) -> Result<Answer, OutOfMemory>
         requires { AsksAt routes request.now place }
-        ensures { IfOk result (λ response.
-            right self.old self.new place request.now response.status response.allow response.body) };
+        ensures right { IfOk result (λ answer. IsRightAnswer (right self.old self.new place request.now) answer) }
+        ensures stays { stays self.old self.new };
 
     /// No two answers of a route are right for one request.
     fn have_one_answer()
         ensures { (before after : Self) (place : ℕ) (request : HttpRequest) → HasOneAnswer (right before after place) request };
+
+    // where no answer was asked for, nothing changed
+    ghost stays_itself: { (server : Self) → stays server server };
 }
 
-/// The response to a request.
+/// The answer to a request.
 fn answer_request<A: Answers>(
     alloc: Global,
     answers: &mut A,
     request: &HttpRequest,
-) -> Result<Response, OutOfMemory>
-    ensures { IfOk result (λ response. RoutedAnswer A.routes (A.right answers.old answers.new) request.now
-        response.status response.allow response.body) }
+) -> Result<Answer, OutOfMemory>
+    ensures right { IfOk result (λ answer. IsRightAnswer (RoutedAnswer A.routes (A.right answers.old answers.new) request.now) answer) }
+    ensures stays { A.stays answers.old answers.new }
 {
     match answers.find(request) {
         Routed::Asked(place) => answers.answer(alloc, place, request),
-        Routed::OtherMethod(allow) => Ok(bare(alloc, Status::MethodNotAllowed, allow)),
-        Routed::NoPath => Ok(bare(alloc, Status::NotFound, Allow::Post)),
+        Routed::OtherMethod(allow) => {
+            Ok(Answer::Made(bare(alloc, Status::MethodNotAllowed, allow)))
+        }
+        Routed::NoPath => Ok(Answer::Made(bare(alloc, Status::NotFound, Allow::Post))),
     }
 }
 
-/// The response to what was received.
+/// The answer to what was received.
 fn respond<A: Answers>(
     alloc: Global,
     answers: &mut A,
     received: Result<HttpRequest, RequestFault>,
-) -> Result<Response, ConnectionEnd>
-    ensures response { IfOk result (λ response. IsAnswerAfter (RoutedAnswer A.routes (A.right answers.old answers.new)) received
-        response.status response.allow response.body) }
+) -> Result<Answer, ConnectionEnd>
+    ensures right { IfOk result (λ answer.
+        IsRightAnswer (IsAnswerAfter (RoutedAnswer A.routes (A.right answers.old answers.new)) received) answer) }
     ensures stop { IfErr result (λ end. IsStopAfter received end) }
+    ensures stays { A.stays answers.old answers.new }
 {
     match received {
         Ok(request) => match answer_request(alloc, answers, &request) {
-            Ok(response) => Ok(response),
+            Ok(answer) => Ok(answer),
             Err(OutOfMemory) => Err(ConnectionEnd::OutOfMemory),
         },
         Err(RequestFault::ReadFault) => Err(ConnectionEnd::ReadFault),
         Err(fault) => match refusal_status(fault) {
-            Some(status) => Ok(bare(alloc, status, Allow::Post)),
+            Some(status) => Ok(Answer::Made(bare(alloc, status, Allow::Post))),
             None => Err(ConnectionEnd::OutOfMemory),
         },
     }
@@ -115,11 +125,14 @@ pub fn serve_connection<A: Answers, T: Wire>(
     // It is the same connection.
     ensures number { T.number wire.new ≡ T.number wire.old }
     ensures start { T.start wire.new ≡ T.start wire.old }
+
+    // What an answer leaves of the server.
+    ensures stays { A.stays answers.old answers.new }
 {
     A::have_one_answer();
     let received = read_request(alloc, wire);
     match respond(alloc, answers, received) {
-        Ok(response) => send(alloc, wire, &response),
+        Ok(answer) => send(alloc, wire, &answer),
         Err(end) => end,
     }
 }
@@ -138,6 +151,9 @@ pub fn serve_wire<A: Answers, D: Door>(
         (D.log door.old) (D.log door.new) }
     ensures kept { D.faults door.new ≡ D.faults door.old }
     ensures coming { D.coming door.new ≡ D.coming door.old }
+
+    // What an answer leaves of the server.
+    ensures stays { A.stays answers.old answers.new }
 {
     let mut wire = wire;
     let end = serve_connection(alloc, answers, &mut wire);

@@ -125,6 +125,34 @@ impl History {
         ensures counted { S.faults source.old ≤ S.faults source.new }
         ensures other { S.back source.new ≡ S.back source.old }
     {
+        match self.grow_if_more(alloc, source) {
+            Ok(_) => Ok(()),
+            Err(fault) => Err(fault),
+        }
+    }
+
+    /// As `grow`, and answers whether the source had anything to give. Where it had nothing, the
+    /// history is what it was.
+    ///
+    /// # Errors
+    ///
+    /// As `grow`.
+    pub fn grow_if_more<S: Source>(
+        &mut self,
+        alloc: Global,
+        source: &mut S,
+    ) -> Result<bool, JournalFault>
+        ensures ok { OnOk result ((bytes : List ℕ) × Gives bytes true (S.left source.old) (S.left source.new)
+            × (read_on self.old bytes ≡ Ok self.new)) }
+        ensures nothing { IfOk result (λ more. more ≡ false → self.new ≡ self.old) }
+        ensures fault { IfErr result (λ fault. (bytes : List ℕ) × (ended : Bool)
+            × Gives bytes ended (S.left source.old) (S.left source.new) × FurtherFault self.old bytes fault) }
+        ensures same { OnErr result (self.new ≡ self.old) }
+        ensures failed { IsErrOf result JournalFault.ReadFault → Rose (S.faults source.old) (S.faults source.new) }
+        ensures kept { result ≢ Err JournalFault.ReadFault → S.faults source.new ≡ S.faults source.old }
+        ensures counted { S.faults source.old ≤ S.faults source.new }
+        ensures other { S.back source.new ≡ S.back source.old }
+    {
         // looked at for the prover: what each history keeps to
         let _ = &self.rest;
         let Ok(mut buffer) = buffer_of(alloc) else {
@@ -132,7 +160,7 @@ impl History {
         };
         let mut piece = Bytes::new(alloc);
         match read_piece(source, buffer.as_mut_slice(), &mut piece) {
-            Ok(0) => return Ok(()),
+            Ok(0) => return Ok(false),
             Ok(_) => {}
             Err(ReadFault::Failed) => return Err(JournalFault::ReadFault),
             Err(ReadFault::OutOfMemory) => return Err(JournalFault::OutOfMemory),
@@ -140,7 +168,10 @@ impl History {
         let Ok(text) = joined(&self.rest, &piece) else {
             return Err(JournalFault::OutOfMemory);
         };
-        self.take_in(alloc, source, buffer.as_mut_slice(), text)
+        match self.take_in(alloc, source, buffer.as_mut_slice(), text) {
+            Ok(()) => Ok(true),
+            Err(fault) => Err(fault),
+        }
     }
 
     // Reads a text, in which the rest is the front, and what the source gives after it.

@@ -1,5 +1,5 @@
 -- What a list server answers: one response to a request, by what its body reads as.
-use Rattle.std.proofs.Common.{◌≡◌, ℕ, zero, suc, List, [], Option, Some, None, Result, Ok, Err, IfOk, IfSome, refl, sym, ap, ◌∙◌, subst, inl}
+use Rattle.std.proofs.Common.{◌≡◌, ℕ, zero, suc, List, Option, Some, None, Result, Ok, Err, IfOk, IfSome, refl, sym, ap, ◌∙◌, subst, inl}
 use Rattle.serde_json.specs.Data.{Data}
 use Rattle.sb_outside.specs.Outside.{next_piece}
 use Rattle.sb_model.specs.History.{History}
@@ -147,9 +147,7 @@ at_further history times place request FieldsTooLarge allow body is = is
 at_further history times place request BadGateway allow body is = is
 at_further history times place request ServiceUnavailable allow body is = is
 
-pub at_other : (history : History) (times : Settings) (place : ℕ) (request : HttpRequest) (result : Result Response OutOfMemory) → (place ≡ 0 → ⊥)
-    → IfOk result (λ r. IsResponseAt history times 1 request r.status r.allow r.body)
-    → IfOk result (λ r. IsResponseAt history times place request r.status r.allow r.body)
-at_other history times zero request result other is = absurd (other refl)
-at_other history times (suc place) request (Ok r) other is = at_further history times place request r.status r.allow r.body is
-at_other history times (suc place) request (Err refused) other is = tt
+pub at_other : (history : History) (times : Settings) (place : ℕ) (request : HttpRequest) (status : Status) (allow : Allow) (body : List ℕ) → (place ≡ 0 → ⊥)
+    → IsResponseAt history times 1 request status allow body → IsResponseAt history times place request status allow body
+at_other history times zero request status allow body other is = absurd (other refl)
+at_other history times (suc place) request status allow body other is = at_further history times place request status allow body is

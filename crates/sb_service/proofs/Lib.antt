@@ -4,6 +4,7 @@ pub mod Entries
 pub mod Faults
 pub mod Fronts
 pub mod Journals
+pub mod Keeping
 pub mod Loads
 pub mod Runs
 pub mod Stops

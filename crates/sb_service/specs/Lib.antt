@@ -3,6 +3,7 @@ pub mod Made
 pub mod Printed
 pub mod Answer
 pub mod Connection
+pub mod Kept
 pub mod ConnectionLaws
 pub mod ConnectionSteps
 pub mod Serving

@@ -1,4 +1,4 @@
-ghost use Rattle.std.specs.Prelude.{◌≡◌, ◌≢◌, ◌≤◌, ℕ, List, IfOk, IfSome};
+ghost use Rattle.std.specs.Prelude.{◌≡◌, ◌≢◌, ◌≤◌, ℕ, List, IfOk, IfSome, refl};
 ghost use Rattle.sb_outside.specs.Outside.{Rose, next_piece};
 ghost use Rattle.sb_model.specs.History.{History as Versions};
 ghost use Rattle.http_edge.specs.declared.messages.Allow.{Allow};
@@ -6,17 +6,20 @@ ghost use Rattle.http_edge.specs.declared.messages.HttpRequest.{HttpRequest};
 ghost use Rattle.http_edge.specs.declared.messages.Status.{Status};
 ghost use Rattle.http_serving.specs.Law.{HasOneAnswer};
 ghost use Rattle.http_serving.specs.Serving.{AnswersAtMost, Serves};
+ghost use Rattle.http_serving.specs.Written.{IsRightAnswer};
 ghost use Rattle.delta_server.specs.declared.answering.Settings.{Settings as Times};
 ghost use Rattle.sb_service.specs.Connection.{list_routes, ListServed, matches_text, IsResponseAt, IsResponseTo, HasGoodRequest};
 ghost use Rattle.sb_service.specs.ConnectionLaws.{HasOneResponse, IsAnsweredAsRead};
 ghost use Rattle.sb_service.specs.ConnectionSteps.{IsResponseToMessage, IsBareRefusal};
+ghost use Rattle.sb_service.specs.Kept.{AreKeptOf};
 
+use crate::kept::{KeptAnswers, MOST_BYTES};
 use delta_server::{ServeFault, Settings, answer_fetch, answer_find};
 use hash_messages::{FindRequest, find_values_read_one_way, read_find, write_matches};
 use http_edge::{Allow, HttpRequest, Status, path_of};
 use http_serving::{
-    Answers, ConnectionEnd, Response, Route, Routed, answers_follow_requests, bare, find_route,
-    requests_have_one_answer,
+    Answer, Answers, ConnectionEnd, Response, Route, Routed, WrittenResponse,
+    answers_follow_requests, bare, find_route, requests_have_one_answer, write_out,
 };
 use list_versions::History;
 use sb_json::MessageFault;
@@ -109,20 +112,61 @@ fn answer_hashes_body(
     }
 }
 
-/// The response to a request that asks for the route at a place.
+/// The answer to a request for updates: the text that is kept of an answer to the same body, or a new one. A new one with the
+/// status 200 is written out and kept. Where it is too long for that or memory is refused, it is sent all the same.
+fn answer_updates(
+    alloc: Global,
+    history: &History,
+    settings: &Settings,
+    kept: &mut KeptAnswers,
+    request: &HttpRequest,
+) -> Result<Answer, OutOfMemory>
+    requires { AreKeptOf history.now.versions settings.now kept.old }
+    ensures right { IfOk result (λ answer. IsRightAnswer (IsResponseAt history.now.versions settings.now 0 request.now) answer) }
+    ensures kept { AreKeptOf history.now.versions settings.now kept.new }
+{
+    let asked = request.body.as_slice();
+    if let Some(text) = kept.text_for(asked) {
+        return Ok(Answer::Written(WrittenResponse {
+            status: Status::Success,
+            text: text.copy()?,
+        }));
+    }
+    let response = answer_updates_body(alloc, history, settings, request)?;
+    let Status::Success = response.status else {
+        return Ok(Answer::Made(response));
+    };
+    if response.body.len() > MOST_BYTES {
+        return Ok(Answer::Made(response));
+    }
+    match write_out(alloc, &response) {
+        Ok(written) => {
+            kept.keep(asked, written.text.as_slice());
+            Ok(Answer::Written(written))
+        }
+        Err(OutOfMemory) => Ok(Answer::Made(response)),
+    }
+}
+
+/// The answer to a request that asks for the route at a place.
 fn answer_at(
     alloc: Global,
     history: &History,
     settings: &Settings,
+    kept: &mut KeptAnswers,
     place: usize,
     request: &HttpRequest,
-) -> Result<Response, OutOfMemory>
-    ensures { IfOk result (λ response. IsResponseAt history.now.versions settings.now place request.now
-        response.status response.allow response.body) }
+) -> Result<Answer, OutOfMemory>
+    requires { AreKeptOf history.now.versions settings.now kept.old }
+    ensures right { IfOk result (λ answer. IsRightAnswer (IsResponseAt history.now.versions settings.now place request.now) answer) }
+    ensures kept { AreKeptOf history.now.versions settings.now kept.new }
 {
     match place {
-        0 => answer_updates_body(alloc, history, settings, request),
-        _ => answer_hashes_body(alloc, history, settings, request),
+        0 => answer_updates(alloc, history, settings, kept, request),
+        _ => match answer_hashes_body(alloc, history, settings, request) {
+            Ok(response) => Ok(Answer::Made(response)),
+            Err(OutOfMemory) => Err(OutOfMemory),
+        },
     }
 }
 
@@ -131,18 +175,38 @@ fn answer_at(
 pub(crate) struct ListServer<'a> {
     pub history: &'a History,
     pub settings: &'a Settings,
+    /// The answers that it has kept, each of which is one of this history and these settings.
+    pub kept: KeptAnswers,
 }
 
 impl<'a> Model for ListServer<'a> {
     ghost Value = { ListServed };
 
     ghost view = { λ s. record { versions = s.history.now.versions; times = s.settings.now } };
+
+    ghost invariant = { λ s. AreKeptOf s.history.now.versions s.settings.now s.kept };
+}
+
+impl<'a> ListServer<'a> {
+    /// The answers that it has kept, when it has answered.
+    pub fn into_kept(self) -> KeptAnswers
+        ensures { AreKeptOf self.entry.versions self.entry.times result }
+    {
+        let ListServer {
+            history: _,
+            settings: _,
+            kept,
+        } = self;
+        kept
+    }
 }
 
 impl<'a> Answers for ListServer<'a> {
     ghost routes = { list_routes };
 
     ghost right = { λ before after place. IsResponseAt before.versions before.times place };
+
+    ghost stays = { λ before after. after ≡ before };
 
     fn find(&self, request: &HttpRequest) -> Routed {
         find_route(
@@ -165,8 +229,15 @@ impl<'a> Answers for ListServer<'a> {
         alloc: Global,
         place: usize,
         request: &HttpRequest,
-    ) -> Result<Response, OutOfMemory> {
-        answer_at(alloc, self.history, self.settings, place, request)
+    ) -> Result<Answer, OutOfMemory> {
+        answer_at(
+            alloc,
+            self.history,
+            self.settings,
+            &mut self.kept,
+            place,
+            request,
+        )
     }
 
     fn have_one_answer()
@@ -176,6 +247,8 @@ impl<'a> Answers for ListServer<'a> {
         values_read_one_way();
         find_values_read_one_way();
     }
+
+    ghost stays_itself = { λ server. refl };
 }
 
 /// Reads one request and writes one response (RFC 9112).
@@ -213,7 +286,11 @@ pub fn serve_connection<T: Wire>(
     ensures number { T.number wire.new ≡ T.number wire.old }
     ensures start { T.start wire.new ≡ T.start wire.old }
 {
-    let mut server = ListServer { history, settings };
+    let mut server = ListServer {
+        history,
+        settings,
+        kept: KeptAnswers::new(alloc),
+    };
     http_serving::serve_connection(alloc, &mut server, wire)
 }
 

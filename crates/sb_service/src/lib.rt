@@ -1,6 +1,7 @@
 //! The top call of the list server: `sblistd answer` reads a journal and the body of one request, and prints the body of the
-//! answer; `sblistd serve` answers connections over HTTP, each as `serve_connection` does, and reads what is new in the journal
-//! before each; `sblistd generate` and `sblistd exercise` make a load from a seed, to try and to measure servers with.
+//! answer; `sblistd serve` answers connections over HTTP, each as `serve_connection` does, reads what is new in the journal
+//! before each, and keeps its last answers while nothing is new; `sblistd generate` and `sblistd exercise` make a load from a
+//! seed, to try and to measure servers with.
 #![tactic(auto)]
 
 pub use connection::{requests_have_one_response, serve_connection};
@@ -10,6 +11,7 @@ pub use targets::{ServerTargets, server_targets};
 mod answer;
 mod command;
 mod connection;
+mod kept;
 mod making;
 mod printing;
 mod reply;

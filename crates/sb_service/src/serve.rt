@@ -3,11 +3,13 @@ ghost use Rattle.sb_outside.specs.Outside.{Rose};
 ghost use Rattle.sb_outside.specs.declared.doors.Connection.{Connection};
 ghost use Rattle.list_versions.specs.declared.fault.JournalFault.{JournalFault};
 ghost use Rattle.http_serving.specs.Returning.{IsFresh};
+ghost use Rattle.sb_service.specs.Kept.{AreKeptOf};
 ghost use Rattle.sb_service.specs.Serving.{HasRun, IsLined, IsOpened, IsRefusal, IsServeRun, IsTaken, IsTold, IsTurn, StopsAt};
 ghost use Rattle.sb_service.specs.Stops.{status_of};
 
 use crate::answer::answer_fault;
 use crate::connection::ListServer;
+use crate::kept::KeptAnswers;
 use crate::stop::Stop;
 use delta_server::Settings;
 use http_edge::ResponseFault;
@@ -16,6 +18,7 @@ use list_versions::{History, JournalFault, cuts_make_no_difference};
 use sb_model::OutOfMemory;
 use sb_outside::{Door, Failed, Sink, Source};
 use std::alloc::Global;
+use std::mem;
 
 /// Prints the line of a connection that ended. Answers `Done`, or what ends the run.
 fn print_end<O: Sink>(alloc: Global, number: u32, end: ConnectionEnd, out: &mut O) -> Stop
@@ -30,16 +33,18 @@ fn print_end<O: Sink>(alloc: Global, number: u32, end: ConnectionEnd, out: &mut 
     }
 }
 
-/// Serves a connection, gives it back, and prints its line. Answers `Done`, or what ends the run.
+/// Serves a connection by what is kept or anew, gives it back, and prints its line. Answers `Done`, or what ends the run.
 fn serve_taken<O: Sink, D: Door>(
     alloc: Global,
     history: &History,
     settings: &Settings,
+    kept: &mut KeptAnswers,
     number: u32,
     out: &mut O,
     door: &mut D,
     wire: D::Wire,
 ) -> Stop
+    requires { AreKeptOf history.now.versions settings.now kept.old }
     ensures told { (before : Option (List Connection)) (pieces : List (List ℕ))
         → IsOpened before (D.log door.old) (D.Wire.number wire)
         → IsFresh pieces (D.Wire.start wire) (D.Wire.left wire) (D.Wire.contents wire) (D.Wire.Source.faults wire) (D.Wire.Sink.faults wire)
@@ -50,9 +55,15 @@ fn serve_taken<O: Sink, D: Door>(
     ensures kept { result ≢ Stop.WriteFault → O.faults out.new ≡ O.faults out.old }
     ensures door_kept { D.faults door.new ≡ D.faults door.old }
     ensures coming { D.coming door.new ≡ D.coming door.old }
+    ensures answers { AreKeptOf history.now.versions settings.now kept.new }
 {
-    let mut server = ListServer { history, settings };
+    let mut server = ListServer {
+        history,
+        settings,
+        kept: mem::replace(kept, KeptAnswers::new(alloc)),
+    };
     let end = serve_wire(alloc, &mut server, door, wire);
+    *kept = server.into_kept();
     print_end(alloc, number, end, out)
 }
 
@@ -71,18 +82,20 @@ fn refuse<O: Sink>(alloc: Global, fault: JournalFault, out: &mut O) -> Stop
     }
 }
 
-/// Lets the history grow from the journal, and serves a connection that the door gave. Answers `Done`, or what ends
-/// the run.
+/// Lets the history grow from the journal, and serves a connection that the door gave. Where the journal had anything to give,
+/// nothing is kept any more. Answers `Done`, or what ends the run.
 fn take_turn<J: Source, O: Sink, D: Door>(
     alloc: Global,
     history: &mut History,
     settings: &Settings,
+    kept: &mut KeptAnswers,
     number: u32,
     journal: &mut J,
     out: &mut O,
     door: &mut D,
     wire: D::Wire,
 ) -> Stop
+    requires { AreKeptOf history.old.versions settings.now kept.old }
     ensures turn { (before : Option (List Connection)) (coming : Option (List (List (List ℕ)))) (pieces : List (List ℕ))
         → IsOpened before (D.log door.old) (D.Wire.number wire) → IsTaken pieces coming (D.coming door.old)
         → IsFresh pieces (D.Wire.start wire) (D.Wire.left wire) (D.Wire.contents wire) (D.Wire.Source.faults wire) (D.Wire.Sink.faults wire)
@@ -96,9 +109,13 @@ fn take_turn<J: Source, O: Sink, D: Door>(
     ensures kept { result ≢ Stop.WriteFault → O.faults out.new ≡ O.faults out.old }
     ensures door_kept { D.faults door.new ≡ D.faults door.old }
     ensures coming { D.coming door.new ≡ D.coming door.old }
+    ensures answers { AreKeptOf history.new.versions settings.now kept.new }
 {
-    match history.grow(alloc, journal) {
-        Ok(()) => serve_taken(alloc, history, settings, number, out, door, wire),
+    match history.grow_if_more(alloc, journal) {
+        Ok(more) => {
+            kept.forget_if(more);
+            serve_taken(alloc, history, settings, kept, number, out, door, wire)
+        }
         Err(fault) => {
             give_back(door, wire);
             refuse(alloc, fault, out)
@@ -111,11 +128,13 @@ fn take_next<J: Source, O: Sink, D: Door>(
     alloc: Global,
     history: &mut History,
     settings: &Settings,
+    kept: &mut KeptAnswers,
     number: u32,
     journal: &mut J,
     out: &mut O,
     door: &mut D,
 ) -> Option<Stop>
+    requires { AreKeptOf history.old.versions settings.now kept.old }
     ensures goes_on { IfNone result (IsTurn settings.now number 0
         (record { left = J.left journal.old; kept = history.old; held = O.contents out.old; log = D.log door.old; coming = D.coming door.old })
         (record { left = J.left journal.new; kept = history.new; held = O.contents out.new; log = D.log door.new; coming = D.coming door.new })) }
@@ -130,10 +149,13 @@ fn take_next<J: Source, O: Sink, D: Door>(
     ensures kept { result ≢ Some Stop.WriteFault → O.faults out.new ≡ O.faults out.old }
     ensures door_failed { result ≡ Some Stop.DoorFault → Rose (D.faults door.old) (D.faults door.new) }
     ensures door_kept { result ≢ Some Stop.DoorFault → D.faults door.new ≡ D.faults door.old }
+    ensures answers { AreKeptOf history.new.versions settings.now kept.new }
 {
     match door.next() {
         Ok(Some(wire)) => {
-            match take_turn(alloc, history, settings, number, journal, out, door, wire) {
+            match take_turn(
+                alloc, history, settings, kept, number, journal, out, door, wire,
+            ) {
                 Stop::Done => None,
                 stop => Some(stop),
             }
@@ -164,8 +186,18 @@ fn serve_connections<J: Source, O: Sink, D: Door>(
     ensures door_failed { result ≡ Stop.DoorFault → Rose (D.faults door.old) (D.faults door.new) }
     ensures door_kept { result ≢ Stop.DoorFault → D.faults door.new ≡ D.faults door.old }
 {
+    let mut kept = KeptAnswers::new(alloc);
     for taken in 0..connections {
-        if let Some(stop) = take_next(alloc, history, settings, taken + 1, journal, out, door) {
+        if let Some(stop) = take_next(
+            alloc,
+            history,
+            settings,
+            &mut kept,
+            taken + 1,
+            journal,
+            out,
+            door,
+        ) {
             return stop;
         }
     }

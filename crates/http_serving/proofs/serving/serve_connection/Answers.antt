@@ -14,9 +14,9 @@ returns-in-Ok-clause-serves g c =
     let contents : g.T.Sink.contents heard ≡ g.T.Sink.contents wire =
     ap (λ side. side.contents) (sym (g.met.T.Wire.back_is heard) ∙ c.read_request-received.ensures.other ∙ g.met.T.Wire.back_is wire) in
     served (RoutedAnswer g.A.Answers.routes (g.A.Answers.right c.args.answers.now c.respond.new.answers)) c.read_request-received.result
-    c.in-Ok.response.status c.in-Ok.response.allow c.in-Ok.response.body c.send.result
+    c.in-Ok.answer c.send.result
     (g.T.Source.left wire) (g.T.Source.left heard) (g.T.Source.left told) (g.T.Sink.contents wire) (g.T.Sink.contents heard) (g.T.Sink.contents told)
-    c.read_request-received.ensures.outcome left contents c.in-Ok.ensures.response c.send.ensures.sent
+    c.read_request-received.ensures.outcome left contents c.in-Ok.ensures.right c.send.ensures.sent
 
 pub returns-in-Ok-clause-complete : goal.returns-in-Ok-clause-complete
 returns-in-Ok-clause-complete g c =

@@ -1,11 +1,12 @@
 use Rattle.std.proofs.Common.{◌+◌, ◌<◌, [], refl, ◌∙◌, arith}
 use Rattle.sb_service.specs.Stops.{status_of}
+use Rattle.sb_service.proofs.Keeping.{none_kept}
 use Rattle.sb_service.proofs.Stops.{one_reason}
 use Rattle.sb_service.proofs.Turns.{no_turn, one_more, stopped}
 use Rattle.sb_service.proofs.serve.serve_connections.Goals as goal
 
 pub loop-taken-init : goal.loop-taken-init
-loop-taken-init g c = ([], refl, no_turn _ _, refl, refl, refl)
+loop-taken-init g c = ([], refl, no_turn _ _, refl, refl, refl, none_kept c.args.history.now.versions c.args.settings.now c.new-kept.result c.new-kept.ensures)
 
 pub loop-taken-preserved : goal.loop-taken-preserved
 loop-taken-preserved g c =
@@ -18,7 +19,11 @@ loop-taken-preserved g c =
       c.take_next.ensures.read_kept (λ e. cc) ∙ inv.3,
       c.take_next.ensures.kept (λ e. cc) ∙ inv.4,
       c.take_next.ensures.door_kept (λ e. cc) ∙ inv.5,
+      c.take_next.ensures.answers,
     )
+
+pub take_next-requires : goal.take_next-requires
+take_next-requires g c = c.loop-taken.invariant.6
 
 pub returns-in-Some-clause-run : goal.returns-in-Some-clause-run
 returns-in-Some-clause-run g c =

@@ -1,8 +1,9 @@
 use Rattle.std.proofs.Common.{◌≡◌, List, length}
+use Rattle.sb_service.specs.Kept.{AreKeptOf}
 use Rattle.sb_service.specs.Serving.{Turn, HasTurns}
 use Rattle.sb_service.proofs.serve.serve_connections.Given as goal
 
--- the turns so far, and no fault was counted
+-- the turns so far, no fault was counted, and what is kept is kept of the history
 abbrev pub invariant-loop-taken : goal.invariant-loop-taken
 invariant-loop-taken g l =
     (turns : List Turn)
@@ -13,3 +14,4 @@ invariant-loop-taken g l =
     × (g.J.Source.faults l.journal ≡ g.J.Source.faults l.initial.journal)
     × (g.O.Sink.faults l.out ≡ g.O.Sink.faults l.initial.out)
     × (g.D.Door.faults l.door ≡ g.D.Door.faults l.initial.door)
+    × AreKeptOf l.history.versions l.settings l.kept

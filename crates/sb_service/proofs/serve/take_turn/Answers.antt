@@ -1,6 +1,8 @@
-use Rattle.std.proofs.Common.{inl, inr, ◌∙◌}
+use Rattle.std.proofs.Common.{inl, inr, sym, subst}
 use Rattle.http_serving.specs.Serving.{IsUntouched}
+use Rattle.sb_service.specs.Kept.{AreKeptOf}
 use Rattle.sb_service.proofs.Entries.{logged}
+use Rattle.sb_service.proofs.Keeping.{kept_or_forgotten}
 use Rattle.sb_service.proofs.serve.take_turn.Goals as goal
 
 pub returns-in-Ok-clause-turn : goal.returns-in-Ok-clause-turn
@@ -29,3 +31,8 @@ returns-in-Err-clause-turn g c = λ before coming pieces opening taken fresh.
       taken = rw c.give_back.ensures.coming taken;
       logged = logged IsUntouched before _ _ _ opening (c.give_back.ensures.untouched pieces fresh);
     })
+
+pub serve_taken-requires : goal.serve_taken-requires
+serve_taken-requires g c =
+    subst (AreKeptOf c.grow_if_more.new.self.versions c.args.settings.now) (sym c.forget_if.ensures)
+    (kept_or_forgotten c.args.history.now c.grow_if_more.new.self c.args.settings.now c.args.kept.now c.in-Ok.more c.in-Ok.ensures.nothing c.requires)
