@@ -1,20 +1,12 @@
 //! Where the objects of a command line are.
+use crate::words::words;
 use sb_client::{Targets, targets};
 use sb_model::Text;
-use std::alloc::{AllocError, Global};
+use std::alloc::Global;
 use std::process::Abort;
 use std::test::Fail;
 
 const LIST: &str = "MALWARE/ANY_PLATFORM/URL";
-
-/// Words of a command line.
-fn words(alloc: Global, texts: &[&str]) -> Result<Vec<String>, AllocError> {
-    let mut words = Vec::new(alloc);
-    for text in texts {
-        words.push(String::from_str(alloc, text)?)?;
-    }
-    Ok(words)
-}
 
 fn is(text: &Option<Text>, wanted: &str) -> bool {
     match text {
@@ -70,6 +62,30 @@ fn a_judging_has_both_and_does_not_replace_the_store(rt: HostRuntime) -> Result<
     let found = targets(rt.alloc(), words.as_slice())?;
     has_both(&rt, &found, "s", "h:1");
     assert!(rt; !found.replaces);
+    Ok(())
+}
+
+// Whether the words of a judging with so many updates say that the store is replaced.
+fn replaces(alloc: Global, updates: &str) -> Result<bool, Fail> {
+    let words = words(
+        alloc,
+        &[
+            "sbcheck",
+            "judge",
+            "--update",
+            updates,
+            "--server=h:1",
+            "--store=s",
+            LIST,
+        ],
+    )?;
+    Ok(targets(alloc, words.as_slice())?.replaces)
+}
+
+#[test]
+fn a_judging_with_updates_replaces_the_store(rt: HostRuntime) -> Result<(), Fail> {
+    assert!(rt; replaces(rt.alloc(), "1")?);
+    assert!(rt; !replaces(rt.alloc(), "0")?);
     Ok(())
 }
 

@@ -2,4 +2,10 @@
 #![tactic(auto)]
 
 #[cfg(test)]
+mod beside;
+#[cfg(test)]
 mod finding;
+#[cfg(test)]
+mod gates;
+#[cfg(test)]
+mod words;
