@@ -8,7 +8,7 @@ import re
 import unicodedata
 
 import urls
-from compare import Refused, decode
+from updates import Refused, decode
 
 CANONICAL = [
     (b"http://host/%25%32%35", b"http://host/%25"),
