@@ -2,9 +2,10 @@
 """Runs the second program over the stored cases, as docs/FORMATS.md says how a case is written.
 
 A run of a case is left out where it holds sessions of updates or connections (`sbupdate run`, `sblistd serve`), where an object fails at
-a call with a number, for another program makes other calls, or where the host of a URL has bytes from 128 on. What a run that is
-left out keeps is what its case says. Of runs that judge also what their sessions send and their moments are compared. The last case
-is wrong on purpose, so exactly that one has to differ: else the exit status is 1.
+a call with a number, for another program makes other calls, where the host of a URL has bytes from 128 on, or where it depends on the
+threads of a run that judges what it prints. What a run that is left out keeps is what its case says. Of runs that judge also what their
+sessions send, their moments and what the keeper is handed are compared. The last case is wrong on purpose, so exactly that one has to
+differ: else the exit status is 1.
 """
 
 import argparse
@@ -175,17 +176,21 @@ def judge_words(words):
     if found is None or lists_of(["--", *found[1]]) is None or not {"--store", "--server"} <= set(found[0]):
         return None
     said = found[0]
-    ranges = {"update": (0, 0), "workers": (1, 1), "patience": (60, 86_400), "max-update": (0, 2**31 - 1), "max-database": (2**20, 2**31 - 1)}
+    ranges = {"update": (0, 16), "workers": (1, 16), "patience": (60, 86_400)}
+    ranges |= {"max-update": (0, 2**31 - 1), "max-database": (2**20, 2**31 - 1)}
+    numbers = {}
     for name, (unsaid, most) in ranges.items():
-        text = said.setdefault("--" + name, str(unsaid))
+        text = said.get("--" + name, str(unsaid))
         least = 1 if name == "workers" else 0
         if re.fullmatch(NUMBER, text) is None or not least <= int(text) <= most:
             return None
+        numbers[name] = int(text)
     address, key = re.fullmatch(HOST_AND_PORT, said["--server"]), said.get("--key", "")
     if address is None or int(address[2]) > 65_535 or re.fullmatch("[A-Za-z0-9_-]*", key) is None:
         return None
-    plan = {"names": found[1], "server": said["--server"], "key": key}
-    return plan | {"need_digest": "--no-digest" not in said, "patience": int(said["--patience"])}
+    plan = {"names": found[1], "server": said["--server"], "key": key, "need_digest": "--no-digest" not in said}
+    plan["options"] = {"raw-only": "--raw-only" in said, "max-update": numbers["max-update"], "max-database": numbers["max-database"]}
+    return plan | {"rounds": numbers["update"], "patience": numbers["patience"]}
 
 
 def load_words(words, flags=()):
@@ -294,11 +299,17 @@ class Run:
         return self.earlier.kept(cut) if self.earlier else None
 
     def kept(self, cut):
-        """What it keeps at the end. A run that judges keeps what it found."""
+        """What it keeps at the end: of a run that does not say so what it was handed last, or what it found."""
         number = self.find(b"kept", (self.own, self.group))
         if number is None:
-            return self.store(cut)
+            handed = self.texts(b"handed", cut)
+            return handed[-1] if handed else self.store(cut)
         return None if self.rest(number) == b"none" else self.book.text(number, cut)[0]
+
+    def texts(self, name, cut):
+        """The texts of a field that may stand several times, or None where it does not stand."""
+        numbers = self.every(name)
+        return [self.book.text(number, cut)[0] for number in numbers if self.rest(number) != b"none"] if numbers else None
 
     def link(self, cut):
         """The link, and how many fronts its texts are to be run for."""
@@ -313,13 +324,13 @@ class Run:
         return judging.Link(plays, self.text(b"journal", cut)[0], times), max(fronts)
 
     def told(self, cut):
-        """What the case says of the sessions' requests and of the moments, where it does."""
-        sent = [number for number in self.every(b"sent") if self.rest(number) != b"none"]
+        """What the case says of the sessions' requests, of the moments and of what the keeper was handed, where it does."""
         moments = self.find(b"moments", (self.own, self.group))
         none = moments is None or self.rest(moments) == b"none"
         return (
-            [self.book.text(number, cut)[0] for number in sent] if self.every(b"sent") else None,
+            self.texts(b"sent", cut),
             None if moments is None else [] if none else [int(word) for word in self.rest(moments).split(b" ")],
+            self.texts(b"handed", cut),
         )
 
     def differs(self, cut):
@@ -341,9 +352,9 @@ class Run:
         same = status == found and (usage or printed == wanted)
         fronts = max(more, *(fronts for _, fronts in texts))
         if same and reports:
-            for says, came in zip(self.told(cut), (reports[0].sent, reports[0].moments)):
+            for says, came in zip(self.told(cut), (reports[0].sent, reports[0].moments, reports[0].handed)):
                 if says is not None and says != came:
-                    return ("sessions or moments", repr(says).encode(), "these", came), fronts
+                    return ("sessions, moments or what was handed", repr(says).encode(), "these", came), fronts
         return None if same else (status, wanted, found, printed), fronts
 
 
@@ -393,7 +404,7 @@ def main():
             continue
         try:
             found = difference(known)
-        except urls.Skipped:
+        except (urls.Skipped, judging.Scheduled):
             continue
         ran += 1
         if found:

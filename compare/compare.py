@@ -4,9 +4,11 @@
 The second program is the first part of this file, and the files that it imports. It follows docs/FORMATS.md with Python's own
 JSON, base64 and SHA-256, and shares nothing with the crates. First come the recordings of compare/recordings.py, whose
 texts are known; then seeded inputs: bodies that are right, bodies with changed fields, and bodies with changed
-bytes, and texts that stand at the limits of lists, objects and values. `sbcheck show` runs beside compare/urls.py on seeded URLs, and `sblistd answer` beside compare/server.py on seeded
-journals, fetch requests and find requests. Runs of `sbcheck judge` are seeded with their stores, URLs, clocks and finds, which are
-scripted or served: they are cases for `stored_cases`. The exit status is 1 where a run differs.
+bytes, and texts that stand at the limits of lists, objects and values. `sbcheck show` runs beside compare/urls.py on seeded
+URLs, and `sblistd answer` beside compare/server.py on seeded journals, fetch requests and find requests. Runs of `sbcheck judge`
+are seeded with their stores, URLs, clocks, rounds and finds, which are scripted or served: they are cases for `stored_cases`.
+Where a URL is looked up, no round of theirs installs a list, so that what is printed does not depend on when that is. The exit
+status is 1 where a run differs.
 """
 
 import argparse

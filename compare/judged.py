@@ -1,5 +1,6 @@
 """Seeded runs that judge, written as cases (docs/FORMATS.md, "Cases"). What each is to print, to send and to read of its clock is what
-the second program finds, so that `stored_cases`, which runs `sbcheck judge` on them, has to find no difference.
+the second program finds, so that `stored_cases`, which runs `sbcheck judge` on them, has to find no difference. Any number of
+workers look the URLs up. Where there are URLs no round of updates installs a list: each is refused, lost or of no known list.
 """
 
 import base64
@@ -8,6 +9,7 @@ import json
 
 import exchanges
 import judging
+import recordings
 
 LISTS = ["MALWARE/ANY_PLATFORM/URL", "MALWARE/WINDOWS/URL", "SOCIAL_ENGINEERING/ANY_PLATFORM/URL", "UNWANTED_SOFTWARE/LINUX/EXECUTABLE"]
 EXPRESSIONS = [b"a.example/", b"b.example/", b"b.example/x/", b"c.b.example/", b"d.example/y", b"d.example/y?z", b"192.0.2.1/", b"xn--bcher-kva.example/"]
@@ -93,8 +95,32 @@ def any_answer(rand, lists):
     return whole
 
 
+def refused_update(rand, name):
+    """An update that no list of `any_lists` takes: for its checksum, its base, a place past the members, or a record of no list."""
+    return rand.choice([
+        recordings.update("FULL", b"\x02", b"other", [recordings.raw(b"1234", b"5678")], name=name),
+        recordings.update("PARTIAL", b"\x02", b"", base=b"\x07", name=name),
+        recordings.update("PARTIAL", b"\x02", b"", removed=[recordings.places(rand.choice([8, 2**31 - 1]))], name=name),
+        recordings.update("FULL", b"\x02", b"", [recordings.rice("riceHashes", firstValue="5", riceParameter=1, numEntries=1)], name=name),
+    ])  # fmt: skip
+
+
+def any_round(rand, lists, installs):
+    """The session of a round: a field with its text. No list is installed by it, unless it may be."""
+    kind = rand.random()
+    if installs and kind < 0.6:
+        return b"serve", b"", b""
+    if kind < 0.5:
+        return b"serve", rand.choice([b"lost", b"without 1", b"front 20", b"byte 1 33"]), b""
+    if kind < 0.7:
+        return b"session", b"", any_answer(rand, lists)
+    text = recordings.body(*(refused_update(rand, rand.choice(LISTS)) for _ in range(rand.choice([0, 1, 1, 2]))))
+    wait = f',"minimumWaitDuration":"{rand.choice(DURATIONS[:-1])}"}}' if rand.random() < 0.5 else "}"
+    return b"session", b"", exchanges.response((text[:-1] + wait).encode("ascii"))
+
+
 def any_plays(rand, lists):
-    """The sessions that are to come: fields, each with its text."""
+    """The sessions of finds that are to come: fields, each with its text."""
     plays = []
     for _ in range(rand.choice([0, 2, 4, 8, 12])):
         if rand.random() < 0.7:
@@ -111,11 +137,17 @@ def any_words(rand, lists):
     plan = {"names": names, "server": f"h{rand.randrange(9)}.example:80", "key": rand.choice(["", "", "", "k-1", "0_a"])}
     patience = rand.choice([None, None, 0, 1, 59, 60, 900, 1_800, 86_400])
     plan |= {"patience": 60 if patience is None else patience, "need_digest": rand.random() < 0.8}
+    rounds, workers = rand.choice([0, 0, 0, 1, 1, 2, 4]), rand.choice([None, None, 1, 2, 3, rand.randrange(1, 17), 16])
+    plan |= {"rounds": rounds, "options": {"raw-only": False, "max-update": 0, "max-database": 1_048_576}}
     options = [["--store", "s"], ["--server=" + plan["server"]], *([name] for name in names)]
     options += [["--patience", str(patience)]] if patience is not None else []
     options += [["--key=" + plan["key"]]] if plan["key"] else []
     options += [] if plan["need_digest"] else [["--no-digest"]]
-    options += [rand.choice([["--raw-only"], ["--update=0"], ["--workers", "1"], ["--max-database=0"]])] if rand.random() < 0.2 else []
+    options += [["--update", str(rounds)]] if rounds or rand.random() < 0.1 else []
+    options += [[f"--workers={workers}"]] if workers else []
+    for name, value in rand.sample([("raw-only", True), ("max-update", 1), ("max-database", 0)], rand.choice([0, 0, 0, 1, 2])):
+        plan["options"][name] = value
+        options.append([f"--{name}"] if value is True else [f"--{name}", str(value)])
     rand.shuffle(options)
     return ["sbcheck", "judge", *(word for words in options for word in words)], plan
 
@@ -140,7 +172,8 @@ def spelled(number, words, given, report):
     lines += ["settings " + " ".join(map(str, settings)), "clock " + " ".join(map(str, clock)), "dice " + " ".join(map(str, dice))]
     for kind, harm, text in plays:
         lines += [" ".join([kind.decode(), harm.decode()]).rstrip(), *lines_of(text)]
-    lines += [f"status {report.status}", "out", *lines_of(report.printed), "handed none"]
+    lines += [f"status {report.status}", "out", *lines_of(report.printed)]
+    lines += [line for text in report.handed for line in ["handed", *lines_of(text)]] or ["handed none"]
     lines += [line for sent in report.sent for line in ["sent", *lines_of(sent)]] or ["sent none"]
     return [*lines, "moments " + " ".join(map(str, report.moments))]
 
@@ -152,7 +185,8 @@ def any_run(rand, number):
     (words, plan), text = any_words(rand, lists), b"".join(url + b"\n" for url in urls)
     settings = rand.choice([(0, 300, 300), (0, 0, 0), (0, 1, 1_800), (1_800, 300, 300), (60, 300, 1)])
     clock, dice = rising(rand, rand.choice([1, 2, 3 * len(urls) + 1])), [rand.choice([0, rand.randrange(2**32)]) for _ in range(12)]
-    store, journal, plays = any_store(rand, lists), any_journal(rand, lists), any_plays(rand, lists)
+    rounds = [any_round(rand, lists, not urls) for _ in range(plan["rounds"])]
+    store, journal, plays = any_store(rand, lists), any_journal(rand, lists), rounds + any_plays(rand, lists)
     times = {"wait": settings[0], "find-wait": settings[0], "cache": settings[1], "negative": settings[2]}
     link = judging.Link(list(plays), journal, times)
     report = judging.judge(plan, urls, store, judging.Clock(clock), judging.Dice(dice), link.session)
@@ -166,7 +200,8 @@ def some_runs(rand, count):
         case, report = any_run(rand, number)
         lines += case
         for line in report.printed.splitlines():
-            kind = line.split(b" ")[1].decode()
-            if kind in ("safe", "unsafe", "undecided", "refused"):
+            words = line.decode("utf-8", "replace").split(" ")
+            kind = "of a round" if words[0] == "round" else words[1]
+            if kind in ("safe", "unsafe", "undecided", "refused", "of a round"):
                 kinds[kind] = kinds.get(kind, 0) + 1
     return "".join(line + "\n" for line in lines).encode("ascii"), kinds

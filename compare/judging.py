@@ -1,8 +1,9 @@
-"""The second program's judge: it loads a store, looks URLs up on its lists, asks a link for whole hashes, keeps what is
-answered, and prints a report.
+"""The second program's judge: it loads a store, makes rounds of updates, looks URLs up on the lists that it loaded, asks a link for
+whole hashes, keeps what is answered, and prints a report.
 
 The rules are those of docs/FORMATS.md, "A run that judges". A kept answer is a dictionary, and a link is a function from what a
-session sends to what it gives.
+session sends to what it gives. Where a URL is looked up and a round installs a list, the number of the URL's publication depends on
+the schedule of the threads: such a run is left out. Every other comes to the same for any number of workers.
 """
 
 import base64
@@ -13,7 +14,8 @@ import json
 import exchanges
 import server
 import urls
-from messages import ENTRIES, PLATFORMS, THREATS, Unreadable, read_find_answer
+from messages import ENTRIES, PLATFORMS, THREATS, Unreadable, read_find_answer, read_response
+from updates import order, take
 
 MOST_MOMENT = 2**64 - 1
 MOST_LISTS = 8
@@ -24,16 +26,15 @@ MOST_PAIRS = 4_096
 DAY = 86_400_000
 
 Hit = collections.namedtuple("Hit", "name prefix full")
-Report = collections.namedtuple("Report", "printed status sent moments")
+Report = collections.namedtuple("Report", "printed status sent moments handed")
 
 
 class NoStore(Exception):
     """A text is no store, for the cause that is the exception's text."""
 
 
-def order(name):
-    threat, platform, entry = name.split("/")
-    return THREATS.index(threat), PLATFORMS.index(platform), ENTRIES.index(entry)
+class Scheduled(Exception):
+    """What is printed depends on when URLs were looked up."""
 
 
 # ---- the store
@@ -91,7 +92,7 @@ class StoreReader:
 
 
 def read_store(text):
-    """The token and the rising members of each list of a store."""
+    """The token and the rising members of each list of a store, and the names of those of which an update was refused."""
     if len(text) < 38:
         raise NoStore(f"shape {len(text)}")
     if text[:4] != b"SBST":
@@ -101,26 +102,26 @@ def read_store(text):
     digest = hashlib.sha256(text[:-32]).digest()
     if digest != text[-32:]:
         raise NoStore(f"digest {digest.hex()} {text[-32:].hex()}")
-    reader, lists = StoreReader(text), {}
+    reader, lists, marked = StoreReader(text), {}, set()
     reader.field(5)
     for _ in range(reader.number(1, 0, MOST_LISTS)):
         name, at = reader.name()
         if lists and order(name) <= order(list(lists)[-1]):
             reader.refuse(at)
-        reader.number(1, 0, 1)
+        marked |= {name} if reader.number(1, 0, 1) else set()
         token = reader.field(reader.number(2, 0, MOST_TOKEN))
         lists[name] = token, reader.members(text[4])
     if reader.at != reader.end:
         reader.refuse(reader.at)
-    return lists
+    return lists, marked
 
 
-def written_store(lists):
-    """The text of a store in the second format: the token and the rising members of each list."""
+def written_store(lists, marked=()):
+    """The text of a store in the second format: the token and the rising members of each list, and which of them have the mark."""
     text = b"SBST\x02" + bytes([len(lists)])
     for name in sorted(lists, key=order):
         token, members = lists[name]
-        text += bytes([code + 1 for code in order(name)] + [0]) + len(token).to_bytes(2, "big") + token
+        text += bytes([code + 1 for code in order(name)] + [name in marked]) + len(token).to_bytes(2, "big") + token
         text += len(members).to_bytes(4, "big") + b"".join(bytes([len(one)]) + one for one in members)
     return text + hashlib.sha256(text).digest()
 
@@ -176,7 +177,7 @@ class Dice:
 
 
 class Waits:
-    """When the next find may be sent."""
+    """When the next session of its kind may begin."""
 
     def __init__(self, start, word):
         self.failures, self.allowed = 0, later(start, -(-word * 60_000 // 2**32))
@@ -218,7 +219,69 @@ class Kept:
             self.pairs[pair] = later(at, answer["negative"] // 1_000_000), ends
 
 
-# ---- a run
+# ---- rounds of updates
+
+
+def fetch_body(options, lists, marked):
+    """The body that asks for updates of all lists, each from its token, or from nothing after a refusal."""
+    constraints = {"supportedCompressions": ["RAW"] if options["raw-only"] else ["RAW", "RICE"]}
+    constraints |= {"maxUpdateEntries": options["max-update"]} if options["max-update"] else {}
+    constraints |= {"maxDatabaseEntries": options["max-database"]} if options["max-database"] else {}
+    items = []
+    for name in sorted(lists, key=order):
+        threat, platform, entry = name.split("/")
+        item = {"threatType": threat, "platformType": platform, "threatEntryType": entry, "constraints": constraints}
+        token = b"" if name in marked else lists[name][0]
+        items.append(item | ({"state": base64.b64encode(token).decode("ascii")} if token else {}))
+    body = {"client": {"clientId": "sblist", "clientVersion": "1"}, "listUpdateRequests": items}
+    return json.dumps(body, sort_keys=True, separators=(",", ":")).encode("ascii")
+
+
+class Rounds:
+    """The rounds of a run: they change the lists that are held, and hand what is to be kept."""
+
+    def __init__(self, plan, lists, marked, waits, outside):
+        self.plan, self.lists, self.marked, self.waits, self.outside = plan, dict(lists), set(marked), waits, outside
+        self.printed, self.handed, self.refused = [], [], False
+
+    def tell(self, number, text):
+        self.printed.append(f"round {number} {text}")
+
+    def ask(self, number):
+        """The updates that a round brings, or None. It tells the moment at which its session began."""
+        now = self.outside.clock.now()
+        begun = self.outside.clock.answer(self.waits.allowed) if self.waits.allowed > now else now
+        given = self.outside.hold(self.plan, "fetch", fetch_body(self.plan["options"], self.lists, self.marked))
+        closed = self.outside.clock.now()
+        try:
+            updates, wait = read_response(self.outside.body_of(given, self.plan))
+        except (exchanges.Failed, Unreadable) as fault:
+            self.waits.failed(closed, self.outside.dice.word())
+            kind = "failed" if isinstance(fault, exchanges.Failed) else "unreadable"
+            self.tell(number, f"at {begun} {kind} {fault}")
+            return None
+        self.waits.succeeded(closed, wait)
+        self.tell(number, f"at {begun} ok")
+        return updates
+
+    def make(self, number):
+        updates = self.ask(number)
+        outcomes = []
+        for update in updates or []:
+            told, outcome = take(self.lists, update)
+            self.tell(number, told)
+            outcomes.append(outcome)
+            if outcome == "refused":
+                self.marked.add(update["name"])
+            elif outcome == "installed":
+                self.marked.discard(update["name"])
+        self.refused |= updates is None or "refused" in outcomes
+        if "installed" in outcomes:
+            self.handed.append(written_store(self.lists, self.marked))
+            self.tell(number, "saved")
+
+
+# ---- URLs
 
 
 def find_body(states, hits):
@@ -236,32 +299,45 @@ def find_body(states, hits):
     return json.dumps(body, sort_keys=True, separators=(",", ":")).encode("ascii"), prefixes
 
 
-class Judge:
-    """A run, from its lists on. `session` is called with what each session sends and gives its bytes, or None where it fails."""
+class Outside:
+    """The clock, the dice and the link. `session` is called with what each session sends and gives its bytes, or None where it fails."""
 
-    def __init__(self, plan, lists, clock, dice, session):
-        self.plan, self.lists, self.clock, self.dice, self.session = plan, lists, clock, dice, session
+    def __init__(self, clock, dice, session):
+        self.clock, self.dice, self.session, self.sent = clock, dice, session, []
+
+    def hold(self, plan, kind, body):
+        """What the session of a request gives, or None."""
+        request = exchanges.request(plan["server"], plan["key"], kind, body)
+        given = self.session(request)
+        self.sent += [] if given is None else [request]
+        return given
+
+    def body_of(self, given, plan):
+        if given is None:
+            raise exchanges.Failed("link")
+        return exchanges.body_of(given, plan["need_digest"])
+
+
+class Judge:
+    """The verdicts of a run, from its lists on."""
+
+    def __init__(self, plan, lists, waits, outside):
+        self.plan, self.lists, self.waits, self.outside = plan, lists, waits, outside
         self.sets = {name: set(members) for name, (_, members) in lists.items()}
-        start = clock.now()
-        dice.word()
-        self.waits, self.kept, self.sent = Waits(start, dice.word()), Kept(), []
+        self.kept, self.looked = Kept(), False
 
     def ask(self, hits, now):
         """The answer to a find for hits, which is kept, or why there is none."""
         states = [self.lists[name][0] for name in sorted(self.lists, key=order) if self.lists[name][0]]
         body, prefixes = find_body(states, hits)
         if self.waits.allowed > now:
-            self.clock.answer(self.waits.allowed)
-        request = exchanges.request(self.plan["server"], self.plan["key"], "find", body)
-        given = self.session(request)
-        self.sent += [] if given is None else [request]
-        closed = self.clock.now()
+            self.outside.clock.answer(self.waits.allowed)
+        given = self.outside.hold(self.plan, "find", body)
+        closed = self.outside.clock.now()
         try:
-            if given is None:
-                raise exchanges.Failed("link")
-            answer = read_find_answer(exchanges.body_of(given, self.plan["need_digest"]))
+            answer = read_find_answer(self.outside.body_of(given, self.plan))
         except (exchanges.Failed, Unreadable) as fault:
-            self.waits.failed(closed, self.dice.word())
+            self.waits.failed(closed, self.outside.dice.word())
             return None, str(fault)
         names = sorted({hit.name for hit in hits}, key=order)
         self.kept.take(closed, names, prefixes, answer)
@@ -269,7 +345,7 @@ class Judge:
         return {(name, full) for name, full, _ in answer["matches"]}, None
 
     def verdict(self, hits):
-        now = self.clock.now()
+        now = self.outside.clock.now()
         said = [self.kept.said(now, hit) for hit in hits]
         asked = [hit for hit, one in zip(hits, said) if one == "ask"]
         matches, cause = set(), None
@@ -289,21 +365,28 @@ class Judge:
             text, expressions = judged_text(url)
         except urls.NoUrl as fault:
             return "refused", b"%d refused %s\n" % (number, str(fault).encode("ascii"))
+        self.looked = True
         kind, more = self.verdict(hits_of(self.sets, expressions))
         words = [str(number), kind, "0"] + ([more] if more else [])
         return kind, " ".join(words).encode("ascii") + b" " + text + b"\n"
 
 
 def judge(plan, lines, kept, clock, dice, session):
-    """What `sbcheck judge` prints, its status, what each session sent, and what the clock answered."""
-    page, stored = b"", {}
+    """What `sbcheck judge` prints, its status, what each session sent, what the clock answered, and what the keeper was handed."""
+    page, stored, marked = b"", {}, set()
     if kept is not None:
         try:
-            stored = read_store(kept)
+            stored, marked = read_store(kept)
         except NoStore as fault:
             page = f"store ignored: {fault}\n".encode("ascii")
     lists = {name: stored.get(name, (b"", [])) for name in plan["names"]}
-    run = Judge(plan, lists, clock, dice, session)
+    outside, start = Outside(clock, dice, session), clock.now()
+    of_updates, of_finds = Waits(start, dice.word()), Waits(start, dice.word())
+    rounds = Rounds(plan, lists, marked & set(lists), of_updates, outside)
+    for number in range(1, plan["rounds"] + 1):
+        rounds.make(number)
+    page += "".join(line + "\n" for line in rounds.printed).encode("ascii")
+    run = Judge(plan, lists, of_finds, outside)
     counts = collections.Counter()
     for number, url in enumerate(lines, 1):
         kind, line = run.line(number, url)
@@ -311,8 +394,10 @@ def judge(plan, lines, kept, clock, dice, session):
         page += line
     told = ", ".join(f"{counts[kind]} {kind}" for kind in ("safe", "unsafe", "undecided", "refused"))
     page += f"checked {len(lines)}: {told}\n".encode("ascii")
+    if rounds.handed and run.looked:
+        raise Scheduled
     status = 20 if counts["unsafe"] else 21 if counts["undecided"] + counts["refused"] else 0
-    return Report(page, status, run.sent, clock.answers)
+    return Report(page, 5 if rounds.refused else status, outside.sent, clock.answers, rounds.handed)
 
 
 # ---- the other side
@@ -338,8 +423,9 @@ class Link:
         if harm[:1] == [b"again"]:
             return self.given
         asked = sent.partition(b"\r\n\r\n")[2]
-        body, status = server.answer(self.journal, asked, "find", self.times)
-        whole = exchanges.response(body[:-1]) if status == 0 else b""
+        kind = next(kind for kind, path in exchanges.PATHS.items() if sent.startswith(f"POST {path}".encode("ascii")))
+        body, status = server.answer(self.journal, asked, kind, self.times)
+        whole = exchanges.response(body[:-1]) if status == 0 else exchanges.response(b"", b"400 Bad Request")
         if harm[:1] == [b"byte"]:
             place = len(whole) - int(harm[1])
             return whole[:place] + bytes([int(harm[2])]) + whole[place + 1 :]

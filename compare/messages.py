@@ -285,14 +285,18 @@ class Reader:
         return name, full, self.duration(entry, "cacheDuration")
 
 
-def read_body(line):
-    """The updates of a response."""
+def read_response(text):
+    """The updates of a response, and for how many nanoseconds updates wait."""
     outside = Reader(0)
-    body = outside.object(read_json(line), "message")
+    body = outside.object(read_json(text), "message")
     items = outside.list(body, "listUpdateResponses")
     updates = [Reader(number).update(item) for number, item in enumerate(items, 1)]
-    outside.duration(body, "minimumWaitDuration")
-    return updates
+    return updates, outside.duration(body, "minimumWaitDuration")
+
+
+def read_body(line):
+    """The updates of a response."""
+    return read_response(line)[0]
 
 
 def read_client(outside, body):
