@@ -72,10 +72,11 @@ try-http: all
 	bash try/http.sh
 
 # Kills fifty clients in mid-run, and sees that the next run of each comes to the server's set; then pipes, closed
-# descriptors, and stores that are held or taken. Last, URLs are judged against a server.
+# descriptors, and stores that are held or taken. Last, URLs are judged against a server, and on several threads beside updates.
 try-run: all
 	bash try/run.sh
 	bash try/judge.sh
+	python3 try/beside.py
 
 # Measures how long good clients of sblistd wait beside slow ones, and fails where one waits for more than a second. It takes
 # twenty to thirty minutes, and tries the peers of slowhttptest too where that is installed.
