@@ -59,6 +59,8 @@ def head_of(given):
     if STATUS_LINE.fullmatch(lines[0]) is None and (len(lines) > 1 or not may_begin(lines[0])):
         raise Failed("head")
     fields = fields_of(lines[1:-2] if end else lines[1:-1])
+    if end is None and b"\r" in lines[-1][:-1]:
+        raise Failed("head")
     at = len(given) - len(text) + len(whole)
     if end is None or at > MOST_HEAD:
         raise Failed("head-limit" if len(given) >= MOST_HEAD else "cut")
