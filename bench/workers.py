@@ -2,7 +2,7 @@
 """Measures judging on several threads, and looks at publications, with the programs in bin/.
 
 60,000 URLs of which no prefix is listed are judged by a store of 1,048,576 prefixes, with so many workers in turn: the wall
-time, the processor time and the largest resident set of each, the least of some runs. Then `publication_kernels` checks as
+time, the processor time and the largest resident set of each, the median of some runs in turn. Then `publication_kernels` checks as
 many URLs of its own, which tells the time of the checks alone, and looks at publications of these lists: the mean of many
 looks, and the longest of a million, alone and while another thread publishes sixteen copies of the lists.
 
@@ -27,7 +27,7 @@ PREFIXES = 1_048_576
 URLS = 60_000
 LOOKS = 10_000_000
 TIMED_LOOKS = 1_000_000
-PAIRS = 5
+PAIRS = 15
 MIB = 1 << 20
 
 
@@ -97,19 +97,19 @@ def judge(folder, counts, runs):
             texts.add(text)
     if len(texts) != 1:
         raise SystemExit("the reports differ")
-    one = [min(values) for values in zip(*took[counts[0]])], min(checks[counts[0]])
+    one = [statistics.median(values) for values in zip(*took[counts[0]])], statistics.median(checks[counts[0]])
     print("| Workers | Processor time | Ratio | Wall time | Checks alone, wall time | Ratio | Memory |")
     print("|---|---|---|---|---|---|---|")
     for count in counts:
-        wall, processor, memory = (min(values) for values in zip(*took[count]))
-        alone = min(checks[count])
+        wall, processor, memory = (statistics.median(values) for values in zip(*took[count]))
+        alone = statistics.median(checks[count])
         row = f"| {count} | {processor * 1e3:.1f} ms | {processor / one[0][1]:.2f} | {wall * 1e3:.1f} ms "
         print(row + f"| {alone * 1e3:.1f} ms | {alone / one[1]:.2f} | {memory / MIB:.1f} MiB |")
 
 
 def look(folder, runs):
     store = os.path.join(folder, "store")
-    mean = min(kernel("looks", LOOKS, 1, store) for _ in range(runs)) / LOOKS
+    mean = statistics.median(kernel("looks", LOOKS, 1, store) for _ in range(runs)) / LOOKS
     print(f"a look: {mean * 1e9:.1f} ns, the mean of {LOOKS:,}")
     alone, beside = [], []
     for _ in range(PAIRS):
@@ -122,11 +122,11 @@ def look(folder, runs):
 
 def main():
     words = argparse.ArgumentParser(description="Measures judging on several threads, and looks at publications.")
-    words.add_argument("--runs", type=int, default=5, help="the runs of each number of workers")
+    words.add_argument("--runs", type=int, default=15, help="the runs of each number of workers")
     words.add_argument("--workers", default="1,2,4,8,16", help="the numbers of workers")
     words = words.parse_args()
     counts = [int(count) for count in words.workers.split(",")]
-    print(f"{URLS:,} URLs by {PREFIXES:,} prefixes, on {os.cpu_count()} processors; the least of {words.runs} runs in turn")
+    print(f"{URLS:,} URLs by {PREFIXES:,} prefixes, on {os.cpu_count()} processors; medians of {words.runs} runs in turn")
     with tempfile.TemporaryDirectory() as folder:
         # in a process of its own, as what this one holds would show in the resident sets
         with multiprocessing.get_context("spawn").Pool(1) as pool:
