@@ -2,7 +2,7 @@
 """Measures judging on several threads, and looks at publications, with the programs in bin/.
 
 60,000 URLs of which no prefix is listed are judged by a store of 1,048,576 prefixes, with so many workers in turn: the wall
-time, the processor time and the largest resident set of each, the median of some runs in turn. Then `publication_kernels` checks as
+time and the processor time of each, the median of some runs in turn. Then `publication_kernels` checks as
 many URLs of its own, which tells the time of the checks alone, and looks at publications of these lists: the mean of many
 looks, and the longest of a million, alone and while another thread publishes sixteen copies of the lists.
 
@@ -11,7 +11,6 @@ looks, and the longest of a million, alone and while another thread publishes si
 
 import argparse
 import hashlib
-import multiprocessing
 import os
 import re
 import statistics
@@ -28,7 +27,6 @@ URLS = 60_000
 LOOKS = 10_000_000
 TIMED_LOOKS = 1_000_000
 PAIRS = 15
-MIB = 1 << 20
 
 
 def write_store(path):
@@ -63,7 +61,7 @@ def write_inputs(folder):
 
 
 def run(words, path):
-    """Runs a program on a file: its wall time, its processor time, its largest resident set, and its output."""
+    """Runs a program on a file: its wall time, its processor time and its output."""
     with open(path, "rb") as given, tempfile.TemporaryFile() as out:
         begun = time.monotonic()
         ran = subprocess.Popen(words, stdin=given, stdout=out, stderr=subprocess.DEVNULL)
@@ -73,7 +71,7 @@ def run(words, path):
         if ran.returncode != 0:
             raise SystemExit(f"{words} ended with {ran.returncode}")
         out.seek(0)
-        return took, used.ru_utime + used.ru_stime, used.ru_maxrss * 1024, out.read()
+        return took, used.ru_utime + used.ru_stime, out.read()
 
 
 def kernel(name, count, workers, store):
@@ -91,20 +89,20 @@ def judge(folder, counts, runs):
     texts = set()
     for _ in range(runs):
         for count in counts:
-            wall, processor, memory, text = run([*words, "--workers", str(count), LIST], urls)
-            took[count].append((wall, processor, memory))
+            wall, processor, text = run([*words, "--workers", str(count), LIST], urls)
+            took[count].append((wall, processor))
             checks[count].append(kernel("checks", URLS, count, store))
             texts.add(text)
     if len(texts) != 1:
         raise SystemExit("the reports differ")
     one = [statistics.median(values) for values in zip(*took[counts[0]])], statistics.median(checks[counts[0]])
-    print("| Workers | Processor time | Ratio | Wall time | Checks alone, wall time | Ratio | Memory |")
-    print("|---|---|---|---|---|---|---|")
+    print("| Workers | Processor time | Ratio | Wall time | Checks alone, wall time | Ratio |")
+    print("|---|---|---|---|---|---|")
     for count in counts:
-        wall, processor, memory = (statistics.median(values) for values in zip(*took[count]))
+        wall, processor = (statistics.median(values) for values in zip(*took[count]))
         alone = statistics.median(checks[count])
         row = f"| {count} | {processor * 1e3:.1f} ms | {processor / one[0][1]:.2f} | {wall * 1e3:.1f} ms "
-        print(row + f"| {alone * 1e3:.1f} ms | {alone / one[1]:.2f} | {memory / MIB:.1f} MiB |")
+        print(row + f"| {alone * 1e3:.1f} ms | {alone / one[1]:.2f} |")
 
 
 def look(folder, runs):
@@ -128,9 +126,7 @@ def main():
     counts = [int(count) for count in words.workers.split(",")]
     print(f"{URLS:,} URLs by {PREFIXES:,} prefixes, on {os.cpu_count()} processors; medians of {words.runs} runs in turn")
     with tempfile.TemporaryDirectory() as folder:
-        # in a process of its own, as what this one holds would show in the resident sets
-        with multiprocessing.get_context("spawn").Pool(1) as pool:
-            pool.apply(write_inputs, [folder])
+        write_inputs(folder)
         judge(folder, counts, words.runs)
         look(folder, words.runs)
 
