@@ -1,5 +1,5 @@
 -- The front of a text in which a head stands, and how many fields it can have.
-use Rattle.std.proofs.Common.{ℕ, ◌*◌, ◌<◌, ◌≤◌, List, [], ◌∷◌, ◌++◌, length, take, ap, arith, length-append, lit<}
+use Rattle.std.proofs.Common.{ℕ, ◌+◌, ◌*◌, ◌<◌, ◌≤◌, List, [], ◌∷◌, ◌++◌, length, take, ap, arith, length-append, lit<}
 use Rattle.std.specs.Prelude.{All}
 use Rattle.std.specs.List.{flat_map}
 use Rattle.std.proofs.lemmas.List.{length-take}
@@ -54,14 +54,15 @@ response_some head is =
     let whole = response_size head in
     omega arith
 
--- there is room for the fields of every head
-pub request_fits : (buffer : List ℕ) → length buffer ≤ 16384 → RequestExceeds 5461 buffer → ⊥
-request_fits buffer short (front, rest, parts, head, reads, more) =
+-- there is room for the fields of a head that is short enough
+pub request_fits : (room : ℕ) (buffer : List ℕ) → length buffer ≤ 3 * room + 2 → RequestExceeds room buffer → ⊥
+request_fits room buffer short (front, rest, parts, head, reads, more) =
     let size = section_size head.fields head.last reads.0.fields in
     let whole = request_size head in
     let printed = ap length reads.1 in
     omega (arith, length-append front rest, length-append front (10 ∷ []), length-append (print_request head) [], ap length parts, printed)
 
+-- there is room for the fields of every head
 pub response_fits : (buffer : List ℕ) → length buffer ≤ 16384 → ResponseExceeds 5461 buffer → ⊥
 response_fits buffer short (front, rest, parts, head, reads, more) =
     let size = section_size head.fields head.last reads.0.fields in

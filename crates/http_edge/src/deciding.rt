@@ -1,4 +1,4 @@
-ghost use Rattle.std.specs.Prelude.{◌≡◌, ℕ, ◌<◌, ◌≤◌, List, [], ◌∷◌, ◌++◌, length, IfOk, IsTrue, IsFalse};
+ghost use Rattle.std.specs.Prelude.{◌≡◌, ℕ, ◌+◌, ◌*◌, ◌<◌, ◌≤◌, List, [], ◌∷◌, ◌++◌, length, IfOk, IsTrue, IsFalse};
 ghost use Rattle.httparse.specs.Grammar.{RequestHead};
 ghost use Rattle.http_edge.specs.Requests.{NeedsMore};
 ghost use Rattle.http_edge.specs.Receiving.{IsFound, IsPlaced};
@@ -7,7 +7,7 @@ ghost use Rattle.http_edge.specs.Deciding.{IsDecided, IsStage, HasHead, IsHeadSt
 
 use crate::fields::{BodyLength, length_said};
 use crate::head_places::{HeadPlace, next_place};
-use crate::heads::{FIELD_LIMIT, HEAD_LIMIT, ROOM};
+use crate::heads::{FIELD_LIMIT, HEAD_LIMIT, ROOM, SHORT_HEAD, SHORT_ROOM};
 use crate::requests::{BODY_LIMIT, request_length};
 use httparse::spans::{EMPTY_HEADER_SPAN, HeaderSpan, RequestSpans, parse_request};
 use sb_model::OutOfMemory;
@@ -75,16 +75,46 @@ fn judge_whole(buffer: &[u8], fields: &[HeaderSpan], spans: RequestSpans) -> Hea
     }
 }
 
-/// Asks the parser of all bytes of a head so far. The room for the fields, 175 KB, lies on the stack while it is asked.
-fn judge(text: &[u8]) -> HeadStep
+/// Asks the parser of all bytes of a head so far, with room for the fields that they can have.
+fn judge_with(text: &[u8], room: &mut [HeaderSpan]) -> HeadStep
+    requires short { length text.now ≤ HEAD_LIMIT }
+    requires room { length text.now ≤ 3 * length room.old + 2 }
+    ensures { IsHeadStep text.now result }
+{
+    match parse_request(text, room) {
+        Ok(httparse::Status::Complete(spans)) => judge_whole(text, &room[..spans.headers], spans),
+        Ok(httparse::Status::Partial) => HeadStep::Open,
+        Err(_) => HeadStep::Refused,
+    }
+}
+
+/// Asks the parser of a short head. The room for the fields, 11 KB, lies on the stack while it is asked.
+fn judge_short(text: &[u8]) -> HeadStep
+    requires { length text.now ≤ SHORT_HEAD }
+    ensures { IsHeadStep text.now result }
+{
+    let mut room = [EMPTY_HEADER_SPAN; SHORT_ROOM];
+    judge_with(text, &mut room)
+}
+
+/// Asks the parser of any head. The room for the fields, 175 KB, lies on the stack while it is asked.
+fn judge_long(text: &[u8]) -> HeadStep
     requires { length text.now ≤ HEAD_LIMIT }
     ensures { IsHeadStep text.now result }
 {
     let mut room = [EMPTY_HEADER_SPAN; ROOM];
-    match parse_request(text, &mut room) {
-        Ok(httparse::Status::Complete(spans)) => judge_whole(text, &room[..spans.headers], spans),
-        Ok(httparse::Status::Partial) => HeadStep::Open,
-        Err(_) => HeadStep::Refused,
+    judge_with(text, &mut room)
+}
+
+/// Asks the parser of all bytes of a head so far. Most heads are short, and room is filled before it is used.
+fn judge(text: &[u8]) -> HeadStep
+    requires { length text.now ≤ HEAD_LIMIT }
+    ensures { IsHeadStep text.now result }
+{
+    if text.len() <= SHORT_HEAD {
+        judge_short(text)
+    } else {
+        judge_long(text)
     }
 }
 

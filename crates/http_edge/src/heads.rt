@@ -1,4 +1,4 @@
-ghost use Rattle.std.specs.Prelude.{◌≡◌, ◌≤◌, length, take, drop, vec_len, IfOk};
+ghost use Rattle.std.specs.Prelude.{◌≡◌, ◌+◌, ◌*◌, ◌≤◌, length, take, drop, vec_len, IfOk};
 
 use httparse::spans::{EMPTY_HEADER_SPAN, HeaderSpan};
 use sb_model::OutOfMemory;
@@ -17,10 +17,23 @@ pub(crate) const PIECE: usize = 65_536;
 /// parser never refuses one for the number of its fields.
 pub(crate) const ROOM: usize = 5_461;
 
+/// How many bytes most heads have at most.
+pub(crate) const SHORT_HEAD: usize = 1_024;
+
+/// Room for the fields of every head of so many bytes.
+pub(crate) const SHORT_ROOM: usize = 341;
+
 pub(crate) fn room_for_fields(alloc: Global) -> Result<Vec<HeaderSpan>, OutOfMemory>
     ensures { IfOk result (λ room. vec_len room ≡ ROOM) }
 {
     Ok(vec![in alloc; EMPTY_HEADER_SPAN; ROOM]?)
+}
+
+/// Room for the fields of a head of so many bytes at most, since a field has three bytes at least.
+pub(crate) fn room_for_head(alloc: Global, len: usize) -> Result<Vec<HeaderSpan>, OutOfMemory>
+    ensures { IfOk result (λ room. len ≤ 3 * vec_len room + 2) }
+{
+    Ok(vec![in alloc; EMPTY_HEADER_SPAN; len / 3 + 1]?)
 }
 
 pub(crate) fn buffer_of(alloc: Global) -> Result<Vec<u8>, OutOfMemory>

@@ -1,4 +1,4 @@
-ghost use Rattle.std.specs.Prelude.{◌≡◌, ◌≢◌, ℕ, ◌<◌, ◌≤◌, List, [], length, take, map, codes, Bool, true, false, All, Option, Some, IfOk, OnOk, OnErr, IfErr, IsErrOf, IsTrue};
+ghost use Rattle.std.specs.Prelude.{◌≡◌, ◌≢◌, ℕ, ◌+◌, ◌*◌, ◌<◌, ◌≤◌, List, [], length, take, map, codes, Bool, true, false, All, Option, Some, IfOk, OnOk, OnErr, IfErr, IsErrOf, IsTrue};
 ghost use Rattle.std.specs.Str.{bytes_eq};
 ghost use Rattle.sb_outside.specs.Outside.{Rose, GivesFront};
 ghost use Rattle.httparse.specs.Grammar.{RequestHead};
@@ -9,7 +9,7 @@ ghost use Rattle.http_edge.specs.SessionBytes.{ReadsWhile};
 ghost use Rattle.http_edge.specs.Receiving.{IsFound, IsPlaced, IsPartsOf, IsRequestStep};
 
 use crate::fields::{BodyLength, first_value, length_said};
-use crate::heads::{FIELD_LIMIT, HEAD_LIMIT, PIECE, buffer_of, front_of, room_for_fields};
+use crate::heads::{FIELD_LIMIT, HEAD_LIMIT, PIECE, buffer_of, front_of, room_for_head};
 use crate::receiving::{Stop, receive, receive_body};
 use crate::{HttpRequest, RequestFault};
 use httparse::spans::{HeaderSpan, RequestSpans, parse_request};
@@ -99,7 +99,7 @@ fn look_at_head(
     text: &[u8],
     room: &mut [HeaderSpan],
 ) -> Result<RequestStep, OutOfMemory>
-    requires { length room.old ≡ 5461 }
+    requires { length (take HEAD_LIMIT text.now) ≤ 3 * length room.old + 2 }
     ensures { IfOk result (λ step. IsRequestStep text.now step) }
 {
     let front = front_of(text, HEAD_LIMIT);
@@ -110,6 +110,14 @@ fn look_at_head(
         Ok(httparse::Status::Partial) => Ok(RequestStep::Open),
         Err(_) => Ok(RequestStep::Refused),
     }
+}
+
+/// Looks at the head of a request, as far as it has come, with room for the fields that it can have.
+fn look(alloc: Global, text: &[u8]) -> Result<RequestStep, OutOfMemory>
+    ensures { IfOk result (λ step. IsRequestStep text.now step) }
+{
+    let mut room = room_for_head(alloc, text.len().min(HEAD_LIMIT))?;
+    look_at_head(alloc, text, room.as_mut_slice())
 }
 
 /// Receives the head of a request. The text is what was received.
@@ -132,11 +140,8 @@ fn receive_head<S: Source>(
     ensures counted { S.faults source.old ≤ S.faults source.new }
     ensures other { S.back source.new ≡ S.back source.old }
 {
-    let Ok(mut room) = room_for_fields(alloc) else {
-        return Err(RequestFault::OutOfMemory);
-    };
     'pieces: loop {
-        match look_at_head(alloc, text.as_slice(), room.as_mut_slice()) {
+        match look(alloc, text.as_slice()) {
             Ok(RequestStep::Whole(parts)) => return Ok(parts),
             Ok(RequestStep::Refused) => return Err(RequestFault::Head),
             Ok(RequestStep::Open) => {}

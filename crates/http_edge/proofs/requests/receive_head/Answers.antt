@@ -1,4 +1,4 @@
-use Rattle.std.proofs.Common.{ℕ, List, [], ◌++◌, false, true, refl, inl, subst, sym, ap, Err, rules, arith}
+use Rattle.std.proofs.Common.{ℕ, List, ◌++◌, false, true, refl, inl, subst, sym, ap, Err, rules, arith}
 use Rattle.sb_outside.specs.Outside.{GivesFront}
 use Rattle.http_edge.specs.Requests.{NeedsMore}
 use Rattle.http_edge.specs.SessionBytes.{ReadsWhile}
@@ -7,9 +7,6 @@ use Rattle.http_edge.proofs.RequestFacts.{refused_step, open_step}
 use Rattle.http_edge.proofs.ReadFacts.{read_on}
 use Rattle.http_edge.proofs.RequestReads.{reads_request}
 use Rattle.http_edge.proofs.requests.receive_head.Goals as goal
-
-pub returns-in_default-clause-refusal : goal.returns-in_default-clause-refusal
-returns-in_default-clause-refusal g c = ([], false, gives_nothing _, tt, reads_request [] false _ (inl refl) (λ void. absurd (cc)) (λ void. absurd (cc)))
 
 pub returns-in-Ok-Refused-clause-refusal : goal.returns-in-Ok-Refused-clause-refusal
 returns-in-Ok-Refused-clause-refusal g c = (
@@ -75,7 +72,6 @@ returns-in-Err-clause-refusal g c = (
 pub pieces-init : goal.pieces-init
 pieces-init g c = record {
   buffer = c.requires.room;
-  room = c.in-Ok.ensures;
   so_far = subst (λ (text : List ℕ). GivesFront text (g.S.Source.left c.args.source.now) (g.S.Source.left c.args.source.now)) (sym c.requires.none) (gives_nothing _);
   reads = inl c.requires.none;
   faults = refl;
@@ -86,9 +82,8 @@ pub pieces-preserved : goal.pieces-preserved
 pieces-preserved g c =
     let needs : NeedsMore c.pieces.text =
     inl (omega arith, open_step c.pieces.text c.as_slice.result.now c.in-Ok-Open.field-0 c.as_slice.ensures c.in-Ok-Open.field-0-is c.in-Ok-Open.ensures) in
-    let more = c.in-Ok-receive.ensures.more in record {
+    let more = c.in-Ok.ensures.more in record {
       buffer = search rules;
-      room = search rules;
       so_far = subst (λ (text : List ℕ). GivesFront text (g.S.Source.left c.args.source.now) (g.S.Source.left c.receive.new.source)) (sym more.whole)
           (front_then c.pieces.text more.given _ _ _ c.pieces.invariant.so_far more.gives);
       reads = subst (ReadsWhile NeedsMore) (sym more.whole) (read_on NeedsMore c.pieces.text more.given needs more.short);

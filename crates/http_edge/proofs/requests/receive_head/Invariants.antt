@@ -1,4 +1,4 @@
-use Rattle.std.proofs.Common.{◌≡◌, ◌-◌, length, vec_len}
+use Rattle.std.proofs.Common.{◌≡◌, ◌-◌, length}
 use Rattle.sb_outside.specs.Outside.{GivesFront}
 use Rattle.http_edge.specs.Requests.{NeedsMore}
 use Rattle.http_edge.specs.SessionBytes.{ReadsWhile}
@@ -8,7 +8,6 @@ abbrev pub invariant-pieces : goal.invariant-pieces
 invariant-pieces g l =
     record {
       buffer : length l.buffer ≡ 65536;
-      room : vec_len l.room ≡ 5461;
       so_far : GivesFront l.text (g.S.Source.left l.initial.source) (g.S.Source.left l.source);
       reads : ReadsWhile NeedsMore l.text;
       faults : g.S.Source.faults l.source ≡ g.S.Source.faults l.initial.source;
