@@ -23,7 +23,7 @@ use crate::lists::{same, size_of};
 use crate::lookup::{hashes_with, live_of};
 use crate::newest::Newest;
 use crate::older::{fold_on, folded, folding_at};
-use crate::pieces::{buffer_of, read_first};
+use crate::pieces::{FIRST_PIECE, PIECE, buffer_of, read_first};
 use crate::renewing::{Before, take_kept};
 use hash_prefixes::{FullHash, Prefix};
 use prefix_set::PrefixSet;
@@ -91,7 +91,7 @@ impl History {
         ensures counted { S.faults source.old ≤ S.faults source.new }
         ensures other { S.back source.new ≡ S.back source.old }
     {
-        let Ok(mut buffer) = buffer_of(alloc) else {
+        let Ok(mut buffer) = buffer_of(alloc, PIECE) else {
             return Err(JournalFault::OutOfMemory);
         };
         let (header, text) = match read_first(alloc, source, buffer.as_mut_slice()) {
@@ -155,17 +155,20 @@ impl History {
     {
         // looked at for the prover: what each history keeps to
         let _ = &self.rest;
-        let Ok(mut buffer) = buffer_of(alloc) else {
+        let Ok(mut first) = buffer_of(alloc, FIRST_PIECE) else {
             return Err(JournalFault::OutOfMemory);
         };
         let mut piece = Bytes::new(alloc);
-        match read_piece(source, buffer.as_mut_slice(), &mut piece) {
+        match read_piece(source, first.as_mut_slice(), &mut piece) {
             Ok(0) => return Ok(false),
             Ok(_) => {}
             Err(ReadFault::Failed) => return Err(JournalFault::ReadFault),
             Err(ReadFault::OutOfMemory) => return Err(JournalFault::OutOfMemory),
         }
         let Ok(text) = joined(&self.rest, &piece) else {
+            return Err(JournalFault::OutOfMemory);
+        };
+        let Ok(mut buffer) = buffer_of(alloc, PIECE) else {
             return Err(JournalFault::OutOfMemory);
         };
         match self.take_in(alloc, source, buffer.as_mut_slice(), text) {

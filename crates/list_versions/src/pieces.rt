@@ -16,16 +16,19 @@ use sb_outside::{ReadFault, Source, read_piece};
 use std::alloc::Global;
 
 /// How many bytes a read asks for.
-const PIECE: usize = 262_144;
+pub(crate) const PIECE: usize = 262_144;
+
+/// How many bytes the first read of further ones asks for. Mostly there is none, and a buffer is filled with zeros first.
+pub(crate) const FIRST_PIECE: usize = 4_096;
 
 /// The first line is not that of a journal.
 #[derive(Clone, Copy, Debug)]
 pub(crate) struct BadHeader;
 
-pub(crate) fn buffer_of(alloc: Global) -> Result<Vec<u8>, OutOfMemory>
-    ensures { IfOk result (λ buffer. vec_len buffer ≡ PIECE) }
+pub(crate) fn buffer_of(alloc: Global, size: usize) -> Result<Vec<u8>, OutOfMemory>
+    ensures { IfOk result (λ buffer. vec_len buffer ≡ size) }
 {
-    Ok(vec![in alloc; 0; PIECE]?)
+    Ok(vec![in alloc; 0; size]?)
 }
 
 // The last `count` bytes, moved to the front.
