@@ -67,6 +67,17 @@ pub(crate) fn breaks_off(rt: &HostRuntime, bytes: &[u8]) -> io::Result<()> {
     Ok(())
 }
 
+/// Nor does one that resets: what it has not read when it closes, the system answers with a reset.
+pub(crate) fn resets(rt: &HostRuntime) -> io::Result<()> {
+    let mut door = door_with(rt, PATIENT);
+    let hasty = asker(rt, &door)?;
+    say(rt, "resets", serve_next(rt, &mut door).word());
+    drop(hasty);
+    say(rt, "then", pass(rt, &mut door, 50).word());
+    say(rt, "after it, of 10", answered(rt, &mut door, 10)?);
+    Ok(())
+}
+
 /// A peer that sends on after its answer is read for some bytes, and then closed. Others are answered meanwhile.
 pub(crate) fn sends_for_ever(rt: &HostRuntime) -> io::Result<()> {
     let mut door = door_with(rt, PATIENT);

@@ -61,6 +61,7 @@ fn run(rt: &HostRuntime) -> io::Result<()> {
     answers::reads_bit_by_bit(rt, bytes)?;
     answers::never_reads(rt, bytes)?;
     answers::breaks_off(rt, bytes)?;
+    answers::resets(rt)?;
     answers::sends_for_ever(rt)?;
     answers::head_without_end(rt)?;
     moments::past_moments(rt)?;
