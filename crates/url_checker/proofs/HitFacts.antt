@@ -14,7 +14,7 @@ use Rattle.update_client.specs.Held.{Held}
 use Rattle.url_checker.specs.declared.findings.Hit.{Hit}
 use Rattle.url_expressions.specs.Spans.{piece_of}
 use Rattle.url_expressions.specs.declared.spans.Span.{Span}
-use Rattle.url_checker.specs.Hits.{full_hash_of, has_front, hit_of, hits_at, Marks}
+use Rattle.url_checker.specs.Hits.{full_hash_of, has_front, hit_of, hits_at, Marks, IsPastMarks}
 
 range_push : (a n : ℕ) → range_with_len a (n + 1) ≡ range_with_len a n ++ (a + n) ∷ []
 range_push a zero = ap (λ k. k ∷ []) (omega arith)
@@ -109,6 +109,22 @@ pub hits_left : (marks : List Bool) (held : Held) (hash : FullHash) (size : ℕ)
 hits_left marks held hash size first old new low small marked whole unset before same =
     hits_pushed held hash size first old new low before
     (same ∙ sym (ap (λ (hits : List Hit). old ++ hits) (unmarked marks held hash size marked whole small unset) ∙ append-nil old))
+
+-- so are the sizes past all marks
+rest_left : (marks : List Bool) (held : Held) (hash : FullHash) (past more : ℕ) → 4 ≤ past → past + more ≤ 33 → Marks marks held → IsPastMarks marks past → length hash.bytes ≡ 32
+    → hits_at held hash (sizes_below (past + more)) ≡ hits_at held hash (sizes_below past)
+rest_left marks held hash past zero low high marked unset whole = ap (λ n. hits_at held hash (sizes_below n)) (let same : past + zero ≡ past = omega arith in same)
+rest_left marks held hash past (suc more) low high marked unset whole =
+    ap (λ n. hits_at held hash (sizes_below n)) (let same : past + suc more ≡ past + more + 1 = omega arith in same)
+    ∙ sym (hits_left marks held hash (past + more) [] (hits_at held hash (sizes_below (past + more))) (hits_at held hash (sizes_below (past + more)))
+    (omega (arith, low)) (omega (arith, high)) marked whole (unset (past + more) (omega arith)) refl refl)
+    ∙ rest_left marks held hash past more low (omega (arith, high)) marked unset whole
+
+pub hits_past : (marks : List Bool) (held : Held) (hash : FullHash) (past : ℕ) → 4 ≤ past → past ≤ 33 → Marks marks held → IsPastMarks marks past → length hash.bytes ≡ 32
+    → hits_at held hash (sizes_below past) ≡ hits_at held hash (sizes_below 33)
+hits_past marks held hash past low high marked unset whole =
+    sym (rest_left marks held hash past (33 - past) low (omega (arith, high)) marked unset whole)
+    ∙ ap (λ n. hits_at held hash (sizes_below n)) (let same : past + (33 - past) ≡ 33 = omega (arith, high) in same)
 
 -- the hashes of pieces of a text are those of what the pieces are
 pub hashes_of_pieces : (text : List ℕ) (spans : List Span) → map (λ (one : Span). full_hash_of (piece_of text one)) spans ≡ map full_hash_of (map (piece_of text) spans)

@@ -3,10 +3,10 @@ ghost use Rattle.std.specs.List.{flat_map};
 ghost use Rattle.url_canon.specs.Url.{text_of};
 ghost use Rattle.url_canon.specs.Canonical.{canonical_of};
 ghost use Rattle.url_expressions.specs.Spans.{IsWithin, piece_of};
-ghost use Rattle.url_checker.specs.Hits.{full_hash_of, hashes_of, hits_at, hits_with, hits_on, hits_of, AreAskable, prefixes_hit, IsWhole, Marks, MarksAll};
+ghost use Rattle.url_checker.specs.Hits.{full_hash_of, hashes_of, hits_at, hits_with, hits_on, hits_of, AreAskable, prefixes_hit, IsWhole, Marks, MarksAll, IsPastMarks};
 ghost use Rattle.url_checker.specs.Checking.{IsFindingOf};
 
-use crate::sizes::{Sizes, sizes_on};
+use crate::sizes::{Sizes, past_marks, sizes_on};
 use crate::{CheckFault, Finding, Hit};
 use hash_prefixes::{FullHash, Prefix, full_hash};
 use prefix_set::{PrefixSet, sets_go_by_members};
@@ -66,13 +66,17 @@ fn push_hits(
     hits: &mut Row<Hit>,
     held: &HeldList,
     sizes: &[bool; 33],
+    past: u8,
     hash: &FullHash,
 ) -> Result<(), OutOfMemory>
     requires marked { Marks sizes.now held.now }
+    requires past { IsPastMarks sizes.now past }
+    requires at_least { 4 ≤ past }
+    requires at_most { past ≤ 33 }
     requires whole { IsWhole hash.now }
     ensures { OnOk result (hits.new ≡ hits.old ++ hits_with held.now hash.now) }
 {
-    for size in 4..33 {
+    for size in 4..past {
         if sizes[size as usize] {
             push_hit(hits, held, hash, size)?;
         }
@@ -85,14 +89,18 @@ fn push_hits_on(
     hits: &mut Row<Hit>,
     held: &HeldList,
     sizes: &[bool; 33],
+    past: u8,
     hashes: &[FullHash],
 ) -> Result<(), OutOfMemory>
     requires marked { Marks sizes.now held.now }
+    requires past { IsPastMarks sizes.now past }
+    requires at_least { 4 ≤ past }
+    requires at_most { past ≤ 33 }
     requires whole { All IsWhole hashes.now }
     ensures { OnOk result (hits.new ≡ hits.old ++ hits_on hashes.now held.now) }
 {
     for hash in hashes {
-        push_hits(hits, held, sizes, hash)?;
+        push_hits(hits, held, sizes, past, hash)?;
     }
     Ok(())
 }
@@ -108,9 +116,10 @@ fn hits_on_lists(
     requires whole { All IsWhole hashes.now }
     ensures { IfOk result (λ hits. hits ≡ flat_map (hits_on hashes.now) lists.now) }
 {
+    let past = past_marks(sizes);
     let mut hits = Row::new(alloc);
     for held in lists {
-        push_hits_on(&mut hits, held, sizes, hashes)?;
+        push_hits_on(&mut hits, held, sizes, past, hashes)?;
     }
     Ok(hits)
 }

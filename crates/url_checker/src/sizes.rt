@@ -1,5 +1,5 @@
-ghost use Rattle.std.specs.Prelude.{ℕ, ◌≡◌, ◌<◌, true, false, length, slice_index_or};
-ghost use Rattle.url_checker.specs.Hits.{Marks, MarksAll};
+ghost use Rattle.std.specs.Prelude.{ℕ, ◌≡◌, ◌<◌, ◌≤◌, true, false, length, slice_index_or};
+ghost use Rattle.url_checker.specs.Hits.{Marks, MarksAll, IsPastMarks};
 
 use update_client::{ClientLists, HeldList};
 
@@ -45,6 +45,19 @@ fn marks_on(lists: &[HeldList]) -> [bool; 33]
         mark_list(&mut marks, held);
     }
     marks
+}
+
+/// A size from 4 on, past all that are marked from there on.
+pub(crate) fn past_marks(marks: &[bool; 33]) -> u8
+    ensures past { IsPastMarks marks.now result }
+    ensures at_least { 4 ≤ result }
+    ensures at_most { result ≤ 33 }
+{
+    let mut past: u8 = 33;
+    while past > 4 && !marks[past as usize - 1] {
+        past -= 1;
+    }
+    past
 }
 
 /// The sizes of the prefixes on the lists of a client. A list whose prefixes have several sizes is gone through once.

@@ -1,7 +1,7 @@
-use Rattle.std.proofs.Common.{◌≡◌, ◌-◌, ◌++◌, ap, ◌∙◌, arith}
-use Rattle.std.specs.List.{range_with_len}
+use Rattle.std.proofs.Common.{◌≡◌, ◌++◌, List, ap, ◌∙◌, arith}
 use Rattle.url_checker.specs.Hits.{hits_at}
-use Rattle.url_checker.proofs.HitFacts.{hits_left, hits_pushed}
+use Rattle.url_checker.specs.declared.findings.Hit.{Hit}
+use Rattle.url_checker.proofs.HitFacts.{sizes_below, hits_left, hits_past, hits_pushed}
 use Rattle.url_checker.proofs.hits.push_hits.Goals as goal
 use Rattle.url_checker.proofs.hits.push_hits.Goals.{then-sizes-size+in_ok-push_hit, else-sizes-size}
 
@@ -16,5 +16,8 @@ loop-size-preserved c =
 
 pub returns : goal.returns
 returns c =
-    let all : c.loop-size.size ≡ 33 = omega arith in
-    c.loop-size.invariant ∙ ap (λ size. c.args.hits.now ++ hits_at c.args.held.now c.args.hash.now (range_with_len 4 (size - 4))) all
+    let all : c.loop-size.size ≡ c.args.past = omega (arith, c.requires.at_least) in
+    c.loop-size.invariant
+    ∙ ap (λ size. c.args.hits.now ++ hits_at c.args.held.now c.args.hash.now (sizes_below size)) all
+    ∙ ap (λ (hits : List Hit). c.args.hits.now ++ hits)
+    (hits_past c.args.sizes.now c.args.held.now c.args.hash.now c.args.past c.requires.at_least c.requires.at_most c.requires.marked c.requires.past c.requires.whole)

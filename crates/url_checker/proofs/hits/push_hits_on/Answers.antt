@@ -9,5 +9,8 @@ loop-hash-preserved c =
 pub push_hits-requires : goal.push_hits-requires
 push_hits-requires c = record {
   marked = c.requires.marked;
+  past = c.requires.past;
+  at_least = c.requires.at_least;
+  at_most = c.requires.at_most;
   whole = c.requires.whole c.loop-hash.hash-index _ c.loop-hash-test.true;
 }
