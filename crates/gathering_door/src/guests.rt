@@ -25,8 +25,6 @@ pub(crate) struct Guest {
     // whether a read, or a write, may bring something
     pub(crate) can_read: bool,
     pub(crate) can_write: bool,
-    // whether the system has told that its peer sends no more, or that the connection has failed
-    pub(crate) is_ending: bool,
     // whether it stands in the row of those that are ready
     pub(crate) is_in_row: bool,
 }
@@ -44,7 +42,6 @@ impl Guest {
             has_ended: false,
             can_read: true,
             can_write: true,
-            is_ending: false,
             is_in_row: false,
         }
     }
@@ -59,9 +56,6 @@ impl Guest {
     }
 
     /// One read of the socket into the buffer.
-    ///
-    /// A read that leaves room in the buffer took all that had come, and the system tells of what comes later (epoll(7),
-    /// "Questions and answers", 9). It tells only once that no more comes, so where it has told, reads go on to the end.
     pub(crate) fn hear(&mut self, buffer: &mut [u8]) -> Heard {
         if self.has_ended {
             self.can_read = false;
@@ -73,12 +67,7 @@ impl Guest {
                 self.can_read = false;
                 Heard::End
             }
-            Ok(count) => {
-                if count < buffer.len() && !self.is_ending {
-                    self.can_read = false;
-                }
-                Heard::Bytes(count as u64)
-            }
+            Ok(count) => Heard::Bytes(count as u64),
             Err(e) if e.kind() == ErrorKind::Interrupted => Heard::Nothing,
             Err(e) if e.kind() == ErrorKind::WouldBlock => {
                 self.can_read = false;

@@ -136,8 +136,7 @@ impl House {
             return;
         };
         let has_failed = event.is_error();
-        guest.is_ending |= event.is_read_closed() || has_failed;
-        guest.can_read |= event.is_readable() || guest.is_ending;
+        guest.can_read |= event.is_readable() || event.is_read_closed() || has_failed;
         guest.can_write |= event.is_writable() || event.is_write_closed() || has_failed;
         self.line_up(slot);
     }
