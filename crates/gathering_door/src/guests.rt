@@ -1,10 +1,22 @@
 use gathering::{Ending, Gathered, Heard, Outgoing, Phase, Sent};
 use mio::net::TcpStream;
+use mio::{Interest, Registry, Token};
 use sb_model::OutOfMemory;
-use std::io::{ErrorKind, Read, Write};
+use std::io::{self, ErrorKind, Read, Write};
 
 /// How many pieces of an answer are written in one turn.
 const PIECES_A_TURN: usize = 16;
+
+/// What the system reports of a connection.
+#[derive(Clone, Copy, Debug, PartialEq, Eq)]
+pub(crate) enum Watch {
+    /// Nothing yet.
+    Nothing,
+    /// That its peer has sent something, or sends no more.
+    Reads,
+    /// That too, and that the system takes more of its answer.
+    All,
+}
 
 /// One connection.
 #[derive(Drop)]
@@ -25,6 +37,8 @@ pub(crate) struct Guest {
     // whether a read, or a write, may bring something
     pub(crate) can_read: bool,
     pub(crate) can_write: bool,
+    // what the system reports of it
+    pub(crate) watch: Watch,
     // whether it stands in the row of those that are ready
     pub(crate) is_in_row: bool,
 }
@@ -42,6 +56,7 @@ impl Guest {
             has_ended: false,
             can_read: true,
             can_write: true,
+            watch: Watch::Nothing,
             is_in_row: false,
         }
     }
@@ -53,6 +68,41 @@ impl Guest {
             Phase::Sending { .. } => self.can_read || self.can_write,
             Phase::Decided => false,
         }
+    }
+
+    /// What the system has to report of it: once a read has found nothing, what its peer sends, and once a write was refused,
+    /// that more is taken. One that waits for its turn is not waited for.
+    fn wanted(&self) -> Watch {
+        if self.phase == Phase::Decided {
+            return self.watch;
+        }
+        if !self.can_write {
+            return Watch::All;
+        }
+        if !self.can_read && self.watch == Watch::Nothing {
+            return Watch::Reads;
+        }
+        self.watch
+    }
+
+    /// Has the system report what it has to, under a token. What is there already when this begins is reported too.
+    pub(crate) fn be_watched(&mut self, registry: &Registry, token: Token) -> io::Result<()> {
+        let wanted = self.wanted();
+        if wanted == self.watch {
+            return Ok(());
+        }
+        let interest = if wanted == Watch::All {
+            Interest::READABLE | Interest::WRITABLE
+        } else {
+            Interest::READABLE
+        };
+        if self.watch == Watch::Nothing {
+            registry.register(&mut self.stream, token, interest)?;
+        } else {
+            registry.reregister(&mut self.stream, token, interest)?;
+        }
+        self.watch = wanted;
+        Ok(())
     }
 
     /// One read of the socket into the buffer.

@@ -8,7 +8,7 @@ use gathering::{
 };
 use mio::event::Event;
 use mio::net::TcpStream;
-use mio::{Interest, Registry, Token};
+use mio::{Registry, Token};
 use sb_model::OutOfMemory;
 use slab::Slab;
 use std::alloc::Global;
@@ -108,26 +108,23 @@ impl House {
         else {
             return;
         };
-        if self.watch(slot, registry).is_err() {
+        let phase = Phase::Gathering { since: now };
+        if self.rows.enter(&self.limits, phase, serial, slot).is_err() {
             self.close(slot);
             return;
         }
-        self.work(slot, now);
+        self.work(slot, registry, now);
     }
 
-    /// Has the system report what comes to a connection, and puts it into its rows.
-    fn watch(&mut self, slot: usize, registry: &Registry) -> Result<(), OutOfMemory> {
+    /// Has the system report what there is to wait for of a connection. Where it cannot, the connection is closed.
+    fn watch(&mut self, slot: usize, registry: &Registry) {
         let Some(guest) = self.guests.get_mut(slot) else {
-            return Err(OutOfMemory);
+            return;
         };
-        let _ = guest.stream.set_nodelay(true);
         let token = Token(slot.saturating_add(1));
-        let both = Interest::READABLE | Interest::WRITABLE;
-        if registry.register(&mut guest.stream, token, both).is_err() {
-            return Err(OutOfMemory);
+        if guest.be_watched(registry, token).is_err() {
+            self.close(slot);
         }
-        self.rows
-            .enter(&self.limits, guest.phase, guest.serial, slot)
     }
 
     /// Notes what the system reports of a connection.
@@ -156,7 +153,7 @@ impl House {
     }
 
     /// Works once for each connection that is ready.
-    pub(crate) fn work_ready(&mut self, now: u64) {
+    pub(crate) fn work_ready(&mut self, registry: &Registry, now: u64) {
         for _ in 0..self.ready.len() {
             let Some(slot) = self.ready.pop_front() else {
                 return;
@@ -164,12 +161,12 @@ impl House {
             if let Some(guest) = self.guests.get_mut(slot) {
                 guest.is_in_row = false;
             }
-            self.work(slot, now);
+            self.work(slot, registry, now);
         }
     }
 
     /// Tries the socket of each connection once more whose time is up at this moment, and then looks at its time.
-    pub(crate) fn work_due(&mut self, now: u64) {
+    pub(crate) fn work_due(&mut self, registry: &Registry, now: u64) {
         for _ in 0..self.guests.len() {
             let Some((at, slot)) = self.rows.first_due() else {
                 return;
@@ -181,12 +178,13 @@ impl House {
                 guest.can_read = true;
                 guest.can_write = true;
             }
-            self.work(slot, now);
+            self.work(slot, registry, now);
         }
     }
 
-    /// One try of a connection's socket, and what becomes of the connection.
-    fn work(&mut self, slot: usize, now: u64) {
+    /// One try of a connection's socket, and what becomes of the connection. What a peer sends beside its answer is read
+    /// behind the try to send: so the peer waits for no read.
+    fn work(&mut self, slot: usize, registry: &Registry, now: u64) {
         let Some(guest) = self.guests.get(slot) else {
             return;
         };
@@ -194,11 +192,12 @@ impl House {
             Phase::Gathering { .. } => self.gather(slot, now),
             Phase::Decided => {}
             Phase::Sending { .. } => {
-                self.forget(slot, now);
                 self.send(slot, now);
+                self.forget(slot, now);
             }
             Phase::Past { .. } => self.forget(slot, now),
         }
+        self.watch(slot, registry);
         self.line_up(slot);
     }
 
@@ -344,7 +343,7 @@ impl House {
     }
 
     /// Takes a connection back that had its turn, and sends what the system takes of its answer.
-    pub(crate) fn take_back(&mut self, wire: GatheredWire, now: u64) {
+    pub(crate) fn take_back(&mut self, wire: GatheredWire, registry: &Registry, now: u64) {
         let slot = wire.slot();
         let serial = wire.serial();
         let answer = wire.into_answer();
@@ -365,7 +364,7 @@ impl House {
         let step = after_answer(left, guest.has_ended, now);
         self.outgoing = self.outgoing.saturating_add(left);
         self.settle(slot, step);
-        self.work(slot, now);
+        self.work(slot, registry, now);
         self.cut_answers();
     }
 

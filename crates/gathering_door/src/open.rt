@@ -182,8 +182,9 @@ impl OpenDoor {
         self.time.look(rt);
         let now = self.time.now();
         self.accept_some(now)?;
-        self.house.work_ready(now);
-        self.house.work_due(now);
+        let registry = self.port.poll.registry();
+        self.house.work_ready(registry, now);
+        self.house.work_due(registry, now);
         Ok(())
     }
 
@@ -214,7 +215,8 @@ impl OpenDoor {
     /// Takes a connection back that had its turn.
     pub(crate) fn take_back(&mut self, wire: GatheredWire) {
         let now = self.time.now();
-        self.house.take_back(wire, now);
+        let registry = self.port.poll.registry();
+        self.house.take_back(wire, registry, now);
     }
 
     /// Closes the port, ends what has no answer, and sends what is left of answers within the limits.
@@ -248,8 +250,9 @@ impl OpenDoor {
             }
             time.look(rt);
             let now = time.now();
-            house.work_ready(now);
-            house.work_due(now);
+            let registry = poll.registry();
+            house.work_ready(registry, now);
+            house.work_due(registry, now);
         }
     }
 }
