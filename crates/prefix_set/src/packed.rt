@@ -2,7 +2,7 @@ ghost use Rattle.std.specs.Prelude.{◌≡◌, ℕ, ◌+◌, ◌<◌, ◌≤◌,
 ghost use Rattle.std.specs.List.{list_any};
 ghost use Rattle.std.specs.Cmp.{partial_equiv_from_equiv};
 ghost use Rattle.std.specs.Cmp.Lexicographic.{pointwise, lists_equiv, nat_list_eq_equiv};
-ghost use Rattle.sb_model.specs.Prefixes.{IsRising, set_of, concatenation};
+ghost use Rattle.sb_model.specs.Prefixes.{bytes_cmp, IsRising, set_of, concatenation};
 ghost use Rattle.sb_model.specs.History.{IsPrefixSize};
 ghost use Rattle.sha2.specs.Sha256.{sha256};
 ghost use Rattle.prefix_set.specs.Pieces.{pieces_of};
@@ -10,11 +10,12 @@ ghost use Rattle.prefix_set.specs.Packing.{ends_from, cut_from};
 
 use crate::iteration::Members;
 use crate::layout::Layout;
-use crate::sorting::{precedes, quads_of, quads_rise, sort_quads};
+use crate::sorting::{compare_quad, precedes, quads_of, quads_rise, sort_quads};
 use hash_prefixes::Prefix;
 use sb_model::{Bytes, OutOfMemory};
 use sha2::{Digest, Sha256};
 use std::alloc::Global;
+use std::cmp::Ordering;
 use std::marker::Model;
 
 // The most bytes that a list holds: the ends are numbers of 32 bits.
@@ -151,6 +152,28 @@ impl PackedPrefixes {
         ensures size { IsPrefixSize (length result.now) }
     {
         self.part(i, 1)
+    }
+
+    // The order of the prefix at a place and some bytes, each looked at.
+    fn compare_bytes(&self, i: usize, bytes: &[u8]) -> Ordering
+        requires { i < length self.now }
+        ensures { result ≡ bytes_cmp (slice_index_or self.now i []) bytes.now }
+    {
+        self.at(i).cmp(bytes)
+    }
+
+    /// The order of the prefix at a place and some bytes. Four bytes are compared as a number.
+    #[inline]
+    pub(crate) fn compare(&self, i: usize, bytes: &[u8]) -> Ordering
+        requires { i < length self.now }
+        ensures { result ≡ bytes_cmp (slice_index_or self.now i []) bytes.now }
+    {
+        if let Layout::Even { size: 4 } = &self.layout
+            && let [a, b, c, d] = bytes
+        {
+            return compare_quad(&quads_of(&self.bytes)[i], &[*a, *b, *c, *d]);
+        }
+        self.compare_bytes(i, bytes)
     }
 
     /// Makes room for so many further bytes.

@@ -26,6 +26,14 @@ fn comes_before(first: &[u8; 4], second: &[u8; 4]) -> bool
     u32::from_be_bytes(*first) < u32::from_be_bytes(*second)
 }
 
+/// The order of two strings of four bytes: big-endian numbers have the order of their bytes.
+#[inline(always)]
+pub(crate) fn compare_quad(first: &[u8; 4], second: &[u8; 4]) -> Ordering
+    ensures { result ≡ bytes_cmp first.now second.now }
+{
+    u32::from_be_bytes(*first).cmp(&u32::from_be_bytes(*second))
+}
+
 /// Whether these prefixes rise already.
 pub(crate) fn quads_rise(quads: &[[u8; 4]]) -> bool
     ensures { IsTrue result ↔ IsRising quads.now }

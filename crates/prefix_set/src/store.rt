@@ -71,6 +71,6 @@ impl PackedStore {
         ensures steps { steps.new ≡ steps.old + 1 }
     {
         steps.tick();
-        self.packed.at(index as usize).cmp(prefix.as_bytes())
+        self.packed.compare(index as usize, prefix.as_bytes())
     }
 }
