@@ -7,7 +7,7 @@ ghost use Rattle.url_canon.specs.Unescaping.{HasNoEscape, IsUnescapedOf, unescap
 ghost use Rattle.url_canon.specs.Canonical.{host_in, parts_of, escaped_parts, canonical_of_cleaned, canonical_of, Answers};
 
 use crate::UrlFault;
-use crate::escape::{append_escaped, count_unsafe};
+use crate::escape::append_escaped;
 use crate::host::{append_lowercase, host_of};
 use crate::parts::{split_authority, split_scheme, without_user};
 use crate::path::append_path;
@@ -26,12 +26,11 @@ const MAX_LEN: usize = 8192;
 /// and the decimals of an address.
 const SPARE: usize = 32;
 
-/// A buffer with room for the canonical text of an unescaped text.
+/// A buffer with room for the canonical text of an unescaped text in which nothing is escaped.
 fn room_for(alloc: Global, plain: &[u8]) -> Result<Bytes, OutOfMemory>
     ensures { IfOk result (λ out. out ≡ []) }
 {
-    let escapes = count_unsafe(plain).saturating_mul(2);
-    Bytes::with_capacity(alloc, escapes.saturating_add(plain.len() + SPARE))
+    Bytes::with_capacity(alloc, plain.len().saturating_add(SPARE))
 }
 
 /// Appends a query, escaped and after a `?`, where there is one.

@@ -1,4 +1,4 @@
-ghost use Rattle.std.specs.Prelude.{◌≡◌, ◌+◌, ◌^◌, ◌<◌, ◌≤◌, ◌++◌, true, length, count_by, position, IfSome, OnOk};
+ghost use Rattle.std.specs.Prelude.{◌≡◌, ◌+◌, ◌^◌, ◌<◌, ◌++◌, true, length, position, IfSome, OnOk};
 ghost use Rattle.url_canon.specs.Escaping.{hex_digit, is_unsafe, escape_of, escaped};
 
 use sb_model::{Bytes, OutOfMemory};
@@ -20,14 +20,6 @@ fn is_unsafe(byte: u8) -> bool
     ensures { result ≡ is_unsafe byte }
 {
     byte <= 32 || byte >= 127 || byte == b'#' || byte == b'%'
-}
-
-/// How many bytes of a text are escaped.
-pub fn count_unsafe(text: &[u8]) -> usize
-    ensures value { result ≡ count_by is_unsafe text.now }
-    ensures most { result ≤ length text.now }
-{
-    text.iter().filter(|byte| is_unsafe(**byte)).count()
 }
 
 /// Where the first byte stands that is escaped.

@@ -119,4 +119,12 @@ impl CanonicalUrl {
     {
         Bytes::from_slice(alloc, self.as_bytes())
     }
+
+    /// The text of the URL, without a copy.
+    pub fn into_text(self) -> Bytes
+        ensures value { result ≡ text_of self }
+        ensures again { length result ≤ 8192 → canonical_of result ≡ Ok self }
+    {
+        self.text
+    }
 }

@@ -17,8 +17,8 @@ fn check(
     assert_eq!(rt; found.as_slice(), wanted);
     assert_eq!(rt; url.is_address(), is_address);
     let again = canonical(alloc, found.as_slice())?;
-    assert_eq!(rt; again.text(alloc)?.as_slice(), wanted);
     assert_eq!(rt; again.is_address(), is_address);
+    assert_eq!(rt; again.into_text().as_slice(), wanted);
     Ok(())
 }
 
