@@ -57,13 +57,13 @@ IsWhole hash = length hash.bytes ≡ 32
 abbrev pub Marks : List Bool → Held → Type 0
 Marks marks held = (member : List ℕ) → Contains held.set member → length member < 33 → slice_index_or marks (length member) false ≡ true
 
--- no size from this one on is marked
-abbrev pub IsPastMarks : List Bool → ℕ → Type 0
-IsPastMarks marks past = (size : ℕ) → past ≤ size → slice_index_or marks size false ≡ false
-
 -- those of each list are
 abbrev pub MarksAll : List Bool → List Held → Type 0
 MarksAll marks lists = All (Marks marks) lists
+
+-- no size from this one on is marked
+abbrev pub IsPastMarks : List Bool → ℕ → Type 0
+IsPastMarks marks past = (size : ℕ) → past ≤ size → slice_index_or marks size false ≡ false
 
 -- ---- what is asked of hits
 

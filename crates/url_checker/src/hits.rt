@@ -177,17 +177,17 @@ fn finding(
     lists: &ClientLists,
     sizes: &Sizes,
     number: u64,
-    url: &CanonicalUrl,
+    url: CanonicalUrl,
 ) -> Result<Finding, OutOfMemory>
     requires marked { MarksAll sizes.now.marks lists.now }
     ensures number { IfOk result (λ finding. finding.number ≡ number) }
-    ensures text { IfOk result (λ finding. finding.text ≡ text_of url.now) }
-    ensures hits { IfOk result (λ finding. finding.hits ≡ hits_of lists.now url.now) }
+    ensures text { IfOk result (λ finding. finding.text ≡ text_of url) }
+    ensures hits { IfOk result (λ finding. finding.hits ≡ hits_of lists.now url) }
     ensures askable { IfOk result (λ finding. AreAskable finding.hits) }
     ensures few { IfOk result (λ finding. length (prefixes_hit finding.hits) ≤ 870) }
 {
-    let text = url.text(alloc)?;
-    let hits = hits(alloc, lists, sizes, url)?;
+    let hits = hits(alloc, lists, sizes, &url)?;
+    let text = url.into_text();
     Ok(Finding { number, text, hits })
 }
 
@@ -237,5 +237,5 @@ pub fn local_check_with(
     ensures few { IfOk result (λ finding. length (prefixes_hit finding.hits) ≤ 870) }
 {
     let canonical = canonical(alloc, url)?;
-    Ok(finding(alloc, lists, sizes, number, &canonical)?)
+    Ok(finding(alloc, lists, sizes, number, canonical)?)
 }
