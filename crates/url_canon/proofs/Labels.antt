@@ -1,8 +1,11 @@
 -- The name of a host, label after label.
-use Rattle.std.proofs.Common.{◌≡◌, ℕ, List, [], ◌∷◌, ◌++◌, cond, not, refl, sym, ap, ◌∙◌}
-use Rattle.std.specs.List.{fold, filter, flat_map, join_with_byte}
+use Rattle.std.proofs.Common.{◌≡◌, ℕ, List, [], ◌∷◌, ◌++◌, Bool, true, false, cond, not, refl, sym, ap, ◌∙◌}
+use Rattle.std.specs.List.{fold, filter, flat_map, join_with_byte, slice_split, AllByRecursion}
+use Rattle.std.proofs.lemmas.Bool.{false≢true}
 use Rattle.std.proofs.lemmas.List.{append-nil, append_assoc}
-use Rattle.url_canon.specs.Words.{is_nil}
+use Rattle.std.proofs.lemmas.List.Splits.{join_with_byte-slice_split}
+use Rattle.url_canon.specs.Words.{is_nil, is_dot}
+use Rattle.url_canon.specs.Host.{tidied}
 
 -- a name with one label more; an empty label adds nothing
 abbrev pub with_label : List ℕ → List ℕ → List ℕ
@@ -31,3 +34,16 @@ pub all_labels : (parts : List (List ℕ)) → with_labels [] parts ≡ join_wit
 all_labels [] = refl
 all_labels ([] ∷ parts) = all_labels parts
 all_labels ((b ∷ bs) ∷ parts) = more_labels b bs parts ∙ sym (join_all (b ∷ bs) (kept parts))
+
+-- a name of which no label is empty stays as it is
+
+abbrev pub HasBytes : List ℕ → Type 0
+HasBytes label = is_nil label ≡ false
+
+kept_all : (parts : List (List ℕ)) → AllByRecursion HasBytes parts → kept parts ≡ parts
+kept_all [] h = refl
+kept_all ([] ∷ parts) h = absurd (false≢true (sym h.0))
+kept_all ((b ∷ bs) ∷ parts) h = ap (λ r. (b ∷ bs) ∷ r) (kept_all parts h.1)
+
+pub tidied_stays : (text : List ℕ) → AllByRecursion HasBytes (slice_split is_dot text) → tidied text ≡ text
+tidied_stays text h = ap (λ parts. join_with_byte 46 parts) (kept_all (slice_split is_dot text) h) ∙ join_with_byte-slice_split 46 text

@@ -1,7 +1,7 @@
 -- The components of a path: none has a slash, and a canonical path stays.
 use Rattle.std.proofs.Common.{◌≢◌, ◌/◌, ◌%◌, eqb, subst, codes, ⊎_elim, ◌≡◌, ℕ, zero, suc, ◌-◌, ◌<◌, List, [], ◌∷◌, ◌++◌, Bool, true, false, ◌||◌, cond, length, take, drop, map, refl, sym, ap, ◌∙◌, arith}
 use Rattle.std.specs.List.{All, flat_map, list_any, AllByRecursion, slice_split, onto_first, fold}
-use Rattle.std.proofs.lemmas.Bool.{false≢true, false_from_ne_true, cases_Bool, or_right, cond_both, cond-true, cond-false, or_from, or_parts}
+use Rattle.std.proofs.lemmas.Bool.{eqb-true, false≢true, false_from_ne_true, cases_Bool, or_right, cond_both, cond-true, cond-false, or_from, or_parts}
 use Rattle.std.proofs.lemmas.List.{append_assoc, append-nil, length-append}
 use Rattle.url_canon.specs.Words.{is_nil, last_part}
 use Rattle.url_canon.specs.Path.{is_dot_segment, directories, IsNormalPath, is_slash, is_single_dot, is_double_dot, path_text, components_of, with_component, without_dot_segments, without_empty, path_of}
@@ -250,3 +250,45 @@ normal-escaped path =
     normal_from (map escaped cs) (some-map escaped cs (some-path_of path)) (slashless-escaped path)
     (each-map IsName escaped cs (each-weaker IsName (λ c. IsName (escaped c)) cs name-escaped (names-path_of path)))
     (subst (AllByRecursion IsSome) (sym (directories-map escaped cs)) (each-map IsSome escaped (directories cs) (each-weaker IsSome (λ c. IsSome (escaped c)) (directories cs) (λ c h. nil-escaped c ∙ h) (full-path_of path))))
+
+-- components that stay as they are
+
+abbrev pub Stays : List (List ℕ) → Type 0
+Stays cs = AllByRecursion IsName cs × AllByRecursion IsSome (directories cs)
+
+pub stays_more : (c : List ℕ) (cs : List (List ℕ)) → IsName c → (0 < length cs → is_nil c ≡ false) → Stays cs → Stays (c ∷ cs)
+stays_more c [] name full h = ((name, tt), tt)
+stays_more c (d ∷ cs) name full h = ((name, h.0), (full (omega arith), h.1))
+
+same-full : (cs : List (List ℕ)) → AllByRecursion IsSome (directories cs) → without_empty cs ≡ cs
+same-full [] h = refl
+same-full (c ∷ []) h = refl
+same-full (c ∷ d ∷ cs) h =
+    cond-false (is_nil c) (without_empty (d ∷ cs)) (c ∷ without_empty (d ∷ cs)) h.0 ∙ ap (λ r. c ∷ r) (same-full (d ∷ cs) h.1)
+
+pub same-stays : (cs : List (List ℕ)) → Stays cs → without_empty (without_dot_segments cs) ≡ cs
+same-stays cs h = ap without_empty (same-without_dot_segments cs h.0) ∙ same-full cs h.1
+
+-- components, escaped and each after its slash, are the text that they were cut out of, escaped after a slash
+
+onto_text : (x : ℕ) (parts : List (List ℕ)) (text : List ℕ) → 0 < length parts → path_text (map escaped parts) ≡ 47 ∷ escaped text → path_text (map escaped (onto_first x parts)) ≡ 47 ∷ escaped (x ∷ text)
+unfolding escaped
+onto_text x [] text some e = absurd (omega arith)
+onto_text x (c ∷ cs) text some e =
+    ap (λ r. 47 ∷ r) (append_assoc (escape_of x) (flat_map escape_of c) (path_text (map escaped cs)) ∙ ap (λ r. escape_of x ++ r) (ap (drop 1) e))
+
+slash_text : (x : ℕ) (text : List ℕ) → is_slash x ≡ true → 47 ∷ 47 ∷ escaped text ≡ 47 ∷ escaped (x ∷ text)
+unfolding escaped
+slash_text x text e = ap (λ y. 47 ∷ (escape_of y ++ flat_map escape_of text)) (sym (eqb-true x 47 e))
+
+pub split_text : (text : List ℕ) → path_text (map escaped (slice_split is_slash text)) ≡ 47 ∷ escaped text
+unfolding escaped
+split_text [] = refl
+split_text (x ∷ text) =
+    cond_both (is_slash x) ([] ∷ slice_split is_slash text) (onto_first x (slice_split is_slash text)) (λ cs. path_text (map escaped cs) ≡ 47 ∷ escaped (x ∷ text))
+    (λ e. ap (λ r. 47 ∷ r) (split_text text) ∙ slash_text x text e)
+    (λ _. onto_text x (slice_split is_slash text) text (some-slice_split is_slash text) (split_text text))
+
+pub normal_text : (path : List ℕ) → without_empty (without_dot_segments (slice_split is_slash (drop 1 path))) ≡ slice_split is_slash (drop 1 path) → path_text (map escaped (path_of path)) ≡ 47 ∷ escaped (drop 1 path)
+unfolding path_of
+normal_text path h = ap (λ cs. path_text (map escaped cs)) h ∙ split_text (drop 1 path)

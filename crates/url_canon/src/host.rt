@@ -1,4 +1,4 @@
-ghost use Rattle.std.specs.Prelude.{◌≡◌, ◌∷◌, ◌++◌, true, false, if◌then◌else◌, IfOk, OnOk, MatchOption, codes, option_map};
+ghost use Rattle.std.specs.Prelude.{◌≡◌, ◌∷◌, ◌++◌, true, false, if◌then◌else◌, IsTrue, IfOk, OnOk, MatchOption, codes, option_map};
 ghost use Rattle.std.specs.List.{before_first, list_any};
 ghost use Rattle.idna.specs.Uts46.{domain_to_ascii};
 ghost use Rattle.idna.specs.declared.deny_list.TheConstants.AsciiDenyList.{URL};
@@ -83,8 +83,23 @@ fn append_label(out: &mut Vec<u8>, label: &[u8]) -> Result<(), OutOfMemory>
     Ok(())
 }
 
-/// A name with one dot between two labels, and none at the ends.
-fn tidied(alloc: Global, text: &[u8]) -> Result<Vec<u8>, OutOfMemory>
+/// Whether no label of a name is empty.
+fn is_tidy(text: &[u8]) -> bool
+    ensures { IsTrue result → tidied text.now ≡ text.now }
+{
+    let mut rest = Some(text);
+    while let Some(labels) = rest {
+        let (label, more) = split_at_byte(labels, b'.');
+        if label.is_empty() {
+            return false;
+        }
+        rest = more;
+    }
+    true
+}
+
+/// The labels of a name that are not empty, with a dot between two.
+fn joined_labels(alloc: Global, text: &[u8]) -> Result<Vec<u8>, OutOfMemory>
     ensures { IfOk result (λ name. name.items ≡ tidied text.now) }
 {
     let mut name = Vec::with_capacity(alloc, text.len())?;
@@ -95,6 +110,16 @@ fn tidied(alloc: Global, text: &[u8]) -> Result<Vec<u8>, OutOfMemory>
         rest = more;
     }
     Ok(name)
+}
+
+/// A name with one dot between two labels, and none at the ends.
+fn tidied(alloc: Global, text: &[u8]) -> Result<Vec<u8>, OutOfMemory>
+    ensures { IfOk result (λ name. name.items ≡ tidied text.now) }
+{
+    if is_tidy(text) {
+        return Ok(Vec::from_slice(alloc, text)?);
+    }
+    joined_labels(alloc, text)
 }
 
 /// A host's name in lower case, with one dot between two labels and none at the ends.

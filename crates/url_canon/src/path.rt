@@ -1,4 +1,4 @@
-ghost use Rattle.std.specs.Prelude.{ℕ, List, ◌≡◌, ◌++◌, ◌∷◌, [], ◌||◌, not, if◌then◌else◌, length, ◌≤◌, map, IfOk, OnOk};
+ghost use Rattle.std.specs.Prelude.{ℕ, List, ◌≡◌, ◌++◌, ◌∷◌, [], ◌||◌, ◌&&◌, not, if◌then◌else◌, length, ◌≤◌, drop, map, IsTrue, IfOk, OnOk};
 ghost use Rattle.std.specs.List.{slice_split};
 ghost use Rattle.url_canon.specs.Words.{is_nil};
 ghost use Rattle.url_canon.specs.Escaping.{escaped};
@@ -100,16 +100,61 @@ fn append_components(out: &mut Bytes, components: &[&[u8]]) -> Result<(), OutOfM
     Ok(())
 }
 
+/// Whether a component stays as it is: it is not `.` or `..`, nor empty unless it is the last.
+fn stays(component: &[u8], is_last: bool) -> bool
+    ensures { result ≡ (not (is_single_dot component.now || is_double_dot component.now)
+        && (is_last || not (is_nil component.now))) }
+{
+    if is_single_dot(component) || is_double_dot(component) {
+        return false;
+    }
+    is_last || !component.is_empty()
+}
+
+/// Whether the components of a path stay as they are: none is `.` or `..`, and none but the last is empty.
+fn has_normal_components(path: &[u8]) -> bool
+    ensures { IsTrue result → without_empty (without_dot_segments (slice_split is_slash path.now))
+        ≡ slice_split is_slash path.now }
+{
+    let mut rest = Some(path);
+    while let Some(components) = rest {
+        let (component, more) = split_at_byte(components, b'/');
+        if !stays(component, more.is_none()) {
+            return false;
+        }
+        rest = more;
+    }
+    true
+}
+
+/// Appends a path whose components stay as they are, after a slash and escaped.
+fn append_normal(out: &mut Bytes, path: &[u8]) -> Result<(), OutOfMemory>
+    ensures { OnOk result (out.new ≡ out.old ++ 47 ∷ escaped path.now) }
+{
+    out.push(b'/')?;
+    append_escaped(out, path)
+}
+
+/// What stands after the first slash of a path, which is empty or begins with one.
+fn after_slash(path: &[u8]) -> &[u8]
+    ensures { result.now ≡ drop 1 path.now }
+{
+    match path {
+        [_, rest @ ..] => rest,
+        [] => path,
+    }
+}
+
 /// Appends the canonical path of a path, which is empty or begins with a slash.
-#[tactic(auto, unfolding(crate::specs::Path::path_of))]
+#[tactic(auto, using(crate::proofs::Paths::normal_text), unfolding(crate::specs::Path::path_of))]
 pub fn append_path(out: &mut Bytes, alloc: Global, path: &[u8]) -> Result<(), OutOfMemory>
     ensures { OnOk result (out.new ≡ out.old ++ path_text (map escaped (path_of path.now))) }
 {
-    let after_slash = match path {
-        [_, rest @ ..] => rest,
-        [] => path,
-    };
-    let components = without_dot_segments(alloc, after_slash)?;
+    let rest = after_slash(path);
+    if has_normal_components(rest) {
+        return append_normal(out, rest);
+    }
+    let components = without_dot_segments(alloc, rest)?;
     append_components(out, components.as_slice())
 }
 

@@ -3,7 +3,7 @@ use Rattle.std.specs.List.{join_with_byte}
 use Rattle.url_canon.specs.Host.{labels_of}
 use Rattle.url_canon.proofs.Splits.{parts_after, size_after}
 use Rattle.url_canon.proofs.Labels.{with_labels}
-use Rattle.url_canon.proofs.host.tidied.Given as goal
+use Rattle.url_canon.proofs.host.joined_labels.Given as goal
 use Rattle.url_canon.specs.Words.{is_dot}
 
 abbrev pub invariant-loop-rest : goal.invariant-loop-rest

@@ -2,7 +2,7 @@ use Rattle.std.proofs.Common.{option_copied, ap, sym, ◌∙◌}
 use Rattle.std.specs.List.{slice_split}
 use Rattle.url_canon.proofs.Splits.{parts_after}
 use Rattle.url_canon.proofs.Labels.{with_labels, all_labels}
-use Rattle.url_canon.proofs.host.tidied.Goals as goal
+use Rattle.url_canon.proofs.host.joined_labels.Goals as goal
 use Rattle.url_canon.specs.Words.{is_dot}
 
 pub loop-rest-init : goal.loop-rest-init
