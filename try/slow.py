@@ -19,6 +19,7 @@ import re
 import resource
 import shlex
 import shutil
+import signal
 import socket
 import statistics
 import struct
@@ -192,6 +193,23 @@ def is_read_fault(program, journal):
     return "connection 1 read-fault" in lines
 
 
+def is_answered_behind_urgent_data(program, journal):
+    """Whether a request is answered within a second whose rest is there when a read stops at urgent data in it."""
+    server = Server(program, journal)
+    with server as port, socket.create_connection(("127.0.0.1", port), timeout=BOUND) as stream:
+        # (it is taken first, so that what comes is reported while the server stands still, and is read then)
+        time.sleep(0.5)
+        server.ran.send_signal(signal.SIGSTOP)
+        stream.sendall(GOOD[:10])
+        stream.send(b"!", socket.MSG_OOB)
+        stream.sendall(GOOD[10:])
+        server.ran.send_signal(signal.SIGCONT)
+        try:
+            return stream.recv(64).startswith(b"HTTP/1.1 404")
+        except OSError:
+            return False
+
+
 def measure(port, kind, count, seconds):
     peers = []
 
@@ -245,6 +263,8 @@ def main():
         write_journal(many, MANY_HASHES)
         if not is_read_fault(said.program, some):
             sys.exit("slow: a reset in a head was not told as a read fault")
+        if not is_answered_behind_urgent_data(said.program, some):
+            sys.exit("slow: a request with urgent data in it was not answered")
         print("| Slow peers | How many | Median wait | Longest wait | Not within 1 s |")
         print("|---|---|---|---|---|")
         for kind in KINDS:
