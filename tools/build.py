@@ -61,6 +61,12 @@ def is_current(names, crates):
     return min(map(os.path.getmtime, programs)) >= newest([*made_of, *sources(crates)])
 
 
+def put(made, path):
+    """Puts a program in its place at once, also where the one that stands there runs."""
+    shutil.copy(made, path + ".new")
+    os.replace(path + ".new", path)
+
+
 def copy_to(room, crates, lines):
     with open(os.path.join(room, "crates.txt"), "w", encoding="utf-8") as file:
         file.writelines(f"{it}\n" for it in lines if it.partition(":")[0].split()[0] in crates)
@@ -110,7 +116,7 @@ def main(names):
             return status
         os.makedirs(BIN, exist_ok=True)
         for name in names:
-            shutil.copy(os.path.join(room, "crates", name, "out", name), os.path.join(BIN, name))
+            put(os.path.join(room, "crates", name, "out", name), os.path.join(BIN, name))
     return 0
 
 
