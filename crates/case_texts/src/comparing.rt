@@ -3,8 +3,9 @@ use crate::CaseFault;
 use crate::book::Reader;
 use crate::objects::Place;
 use crate::report::Differences;
+use memory_objects::{MemoryDoor, MemoryKeeper, MemorySink, ScriptClock};
 use sb_model::{Bytes, Row};
-use sb_outside::{Connection, MemoryDoor, MemoryKeeper, MemorySink, ScriptClock};
+use sb_outside::Connection;
 
 /// What a run left.
 #[derive(Drop)]

@@ -4,11 +4,11 @@ use crate::book::{Book, Reader};
 use crate::fields::{field, fields, lasting_field, numbers, own_field};
 use crate::sheet::{Scope, rest_of, word_of};
 use crate::words::{low_word, number_of, size_of_number};
-use sb_model::{Bytes, Moment, OutOfMemory, Row};
-use sb_outside::{
+use memory_objects::{
     KeepFailure, MemoryDoor, MemoryKeeper, MemorySink, MemorySource, MemoryWire, Remains,
     ScriptClock, ScriptDice,
 };
+use sb_model::{Bytes, Moment, OutOfMemory, Row};
 
 /// How many bytes an output or a connection takes.
 const ROOM: usize = 4_194_304;

@@ -1,7 +1,7 @@
 use delta_server::{ServeFault, Settings, answer_fetch};
 use list_versions::History;
+use memory_objects::MemorySource;
 use sb_model::{Bytes, OutOfMemory, Row};
-use sb_outside::MemorySource;
 use std::alloc::Global;
 use std::test::Fail;
 use update_messages::{FetchResponse, read_request, write_response};

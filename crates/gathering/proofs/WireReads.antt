@@ -2,7 +2,7 @@
 use Rattle.std.proofs.Common.{◌≡◌, ℕ, ◌+◌, Bool, false, cond, List, [], ◌++◌, take, drop, Some, refl, sym, ap, ◌∙◌}
 use Rattle.std.proofs.lemmas.List.{take-append-drop, drop-drop}
 use Rattle.sb_outside.specs.Outside.{GivesFront}
-use Rattle.sb_outside.specs.Wires.{pieces_of}
+use Rattle.sb_outside.specs.Connections.{pieces_of}
 
 -- the next bytes are given
 pub gives_next : (ended : Bool) (left : List (List ℕ)) (sends bytes : List ℕ) (k n : ℕ) → ended ≡ false → cond ended [] (pieces_of (drop k sends)) ≡ left → bytes ≡ take n (drop k sends)

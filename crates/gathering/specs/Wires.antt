@@ -1,7 +1,7 @@
 -- What waits to be sent, and the wire that is handed out, as contracts see them.
 use Rattle.std.specs.Prelude.{◌≡◌, ℕ, ◌<◌, ◌⊎◌, Bool, true, List, [], ◌∷◌, ◌++◌, length, drop}
 use Rattle.std.specs.List.{All, concat}
-use Rattle.sb_outside.specs.Wires.{pieces_of}
+use Rattle.sb_outside.specs.Connections.{pieces_of}
 use Rattle.http_edge.specs.Deciding.{IsDecided}
 use Rattle.gathering.specs.declared.phases.Ending.{Ending}
 use Rattle.gathering.specs.declared.phases.Ending.TheVariants.{Fault}

@@ -1,7 +1,7 @@
 ghost use Rattle.std.specs.Prelude.{◌≡◌, ℕ, ◌≤◌, ◌<◌, ◌↔◌, min, List, [], ◌++◌, length, take, Some, None, IsErr, IfSome, IfNone, IsSome, IfOk, OnOk, OnErr};
 ghost use Rattle.http_edge.specs.Requests.{NeedsMore};
 ghost use Rattle.sb_outside.specs.Outside.{Rose, GivesFront, AnswersEnd, raised, next_piece, appended};
-ghost use Rattle.sb_outside.specs.Wires.{pieces_of};
+ghost use Rattle.sb_outside.specs.Connections.{pieces_of};
 ghost use Rattle.gathering.specs.Wires.{WireInHand, IsFreshWire, HasItsTurn, bytes_of};
 
 use crate::{Ending, Gathered, Outgoing};
@@ -31,7 +31,7 @@ pub struct GatheredWire {
 
 impl Model for GatheredWire {
     ghost use Rattle.std.specs.Prelude.{◌≡◌, ◌≤◌, [], drop, length, true, if◌then◌else◌};
-    ghost use Rattle.sb_outside.specs.Wires.{pieces_of};
+    ghost use Rattle.sb_outside.specs.Connections.{pieces_of};
     ghost use Rattle.gathering.specs.Wires.{WireInHand, bytes_of};
     ghost use Rattle.gathering.specs.declared.phases.Ending.{Ending};
 
@@ -245,7 +245,7 @@ impl Sink for GatheredWire {
 
 impl Wire for GatheredWire {
     ghost use Rattle.std.specs.Prelude.{Some, refl};
-    ghost use Rattle.sb_outside.specs.Wires.{pieces_of};
+    ghost use Rattle.sb_outside.specs.Connections.{pieces_of};
 
     ghost number = { λ s. s.number };
 

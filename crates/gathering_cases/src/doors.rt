@@ -1,8 +1,9 @@
 use gathering::{DoorLimits, GatheredWire};
 use gathering_door::GatheringDoor;
 use http_edge::{Allow, RequestFault, Status, read_request, write_response};
+use real_objects::SystemClock;
 use sb_model::Moment;
-use sb_outside::{Arrival, Clock, Door, SystemClock, write_all};
+use sb_outside::{Arrival, Clock, Door, write_all};
 use std::alloc::Global;
 use std::fmt::Display;
 

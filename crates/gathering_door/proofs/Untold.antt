@@ -1,7 +1,6 @@
 -- What a door that tells nothing of what is to come says of the wire that it hands out.
 use Rattle.std.proofs.Common.{◌≡◌, ℕ, None, Some, List, [], ◌∷◌, refl, sym, ap, arith}
-use Rattle.sb_outside.specs.Connections.{TakesFirst}
-use Rattle.sb_outside.specs.Wires.{pieces_of}
+use Rattle.sb_outside.specs.Connections.{TakesFirst, pieces_of}
 use Rattle.gathering.specs.Wires.{WireInHand, IsFreshWire}
 
 pub takes_first : (number : ℕ) (wire : WireInHand) → IsFreshWire number wire → TakesFirst None None (Some (pieces_of wire.sends)) (Some wire.left)

@@ -1,7 +1,6 @@
 ghost use Rattle.std.specs.Prelude.{◌≡◌, ◌≢◌, ◌≤◌, None, Ok, Some, [], false, IsErr, IfSome, IfOk, OnOk, OnErr};
 ghost use Rattle.sb_outside.specs.Outside.{Rose, IfTold};
-ghost use Rattle.sb_outside.specs.Connections.{connected, TakesFirst};
-ghost use Rattle.sb_outside.specs.Wires.{pieces_of};
+ghost use Rattle.sb_outside.specs.Connections.{connected, TakesFirst, pieces_of};
 ghost use Rattle.gathering.specs.Wires.{IsFreshWire, HasItsTurn};
 ghost use Rattle.gathering_door.specs.Doors.{taken_after};
 

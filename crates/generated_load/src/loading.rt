@@ -5,8 +5,8 @@ ghost use Rattle.generated_load.specs.Generated.{generated};
 use crate::ExerciseFault;
 use crate::journals::generated_journal;
 use list_versions::{History, JournalFault};
+use memory_objects::MemorySource;
 use sb_model::{Bytes, OutOfMemory, Row};
-use sb_outside::MemorySource;
 use std::alloc::Global;
 
 // A source that gives a text.

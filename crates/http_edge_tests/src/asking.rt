@@ -3,8 +3,9 @@ ghost use Rattle.std.specs.Prelude.{◌≡◌, IfOk};
 ghost use Rattle.http_edge.specs.Exchanges.{IsTarget};
 
 use http_edge::{Exchanged, Target, exchange};
+use memory_objects::{Play, ScriptClock, ScriptLink};
 use sb_model::{Bytes, Moment, OutOfMemory, Row, Text};
-use sb_outside::{Clock, Kind, Play, ScriptClock, ScriptLink};
+use sb_outside::{Clock, Kind};
 use std::alloc::Global;
 
 /// A link with one session, which gives this text.

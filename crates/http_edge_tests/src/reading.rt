@@ -1,8 +1,9 @@
 //! How far a session is read.
 use crate::asking::{ask, clock_of, target_of};
 use http_edge::ExchangeFault;
+use memory_objects::{Play, ScriptLink};
 use sb_model::{Bytes, OutOfMemory, Row};
-use sb_outside::{Play, ScriptLink, Session};
+use sb_outside::Session;
 use std::alloc::Global;
 use std::process::Abort;
 

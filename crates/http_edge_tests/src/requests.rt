@@ -1,7 +1,7 @@
 //! Requests as a server reads them.
 use http_edge::{HttpRequest, RequestFault, read_request};
+use memory_objects::MemorySource;
 use sb_model::{Bytes, OutOfMemory, Row};
-use sb_outside::MemorySource;
 use std::alloc::Global;
 use std::process::Abort;
 

@@ -1,7 +1,7 @@
 //! Responses as a server writes them, and printed causes.
 use http_edge::{Allow, ExchangeFault, ResponseFault, Status, push_exchange_cause, write_response};
+use memory_objects::MemorySink;
 use sb_model::{Bytes, OutOfMemory, Row};
-use sb_outside::MemorySink;
 use std::alloc::Global;
 use std::process::Abort;
 

@@ -5,8 +5,8 @@ use delta_server::{Settings, answer_find};
 use hash_messages::FindRequest;
 use hash_prefixes::append_hex;
 use list_versions::History;
+use memory_objects::MemorySource;
 use sb_model::{Bytes, OutOfMemory, Row};
-use sb_outside::MemorySource;
 use std::alloc::Global;
 
 /// How many full hashes one change of the journal adds.

@@ -1,6 +1,6 @@
 use list_versions::{History, JournalFault};
+use memory_objects::MemorySource;
 use sb_model::{Bytes, EntryType, ListName, OutOfMemory, PlatformType, Row, ThreatType};
-use sb_outside::MemorySource;
 use std::alloc::Global;
 
 /// A list of size 4, and a change that adds the hashes of 1234 and 5678, each with 28 zero bytes.

@@ -5,8 +5,9 @@
 #![tactic(auto)]
 
 use client_store::read_store;
+use real_objects::StdSource;
 use sb_model::{EntryType, ListName, PlatformType, ThreatType};
-use sb_outside::{StdSource, read_to_end};
+use sb_outside::read_to_end;
 use std::alloc::Global;
 use std::process::ExitCode;
 use std::sync::Wait;

@@ -1,11 +1,12 @@
 //! Runs that judge on several threads, over objects in memory.
 use crate::gates::{Rule, RuledGate};
 use crate::words::words;
+use memory_objects::{
+    MemoryKeeper, MemorySink, MemorySource, Play, ScriptClock, ScriptDice, ScriptLink,
+};
 use sb_client::run_client;
 use sb_model::{Bytes, Moment, Row};
-use sb_outside::{
-    Gate, MemoryKeeper, MemorySink, MemorySource, Play, Point, ScriptClock, ScriptDice, ScriptLink,
-};
+use sb_outside::{Gate, Point};
 use std::alloc::Global;
 use std::process::Abort;
 use std::sync::Wait;

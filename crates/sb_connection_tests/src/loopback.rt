@@ -1,8 +1,10 @@
 //! Runs of `sblistd serve` at a port of this machine, with the server on a thread of its own.
 use gathering::DoorLimits;
 use gathering_door::GatheringDoor;
+use memory_objects::{MemorySink, MemorySource};
+use real_objects::{TcpLimits, TcpLink};
 use sb_model::{Bytes, Moment, OutOfMemory, Row};
-use sb_outside::{Failed, Kind, Link, MemorySink, MemorySource, TcpLimits, TcpLink};
+use sb_outside::{Failed, Kind, Link};
 use sb_service::run_server;
 use std::alloc::{AllocError, Global};
 use std::process::Abort;

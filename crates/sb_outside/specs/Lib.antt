@@ -2,14 +2,5 @@ pub mod Outside
 pub mod Sessions
 pub mod Keeping
 pub mod Connections
-pub mod Memory
 pub mod Reading
 pub mod Writing
-pub mod Logs
-pub mod Scripts
-pub mod KeptTexts
-pub mod Wires
-pub mod Plays
-pub mod Standard
-pub mod Tcp
-pub mod Tails

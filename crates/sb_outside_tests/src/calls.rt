@@ -1,8 +1,7 @@
 //! The calls of each trait, of whose answers a test knows only what it asserts. So a test is proved quickly.
+use real_objects::Why;
 use sb_model::{Bytes, Moment};
-use sb_outside::{
-    Clock, Dice, Failed, KeepFault, Keeper, Kind, Link, Sink, Source, Why, write_all,
-};
+use sb_outside::{Clock, Dice, Failed, KeepFault, Keeper, Kind, Link, Sink, Source, write_all};
 use std::alloc::Global;
 
 pub(crate) fn read<S: Source>(source: &mut S, buffer: &mut [u8]) -> Result<usize, Failed> {

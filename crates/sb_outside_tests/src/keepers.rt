@@ -1,5 +1,7 @@
 use crate::calls::*;
 use crate::files::*;
+use memory_objects::*;
+use real_objects::*;
 use sb_outside::*;
 use std::fs;
 use std::fs::{File, OpenOptions, Permissions};

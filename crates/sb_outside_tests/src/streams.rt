@@ -1,4 +1,6 @@
 use crate::calls::*;
+use memory_objects::*;
+use real_objects::*;
 use sb_outside::*;
 use std::fs::File;
 use std::io::{ErrorKind, Read, Write};

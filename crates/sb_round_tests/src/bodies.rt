@@ -1,9 +1,9 @@
 //! The responses of the tests, and the objects that a round is made over.
 use http_edge::Target;
+use memory_objects::{Play, ScriptClock, ScriptDice, ScriptLink};
 use sb_model::{
     Bytes, EntryType, ListName, Moment, OutOfMemory, PlatformType, Row, Text, ThreatType,
 };
-use sb_outside::{Play, ScriptClock, ScriptDice, ScriptLink};
 use sb_round::{push_round, run_round};
 use std::alloc::Global;
 use std::test::Fail;

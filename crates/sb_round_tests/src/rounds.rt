@@ -1,6 +1,6 @@
 use crate::bodies::{MALWARE, client_of, installing, link_with, make_round, unreadable};
+use memory_objects::ScriptLink;
 use sb_model::{Moment, Row};
-use sb_outside::ScriptLink;
 use std::test::Fail;
 
 const START: Moment = Moment(1_000_000);

@@ -3,8 +3,8 @@
 
 use gathering::DoorLimits;
 use gathering_door::GatheringDoor;
+use real_objects::{JournalFile, StdSink, StdSource, hold_descriptors};
 use sb_model::{OutOfMemory, Text};
-use sb_outside::{JournalFile, StdSink, StdSource, hold_descriptors};
 use sb_service::{ServerTargets, run_server, server_targets};
 use std::alloc::Global;
 use std::fmt::Display;

@@ -2,12 +2,13 @@
 #![tactic(auto)]
 
 use client_store::{LONGEST_STORE, STORE_MAGIC};
+use real_objects::{
+    FileKeeper, KeptForm, StdSink, StdSource, SystemClock, SystemDice, TcpLimits, TcpLink, Why,
+    hold_descriptors,
+};
 use sb_client::{Targets, run_client, targets};
 use sb_model::{OutOfMemory, Text};
-use sb_outside::{
-    FileKeeper, KeptForm, OpenGate, StdSink, StdSource, SystemClock, SystemDice, TcpLimits,
-    TcpLink, Why, hold_descriptors,
-};
+use sb_outside::OpenGate;
 use std::alloc::Global;
 use std::io::ErrorKind;
 use std::process::ExitCode;

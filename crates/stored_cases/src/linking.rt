@@ -3,8 +3,8 @@ use crate::case_link::CaseLink;
 use case_texts::{CaseFault, Place, Reader, has_server, low_word, sessions};
 use delta_server::Settings;
 use list_versions::History;
+use memory_objects::MemorySource;
 use sb_model::Row;
-use sb_outside::MemorySource;
 
 const SETTINGS: Settings = Settings {
     wait: 1_800,

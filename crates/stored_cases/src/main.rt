@@ -4,8 +4,9 @@
 
 use case_texts::{Book, CaseFault, Sheet};
 use cases::run_book;
+use real_objects::{StdSink, StdSource};
 use sb_model::Bytes;
-use sb_outside::{StdSink, StdSource, read_to_end, write_all};
+use sb_outside::{read_to_end, write_all};
 use std::alloc::Global;
 use std::process::ExitCode;
 use std::sync::Wait;

@@ -1,7 +1,8 @@
 //! Sessions over a link, a clock and dice in memory.
 use http_edge::Target;
+use memory_objects::{Play, ScriptClock, ScriptDice, ScriptLink};
 use sb_model::{Bytes, Duration, Moment, OutOfMemory, Row, Text};
-use sb_outside::{Clock, Kind, Link, Play, ScriptClock, ScriptDice, ScriptLink};
+use sb_outside::{Clock, Kind, Link};
 use std::alloc::Global;
 use std::test::Fail;
 use timed_sessions::{Talk, hold_session, settle};

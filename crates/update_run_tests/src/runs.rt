@@ -1,6 +1,7 @@
 use crate::setting::{CountedDice, CountedGate, clock_of, link_of, plan_of, sink_of};
+use memory_objects::{MemoryKeeper, ScriptDice, ScriptLink};
 use sb_model::{Moment, Row};
-use sb_outside::{MemoryKeeper, OpenGate, ScriptDice, ScriptLink};
+use sb_outside::OpenGate;
 use std::cell::Cell;
 use std::test::Fail;
 use update_run::run;

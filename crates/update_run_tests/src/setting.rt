@@ -3,10 +3,11 @@ ghost use Rattle.std.specs.Prelude.{◌≡◌, None, length, IfOk};
 ghost use Rattle.http_edge.specs.Exchanges.{IsTarget};
 
 use http_edge::Target;
+use memory_objects::{MemorySink, Play, ScriptClock, ScriptLink};
 use sb_model::{
     Bytes, EntryType, ListName, Moment, OutOfMemory, PlatformType, Row, Text, ThreatType,
 };
-use sb_outside::{Dice, Gate, MemorySink, Play, Point, ScriptClock, ScriptLink};
+use sb_outside::{Dice, Gate, Point};
 use std::alloc::Global;
 use std::cell::Cell;
 use update_client::FetchOptions;

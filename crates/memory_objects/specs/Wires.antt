@@ -1,0 +1,42 @@
+-- The wire and the door in memory, as contracts see them.
+use Rattle.std.specs.Prelude.{ℕ, List, [], Option}
+use Rattle.sb_outside.specs.Connections.{pieces_of}
+use Rattle.sb_outside.specs.declared.doors.Connection.{Connection}
+
+-- a wire in memory, which gives some bytes and then the end of input
+pub record WireInMemory : Type 0 where
+  pub number : ℕ
+  -- the bytes that it had to give at first
+  pub sends : List ℕ
+  -- what is left of them: they and the end, or nothing after the end was answered
+  pub left : List (List ℕ)
+  -- the bytes that were written to it, and how many it holds at most
+  pub written : List ℕ
+  pub room : ℕ
+  -- the numbers of the reads and of the writes that fail, each counted from 1
+  pub failing_reads : List ℕ
+  pub failing_writes : List ℕ
+  pub reads : ℕ
+  pub writes : ℕ
+  pub read_faults : ℕ
+  pub write_faults : ℕ
+  -- how many bytes a call gives or takes at most
+  pub step : ℕ
+
+-- the wire as its door hands it out: with its number, and with nothing given, written or counted
+abbrev pub fresh : ℕ → WireInMemory → WireInMemory
+fresh number wire = record wire { number = number; left = pieces_of wire.sends; written = []; reads = 0; writes = 0; read_faults = 0; write_faults = 0 }
+
+-- a door in memory
+pub record DoorInMemory : Type 0 where
+  -- the connections that come
+  pub coming : List WireInMemory
+  pub log : Option (List Connection)
+  -- how many connections it logs at most
+  pub room : ℕ
+  -- the numbers of the calls that fail, counted from 1
+  pub failing : List ℕ
+  -- and of those of `next_before` at which the moment comes first
+  pub late : List ℕ
+  pub calls : ℕ
+  pub faults : ℕ

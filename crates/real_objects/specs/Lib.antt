@@ -1,0 +1,3 @@
+pub mod Standard
+pub mod Tcp
+pub mod Tails

@@ -1,0 +1,25 @@
+//! The outside over the standard library: standard input and output, files, sockets, the system's clock and its random
+//! numbers. They tell nothing of content. Each counts its faults, and says why the last one came.
+#![tactic(auto)]
+
+pub use descriptors::hold_descriptors;
+pub use file_keeper::{FileKeeper, KeptForm};
+pub use journal_file::JournalFile;
+pub use standard::{StdSink, StdSource};
+pub use system_clock::SystemClock;
+pub use system_dice::SystemDice;
+pub use tcp_limits::TcpLimits;
+pub use tcp_link::TcpLink;
+pub use why::Why;
+
+mod descriptors;
+mod file_keeper;
+mod journal_file;
+mod regular_files;
+mod standard;
+mod system_clock;
+mod system_dice;
+mod tcp_calls;
+mod tcp_limits;
+mod tcp_link;
+mod why;
