@@ -1,10 +1,10 @@
 #!/usr/bin/env python3
 """Measures the programs in bin/ on seeded data, and prints the figures.
 
-Each time is the best of a few runs. Processor times are less disturbed by what else runs. What a
-kernel takes is the difference of two of them: that of its run, and that of the run that only makes
-its data. The peak of the memory is the largest resident set, as the system counts it. Where `valgrind`
-is installed, the instructions of the work on URLs are counted too: they do not depend on what else runs.
+Each time is the best of a few runs. Processor times are less disturbed by what else runs. What a part of a command
+takes is the difference of two of them: that of a run with the part, and that of one without it. The peak of the memory is
+the largest resident set, as the system counts it. Where `valgrind` is installed, the instructions of the work on URLs are
+counted too: they do not depend on what else runs.
 """
 
 import argparse
@@ -29,16 +29,13 @@ REPOSITORY = os.path.dirname(os.path.dirname(os.path.abspath(__file__)))
 SBUPDATE = os.path.join(REPOSITORY, "bin", "sbupdate")
 SBCHECK = os.path.join(REPOSITORY, "bin", "sbcheck")
 SBLISTD = os.path.join(REPOSITORY, "bin", "sblistd")
-KERNELS = os.path.join(REPOSITORY, "bin", "kernels")
 
 LIST = "MALWARE/ANY_PLATFORM/URL"
 OTHER_LIST = "SOCIAL_ENGINEERING/ANY_PLATFORM/URL"
 SEED = 20240229
 MANY_PREFIXES = 1_048_576
 MANY_LINES = 1_000
-RICE_VALUES = 1_048_576
 SET_CHANGES = 4_000
-SET_LOOK_UPS = 1_000_000
 JOURNAL_CHANGES = 65_536
 LONG_CHANGES = 2_048
 LONG_HASHES = 1_024
@@ -46,10 +43,8 @@ GENERATED = 65_536
 JUDGED_URLS = 60_000
 JUDGED_HITS = 2_000
 SERVED_CHANGES = 1_023
-CACHE_ANSWERS = 1_000_000
-FOUND_HASHES = 1_048_576
-FOUND_PREFIXES = 1_048_576
-USUAL_URLS = 100_000
+KEPT_URLS = 60_000
+USUAL_URLS = 50_000
 HOSTILE_URLS = 2_000
 HOSTILE_BYTES = 8_192
 COUNTED_URLS = 200
@@ -193,16 +188,17 @@ def bench_replay(title, path, runs):
         tell(f"yardstick, sorted as {name}", f"{wanted * 1e3:.1f} ms", ratio)
 
 
-def processor_times(kernels, count, runs):
-    """The processor time of each kernel.
+def least(words, path, runs, wanted=0):
+    """The least processor time of a program on an input."""
+    return min(run(words, path, wanted)[1] for _ in range(runs))
 
-    They take turns, so that what else runs disturbs them alike.
-    """
-    best = [float("inf")] * len(kernels)
+
+def least_in_turn(pairs, runs):
+    """The least processor time of each of some programs on their inputs. They take turns, so that what else runs disturbs them alike."""
+    best = [float("inf")] * len(pairs)
     for _ in range(runs):
-        for place, kernel in enumerate(kernels):
-            _, took = run([KERNELS, kernel, str(count), "1"])
-            best[place] = min(best[place], took)
+        for place, (words, path) in enumerate(pairs):
+            best[place] = min(best[place], run(words, path)[1])
     return best
 
 
@@ -224,12 +220,12 @@ def write_journal(path, lists, changes, hashes):
                 print(line, file=journal)
 
 
-def write_request(path, version, max_update):
-    """A fetch request of one who holds a version, or nothing, and takes Rice coded sets."""
+def write_request(path, version, max_update, codings=("RAW", "RICE")):
+    """A fetch request of one who holds a version, or nothing, and takes sets of these codings."""
     item = {"threatType": "MALWARE", "threatEntryType": "URL", "platformType": "ANY_PLATFORM"}
     if version is not None:
         item["state"] = text_of(bytes([1]) + (1).to_bytes(8, "big") + version.to_bytes(8, "big") + bytes([1, 6, 1]))
-    item["constraints"] = {"maxUpdateEntries": max_update, "supportedCompressions": ["RAW", "RICE"]}
+    item["constraints"] = {"maxUpdateEntries": max_update, "supportedCompressions": list(codings)}
     with open(path, "w", encoding="ascii") as request:
         json.dump({"listUpdateRequests": [item]}, request)
 
@@ -288,6 +284,7 @@ def write_judged(folder):
     store = b"SBST\x02\x01" + bytes([1, 6, 1, 0, 0, 1, 1]) + len(members).to_bytes(4, "big") + b"".join(b"\x04" + one for one in members)
     hosts = dict.fromkeys(host for host in generated_hosts(0) if hashlib.sha256(host + b"/").digest() in hashes)
     with_hits = [b"http://%s/p%d\n" % (host, place) for place, host in enumerate(list(hosts)[:JUDGED_HITS])]
+    kept = [b"http://%s/p%d\n" % (list(hosts)[0], place) for place in range(KEPT_URLS)]
     listed, without, place = set(members), [], 0
     while len(without) < JUDGED_URLS:
         place += 1
@@ -295,7 +292,8 @@ def write_judged(folder):
         expressions = [host + end for host in (b"www.n%d.example" % place, b"n%d.example" % place) for end in ends]
         if all(hashlib.sha256(one).digest()[:4] not in listed for one in expressions):
             without.append(b"http://%s\n" % expressions[0])
-    texts = {"journal": journal, "store": store + hashlib.sha256(store).digest(), "without": b"".join(without), "with": b"".join(with_hits)}
+    texts = {"journal": journal, "store": store + hashlib.sha256(store).digest(), "without": b"".join(without)}
+    texts |= {"with": b"".join(with_hits), "kept": b"".join(kept)}
     for name, text in texts.items():
         with open(os.path.join(folder, name), "wb") as file:
             file.write(text)
@@ -323,8 +321,10 @@ def bench_judged(folder, runs):
     with subprocess.Popen([SBLISTD, "serve", *served], stdout=subprocess.DEVNULL) as server:
         time.sleep(1)
         took = run(words, with_hits, 20)[1]
+        kept = run(words, os.path.join(folder, "kept"), 20)[1]
         server.kill()
     tell(f"{JUDGED_HITS:,} URLs with a find each", f"{took * 1e3:.1f} ms", f"{took / JUDGED_HITS * 1e6:.1f} µs a URL")
+    tell(f"{KEPT_URLS:,} URLs by one kept answer", f"{kept * 1e3:.1f} ms", f"{kept / KEPT_URLS * 1e6:.2f} µs a URL")
 
 
 def ask(port, request):
@@ -398,94 +398,122 @@ def bench_serve(folder):
         time_connections(name, journal, "/v4/fullHashes:find", [find_body(journal, count)], 2, 502)
 
 
-def bench_rice(runs):
-    kernels = ("rice-values", "rice-encode", "rice-decode")
-    values, encode, decode = processor_times(kernels, RICE_VALUES, runs)
-    print(f"Rice coding, {RICE_VALUES:,} values")
-    for name, took in (("encode", encode - values), ("decode", decode - encode)):
-        tell(name, f"{took * 1e3:.1f} ms", f"{took / RICE_VALUES * 1e9:.2f} ns a value")
+def write_sets(folder):
+    """Recordings of one full update: its prefixes in order, in no order, and in order with a partial update behind it, which takes
+    some out and puts as many in."""
+    numbers = random.Random(SEED)
+    prefixes = random_prefixes(numbers, MANY_PREFIXES)
+    rising = sorted(prefixes)
+    full = full_update(rising, b"\x01")
+    half = SET_CHANGES // 2
+    gone = sorted(numbers.sample(range(MANY_PREFIXES), half))
+    members = set(rising)
+    come = [it for it in random_prefixes(numbers, 2 * half) if it not in members][:half]
+    out = set(gone)
+    after = sorted([it for at, it in enumerate(rising) if at not in out] + come)
+    partial = json.loads(full_update(come, b"\x02"))
+    update = partial["listUpdateResponses"][0]
+    update["responseType"] = "PARTIAL_UPDATE"
+    update["removals"] = [{"compressionType": "RAW", "rawIndices": {"indices": gone}}]
+    update["checksum"] = {"sha256": text_of(hashlib.sha256(b"".join(after)).digest())}
+    change = json.dumps(partial, separators=(",", ":"))
+    for name, lines in (("rising", [full]), ("shuffled", [full_update(prefixes, b"\x01")]), ("changed", [full, change])):
+        with open(os.path.join(folder, name), "w", encoding="ascii") as recording:
+            recording.writelines(f"{line}\n" for line in lines)
 
 
-def bench_messages(title, prefix, runs):
-    """Reading and writing a fetch response, beside what base64 and serde_json alone take."""
-    names = ("message", "write", "write-alone", "read", "read-alone")
-    kernels = [prefix + name for name in names]
-    times = dict(zip(names, processor_times(kernels, MANY_PREFIXES, runs)))
-    write, write_alone = times["write"] - times["message"], times["write-alone"] - times["message"]
-    read, read_alone = times["read"] - times["write"], times["read-alone"] - times["write"]
-    print(f"a fetch response of {MANY_PREFIXES:,} {title}")
-    for name, took, alone in (("written", write, write_alone), ("read", read, read_alone)):
-        remark = f"{took / MANY_PREFIXES * 1e9:.2f} ns a prefix, {took / alone:.2f} times base64 and serde_json"
-        tell(name, f"{took * 1e3:.1f} ms", remark)
-
-
-def bench_sets(runs):
-    kernels = ("set-rising", "set-shuffled", "set-of-rising", "set-of-shuffled")
-    kernels += ("set-change", "set-look-up")
-    times = dict(zip(kernels, processor_times(kernels, MANY_PREFIXES, runs)))
-    made = times["set-of-rising"]
-    rising = made - times["set-rising"]
-    shuffled = times["set-of-shuffled"] - times["set-shuffled"]
-    change = times["set-change"] - made
-    look_ups = times["set-look-up"] - made
-    print(f"sets of {MANY_PREFIXES:,} prefixes of four bytes")
+def bench_sets(folder, runs):
+    """What a replay takes for a set whose prefixes come in order, and in none, and for a change of a set."""
+    in_child(write_sets, folder)
+    words = [SBUPDATE, "replay", LIST]
+    names = ("rising", "shuffled", "changed")
+    rising, shuffled, changed = least_in_turn([(words, os.path.join(folder, name)) for name in names], runs)
+    print(f"sbupdate replay, sets of {MANY_PREFIXES:,} prefixes of four bytes, with reading and printing")
     for name, took in (("made of sorted prefixes", rising), ("made of shuffled prefixes", shuffled)):
         tell(name, f"{took * 1e3:.1f} ms", f"{took / MANY_PREFIXES * 1e9:.2f} ns a prefix")
-    remark = f"{change / MANY_PREFIXES * 1e9:.2f} ns a member, {change / SET_CHANGES * 1e9:,.0f} ns a change"
-    tell(f"merge of {SET_CHANGES:,} changes", f"{change * 1e3:.1f} ms", remark)
-    tell(f"{SET_LOOK_UPS:,} look-ups", f"{look_ups * 1e3:.1f} ms", f"{look_ups / SET_LOOK_UPS * 1e9:.2f} ns a look-up")
+    merge = changed - rising
+    tell(f"a change of {SET_CHANGES:,} behind it", f"{merge * 1e3:.1f} ms", f"{merge / MANY_PREFIXES * 1e9:.2f} ns a member")
 
 
-def bench_cache(runs):
-    """Questions to a full cache. Each pair has two matches, and is asked for one of them and for another hash in turn."""
-    hashes, ask = processor_times(("cache-hashes", "cache-ask"), CACHE_ANSWERS, runs)
-    print("kept answers, 4,096 pairs with two matches each")
-    took = ask - hashes
-    tell(f"{CACHE_ANSWERS:,} answers", f"{took * 1e3:.1f} ms", f"{took / CACHE_ANSWERS * 1e9:.0f} ns an answer")
+def bench_messages(folder, runs):
+    """What an answer of a whole set takes, beside one to who has it, and a replay of that answer: raw and Rice coded."""
+    journal = os.path.join(folder, "journal")
+    in_child(write_journal, journal, [LIST], SERVED_CHANGES, LONG_HASHES)
+    answer, replay = [SBLISTD, "answer", "--journal", journal, "--kind", "fetch"], [SBUPDATE, "replay", LIST]
+    print(f"sblistd answer and sbupdate replay, a list of about {SERVED_CHANGES * LONG_HASHES:,} prefixes")
+    newest = os.path.join(folder, "newest")
+    write_request(newest, SERVED_CHANGES, 0)
+    for name, codings in (("as they are", ["RAW"]), ("Rice coded", ["RAW", "RICE"])):
+        request, response = os.path.join(folder, "request"), os.path.join(folder, "response")
+        write_request(request, None, 0, codings)
+        with open(request, "rb") as given, open(response, "wb") as out:
+            subprocess.run(answer, stdin=given, stdout=out, check=True)
+        whole, none = least_in_turn([(answer, request), (answer, newest)], runs)
+        read = least(replay, response, runs)
+        tell(f"{name}: the set, coded and written", f"{(whole - none) * 1e3:.1f} ms", f"{os.path.getsize(response):,} bytes")
+        tell(f"{name}: a replay of it", f"{read * 1e3:.1f} ms", "with the set that it makes and prints")
 
 
-def bench_finds(runs):
-    """Finds by themselves, without journal, JSON and sockets: of every second prefix the list has a full hash."""
-    counts = (1, 30, 1_024)
-    kernels = ["find-list"] + [f"find-{count}" for count in counts]
-    made, *times = processor_times(kernels, FOUND_HASHES, runs)
-    print(f"finds over a list of {FOUND_HASHES:,} full hashes")
-    for count, found in zip(counts, times):
-        finds, took = FOUND_PREFIXES // count, found - made
-        name = f"{finds:,} of a prefix" if count == 1 else f"{finds:,} of {count:,} prefixes"
-        tell(name, f"{took * 1e3:.1f} ms", f"{took / finds * 1e6:.1f} µs a find, {took / finds / count * 1e6:.2f} µs a prefix")
-
-
-def instructions_of(words):
-    """How many instructions a program takes, as callgrind counts them. They hang on nothing else that runs."""
+def instructions_of(words, path):
+    """How many instructions a program takes on an input, as callgrind counts them. They hang on nothing else that runs."""
     counted = ["valgrind", "--tool=callgrind", "--callgrind-out-file=/dev/null", *words]
-    ran = subprocess.run(counted, stdout=subprocess.DEVNULL, stderr=subprocess.PIPE, check=True, text=True, errors="replace")
+    with open(path, "rb") as given:
+        ran = subprocess.run(counted, stdin=given, stdout=subprocess.DEVNULL, stderr=subprocess.PIPE, check=True, text=True, errors="replace")
     return int(re.search(r"Collected : (\d+)", ran.stderr)[1])
 
 
-def bench_urls(title, prefix, count, runs):
-    """Canonical forms, and these with the expressions of each: both beside the run that only makes the URLs, since what the
-    expressions take by themselves is less than what the time of a run varies by. The instructions tell them apart."""
-    kernels = [prefix + kernel for kernel in ("urls", "canonical", "expressions")]
-    texts, canonical, both = processor_times(kernels, count, runs)
-    print(f"{count:,} {title}")
-    for name, took in (("canonical", canonical - texts), ("canonical, and their expressions", both - texts)):
-        tell(name, f"{took * 1e3:.1f} ms", f"{took / count * 1e6:.2f} µs a URL")
-    if shutil.which("valgrind") is None:
-        return
-    texts, canonical, both = (instructions_of([KERNELS, it, str(COUNTED_URLS), "1"]) for it in kernels)
-    for name, counted in (("instructions of canonical forms", canonical - texts), ("instructions of expressions", both - canonical)):
-        tell(name, f"{counted / 1e6:.2f} million", f"{counted / COUNTED_URLS:,.0f} a URL, of {COUNTED_URLS}")
+FRONTS = ["http://"] * 3 + ["https://"] * 3 + ["HTTP://user@", "https://user:secret@"]
+LABELS = ["www", "mail", "Shop", "news-archive", "cdn7", "static", "Example", "a"]
+LAST_LABELS = ["com", "org", "NET", "example"]
+COMPONENTS = ["index.html", "images", "Some%20page", "100%25", "2024", "..", "long-name-of-an-article", "download.php"]
+TAILS = ["?id=12345&page=2", "?q=two%20words", "#top"] + [""] * 5
+
+
+def usual_url(numbers):
+    """A URL such as pages have."""
+    host = ".".join([numbers.choice(LABELS) for _ in range(numbers.randint(1, 4))] + [numbers.choice(LAST_LABELS)])
+    port = ":8080" if numbers.randrange(8) == 0 else ""
+    path = "".join("/" + numbers.choice(COMPONENTS) for _ in range(numbers.randint(1, 5)))
+    return numbers.choice(FRONTS) + host + port + path + numbers.choice(TAILS)
+
+
+def hostile_url(numbers):
+    """A URL of the most bytes that one may have, which is long to work on: an escape that is one again as often as it is unescaped,
+    escapes in a row, or components that are to be taken away, or empty."""
+    front = "http://a.b.c/"
+    rest = HOSTILE_BYTES - len(front)
+    texts = ("%" + "25" * rest, "%25" * rest, "../" * rest, "/" * rest)
+    return front + numbers.choice(texts)[:rest]
+
+
+def write_urls(path, make, count):
+    numbers = random.Random(SEED + 4)
+    with open(path, "w", encoding="ascii") as file:
+        file.writelines(f"{make(numbers)}\n" for _ in range(count))
+
+
+def bench_urls(folder, title, make, count, runs):
+    """What is shown of URLs: their canonical forms, and the hashes of their expressions."""
+    path, few, none = (os.path.join(folder, name) for name in ("urls", "few", "none"))
+    write_urls(path, make, count)
+    write_urls(few, make, COUNTED_URLS)
+    write_urls(none, make, 0)
+    words = [SBCHECK, "show"]
+    shown, empty = least_in_turn([(words, path), (words, none)], runs)
+    print(f"sbcheck show, {count:,} {title}")
+    tell("shown", f"{(shown - empty) * 1e3:.1f} ms", f"{(shown - empty) / count * 1e6:.2f} µs a URL")
+    if shutil.which("valgrind") is not None:
+        counted = instructions_of(words, few) - instructions_of(words, none)
+        tell("instructions", f"{counted / 1e6:.2f} million", f"{counted / COUNTED_URLS:,.0f} a URL, of {COUNTED_URLS}")
 
 
 def main():
     words = argparse.ArgumentParser(description="Measures the programs in bin/.")
     words.add_argument("--runs", type=int, default=3, help="the runs of a replay")
-    words.add_argument("--kernel-runs", type=int, default=15, help="the runs of a kernel")
-    words.add_argument("--find-runs", type=int, default=5, help="the runs of a kernel of finds, each of which makes a list first")
+    words.add_argument("--part-runs", type=int, default=9, help="the runs of what is a difference of two")
     words = words.parse_args()
     python = platform.python_version()
-    print(f"Best of {words.runs} runs of a replay and {words.kernel_runs} of a kernel. All but the")
+    print(f"Best of {words.runs} runs, and of {words.part_runs} where two are compared. All but the")
     print(f"wall times are processor times. The yardstick is Python {python}, without its")
     print("start: it reads the same bodies, sorts their prefixes and compares the checksums, and")
     print("prints nothing. Its json, base64, sort and SHA-256 are C code.")
@@ -499,15 +527,10 @@ def main():
         bench_generated(words.runs)
         bench_judged(folder, words.runs)
         bench_serve(folder)
-    bench_sets(words.kernel_runs)
-    bench_cache(words.kernel_runs)
-    bench_finds(words.find_runs)
-    bench_rice(words.kernel_runs)
-    bench_messages("prefixes as they are", "raw-", words.kernel_runs)
-    bench_messages("Rice coded prefixes", "rice-", words.kernel_runs)
-    bench_urls("URLs such as pages have", "", USUAL_URLS, words.kernel_runs)
-    hostile = f"hostile URLs of {HOSTILE_BYTES:,} bytes"
-    bench_urls(hostile, "hostile-", HOSTILE_URLS, words.kernel_runs)
+        bench_sets(folder, words.part_runs)
+        bench_messages(folder, words.part_runs)
+        bench_urls(folder, "URLs such as pages have", usual_url, USUAL_URLS, words.part_runs)
+        bench_urls(folder, f"hostile URLs of {HOSTILE_BYTES:,} bytes", hostile_url, HOSTILE_URLS, words.part_runs)
 
 
 if __name__ == "__main__":

@@ -2,9 +2,9 @@
 """Measures judging on several threads, and looks at publications, with the programs in bin/.
 
 60,000 URLs of which no prefix is listed are judged by a store of 1,048,576 prefixes, with so many workers in turn: the wall
-time and the processor time of each, the median of some runs in turn. Then `publication_kernels` checks as
-many URLs of its own, which tells the time of the checks alone, and looks at publications of these lists: the mean of many
-looks, and the longest of a million, alone and while another thread publishes sixteen copies of the lists.
+time and the processor time of each, the median of some runs in turn, and the wall time beside a run without URLs, which is
+that of the checks and of their report. Then `publication_looks` looks at publications of these lists: the mean of many looks,
+and the longest of a million, alone and while another thread publishes sixteen copies of the lists.
 
     workers.py [--runs N] [--workers N,N,..]
 """
@@ -20,7 +20,7 @@ import time
 
 REPOSITORY = os.path.dirname(os.path.dirname(os.path.abspath(__file__)))
 SBCHECK = os.path.join(REPOSITORY, "bin", "sbcheck")
-KERNELS = os.path.join(REPOSITORY, "bin", "publication_kernels")
+LOOKER = os.path.join(REPOSITORY, "bin", "publication_looks")
 LIST = "MALWARE/ANY_PLATFORM/URL"
 PREFIXES = 1_048_576
 URLS = 60_000
@@ -74,10 +74,10 @@ def run(words, path):
         return took, used.ru_utime + used.ru_stime, out.read()
 
 
-def kernel(name, count, workers, store):
-    """What a kernel told of its time, in seconds."""
+def look_time(name, count, store):
+    """What a series of looks told of its time, in seconds."""
     with open(store, "rb") as given:
-        ran = subprocess.run([KERNELS, name, str(count), str(workers)], stdin=given, capture_output=True, check=True)
+        ran = subprocess.run([LOOKER, name, str(count)], stdin=given, capture_output=True, check=True)
     return int(re.fullmatch(rb"(\d+) ns\n", ran.stderr)[1]) / 1e9
 
 
@@ -91,12 +91,12 @@ def judge(folder, counts, runs):
         for count in counts:
             wall, processor, text = run([*words, "--workers", str(count), LIST], urls)
             took[count].append((wall, processor))
-            checks[count].append(kernel("checks", URLS, count, store))
+            checks[count].append(wall - run([*words, "--workers", str(count), LIST], os.devnull)[0])
             texts.add(text)
     if len(texts) != 1:
         raise SystemExit("the reports differ")
     one = [statistics.median(values) for values in zip(*took[counts[0]])], statistics.median(checks[counts[0]])
-    print("| Workers | Processor time | Ratio | Wall time | Checks alone, wall time | Ratio |")
+    print("| Workers | Processor time | Ratio | Wall time | Without the start, wall time | Ratio |")
     print("|---|---|---|---|---|---|")
     for count in counts:
         wall, processor = (statistics.median(values) for values in zip(*took[count]))
@@ -107,12 +107,12 @@ def judge(folder, counts, runs):
 
 def look(folder, runs):
     store = os.path.join(folder, "store")
-    mean = statistics.median(kernel("looks", LOOKS, 1, store) for _ in range(runs)) / LOOKS
+    mean = statistics.median(look_time("looks", LOOKS, store) for _ in range(runs)) / LOOKS
     print(f"a look: {mean * 1e9:.1f} ns, the mean of {LOOKS:,}")
     alone, beside = [], []
     for _ in range(PAIRS):
-        alone.append(kernel("longest-look", TIMED_LOOKS, 1, store))
-        beside.append(kernel("looks-beside", TIMED_LOOKS, 1, store))
+        alone.append(look_time("longest-look", TIMED_LOOKS, store))
+        beside.append(look_time("looks-beside", TIMED_LOOKS, store))
     for name, values in (("alone", alone), ("beside 16 publications", beside)):
         every = ", ".join(f"{value * 1e6:.1f}" for value in values)
         print(f"the longest of {TIMED_LOOKS:,} looks {name}: {statistics.median(values) * 1e6:.1f} µs in the middle of {every}")

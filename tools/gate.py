@@ -1,14 +1,23 @@
 #!/usr/bin/env python3
-"""Runs the gate, `rt ci`, and says what each crate cost of it.
+"""Runs the gate, `rt ci`, and says what each crate cost of it, or says what each function of a crate costs.
 
-`rt ci` prints no times. This looks at its processes twice a second, and adds up what each has taken of the processors, by
-crate and by what it did: the proof of the crate, that of its tests, and its wrong bodies. What lies between the last look at
+    gate.py [WORD..]
+    gate.py functions NAME [--test] [--above SECONDS]
+
+`rt ci` prints no times. The first form looks at its processes twice a second, and adds up what each has taken of the processors,
+by crate and by what it did: the proof of the crate, that of its tests, and its wrong bodies. What lies between the last look at
 a process and its end is lost, so the sums are a little low; the last line has what the system counted for all.
 Words are handed on to `rt ci`. The status is that of `rt ci`.
+
+The second form proves one crate from nothing, or its tests, over the libraries that were built last below `crates/*/out`, and prints
+the seconds of processor time between each function's end and the one before, the dearest first. What was taken before the
+first one ended is the price of loading, with the first function in it.
 """
 
 import os
+import re
 import resource
+import shutil
 import subprocess
 import sys
 import threading
@@ -105,7 +114,104 @@ def table(rows):
     return "\n".join(lines)
 
 
+def libraries():
+    """What each crate of the repository stands on, as crates.txt has it."""
+    uses = {}
+    with open(os.path.join(REPOSITORY, "crates.txt"), encoding="utf-8") as file:
+        for line in file:
+            name, colon, rest = line.partition(":")
+            if colon and not line.startswith("#"):
+                uses[name.split()[0]] = rest.split()
+    return uses
+
+
+def built(name):
+    return os.path.join(REPOSITORY, "crates", name, "out", "rlib")
+
+
+def words_of_check(name, is_test):
+    """The words of the prover for one crate, as `rt` gives them, with a line for each function."""
+    kit = os.path.dirname(os.path.dirname(os.path.realpath(shutil.which("rt"))))
+    uses, below = libraries(), []
+    new = [name]
+    while new:
+        new = [it for one in new for it in uses[one] if it in uses and it not in below]
+        below += dict.fromkeys(new)
+    folder = os.path.join(REPOSITORY, "crates", name)
+    root = "src/main.rt" if os.path.isfile(os.path.join(folder, "src", "main.rt")) else "src/lib.rt"
+    words = [os.path.join(kit, "bin", "rattle"), "check", "--crate-name", name, root]
+    for it in ["std", *(it for it in uses[name] if it not in uses)]:
+        words += ["--extern", f"{it}={kit}/rlibs/{it}.rlib"]
+    words += ["-L", f"dependency={kit}/rlibs"]
+    for it in uses[name]:
+        words += ["--extern", f"{it}={built(it)}/{it}.rlib"] if it in uses else []
+    for it in below:
+        words += ["-L", f"dependency={built(it)}"]
+    words += ["--antt-project", f"{kit}/rattle/logic/antt-project.json", "--logic-built", f"{kit}/logic_built"]
+    words += ["--jobs", "1", "--progress", "--links", f"{name}=", *["--test"] * is_test]
+    return words, folder, [it for it in below if not os.path.isdir(built(it))]
+
+
+def taken_by(pid):
+    """The seconds of processor time of a process, with those of its ended children."""
+    with open(f"/proc/{pid}/stat", encoding="utf-8", errors="replace") as file:
+        words = file.read().rpartition(")")[2].split()
+    return sum(map(int, words[11:15])) / TICKS
+
+
+def time_functions(words, folder):
+    """Runs the prover: the seconds of each function, those before the first ended, its last line, and its status."""
+    rows, before, last = [], None, ""
+    given = {"cwd": folder, "stdout": subprocess.PIPE, "stderr": subprocess.STDOUT, "text": True, "errors": "replace"}
+    with subprocess.Popen(words, **given) as ran:
+        for line in ran.stdout:
+            found = re.match(r"checked (\S+), \d+ of \d+", line)
+            last = line.rstrip() or last
+            if found:
+                now = taken_by(ran.pid)
+                rows.append((now - (before or 0.0), found[1]))
+                before = now
+            elif ": error" in line or line.startswith("error"):
+                print(line.rstrip())
+    return rows, last, ran.returncode
+
+
+def functions(name, is_test, above):
+    if name not in libraries():
+        print(f"{name} is no crate of crates.txt", file=sys.stderr)
+        return 2
+    words, folder, missing = words_of_check(name, is_test)
+    if missing:
+        print(f"these were not built: {', '.join(missing)}", file=sys.stderr)
+        return 2
+    rows, last, status = time_functions(words, folder)
+    first = rows[0] if rows else (0.0, "")
+    print(f"{first[0]:7.1f} loading, and {first[1]}")
+    for seconds, function in sorted(rows[1:], reverse=True):
+        if seconds >= above:
+            print(f"{seconds:7.1f} {function}")
+    print(f"{sum(seconds for seconds, _ in rows):7.1f} in all, {len(rows)} functions")
+    print(last)
+    return status
+
+
+def read_functions(words):
+    """The words behind `functions`: a crate, and whether its tests are meant, and from how many seconds on a function is told."""
+    above = 0.5
+    if "--above" in words[:-1]:
+        at = words.index("--above")
+        above = float(words[at + 1])
+        words = words[:at] + words[at + 2 :]
+    names = [it for it in words if it != "--test"]
+    if len(names) != 1:
+        print(__doc__, file=sys.stderr)
+        return 2
+    return functions(names[0], "--test" in words, above)
+
+
 def main(words):
+    if words[:1] == ["functions"]:
+        return read_functions(words[1:])
     began = time.monotonic()
     gate = subprocess.Popen(["rt", "ci", *words], cwd=REPOSITORY)
     costs, is_over = Costs(gate.pid), threading.Event()

@@ -6,7 +6,8 @@ they stand, they are kept as `must-fail/NAME.edit.md`, which the gate leaves alo
 the prover refused, and over which files.
 
     wrong_bodies.py check          fails where a crate is not as its tried.md says, has no wrong body at all, or has one whose
-                                   text does not stand once where it says
+                                   text does not stand once where it says; of the crates of the two top calls also where a
+                                   definition below them changed since, which it only notes of the others
     wrong_bodies.py try [NAME..]   names the kept ones back in a copy of the tree, tries them there, and writes tried.md
                                    where each was refused; without names those of every crate that keeps some
     wrong_bodies.py open NAME..    names the kept ones back, since the crate's contracts are to be changed
@@ -27,6 +28,8 @@ WITHOUT = os.path.join(REPOSITORY, "tools", "without_wrong_bodies.txt")
 TRIED = "tried.md"
 KEPT = ".edit.md"
 OPEN = ".edit"
+# The crates of the two top calls: their clauses cite definitions of all crates below.
+TOPS = ("sb_client", "sb_service")
 
 
 def stop(why):
@@ -166,7 +169,8 @@ def faults_of(name, uses, without):
     if own != own_sum(name, uses):
         return ["changed since its wrong bodies were tried: `make wrong-bodies NAMES=%s`" % name], []
     if specs != specs_sum(name, uses):
-        return [], ["stands on definitions that changed since its wrong bodies were tried"]
+        told = ["stands on definitions that changed since its wrong bodies were tried"]
+        return (told, []) if name in TOPS else ([], told)
     return [], []
 
 

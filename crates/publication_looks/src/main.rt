@@ -1,5 +1,5 @@
-//! Runs one kernel of publications and of checks on several threads, and prints what it came to. How long it took it tells on standard error,
-//! since that differs from run to run.
+//! Looks at publications from one seat, and prints the number of the last that was seen. How long the looks took it tells on
+//! standard error, since that differs from run to run.
 //!
 //! The lists are those of the store on standard input, or one empty list where that is no store.
 #![tactic(auto)]
@@ -16,14 +16,12 @@ use std::time::{Clock, Duration};
 use std::{env, io};
 use update_client::ClientLists;
 
-mod checks;
 mod looks;
 
-const USAGE: &str = "usage: publication_kernels KERNEL COUNT WORKERS
+const USAGE: &str = "usage: publication_looks LOOKS COUNT
   looks            looks COUNT times from one seat, and tells how long all took
   longest-look     the same, and tells the longest
-  looks-beside     the same, beside 16 publications of copies of the lists
-  checks           checks COUNT URLs with so many workers";
+  looks-beside     the same, beside 16 publications of copies of the lists";
 
 // How many bytes a store may have.
 const LIMIT: usize = 134_217_728;
@@ -49,23 +47,19 @@ fn given_lists(rt: &HostRuntime) -> Option<ClientLists> {
     lists_of(alloc, text.as_slice())
 }
 
-// What a kernel came to, the number of the last publication that was seen or how many hits there are, and how long it took.
+// What the looks came to: the number of the last publication that was seen, or of the last that was made beside them, and how
+// long they took.
 fn run<R: Threads + Wait + Clock + Sync>(
     rt: &R,
     alloc: Global,
     lists: ClientLists,
-    kernel: &str,
+    kind: &str,
     count: u32,
-    workers: u32,
 ) -> Option<(u64, Duration)> {
-    if workers < 1 || workers > 16 {
-        return None;
-    }
-    match kernel {
+    match kind {
         "looks" => looks::look(rt, alloc, lists, count),
         "longest-look" => looks::look_beside(rt, alloc, lists, count, 0),
         "looks-beside" => looks::look_beside(rt, alloc, lists, count, 16),
-        "checks" => checks::check(rt, alloc, lists, count, workers),
         _ => None,
     }
 }
@@ -73,21 +67,20 @@ fn run<R: Threads + Wait + Clock + Sync>(
 fn main(rt: HostRuntime) -> io::Result<ExitCode> {
     let mut words = env::args(&rt)?;
     let _program = words.next();
-    let (Some(kernel), Some(count), Some(workers)) = (words.next(), words.next(), words.next())
-    else {
+    let (Some(kind), Some(count)) = (words.next(), words.next()) else {
         println!(rt; "{}", USAGE)?;
         return Ok(ExitCode::SUCCESS);
     };
-    let (Ok(count), Ok(workers)) = (count.parse::<u32>(), workers.parse::<u32>()) else {
+    let Ok(count) = count.parse::<u32>() else {
         return Ok(ExitCode::FAILURE);
     };
     let Some(lists) = given_lists(&rt) else {
         return Ok(ExitCode::FAILURE);
     };
-    match run(&rt, rt.alloc(), lists, kernel.as_str(), count, workers) {
-        Some((sum, took)) => {
+    match run(&rt, rt.alloc(), lists, kind.as_str(), count) {
+        Some((last, took)) => {
             eprintln!(rt; "{} ns", took.as_nanos())?;
-            println!(rt; "{kernel} {count} {workers}: {sum}")?;
+            println!(rt; "{kind} {count}: {last}")?;
             Ok(ExitCode::SUCCESS)
         }
         None => Ok(ExitCode::FAILURE),
