@@ -1,0 +1,177 @@
+use crate::numbered::{BAD, GOOD, PIECE, answer_tag, fill_piece, piece_of};
+use crate::seen::{Seen, Turn, look};
+use gathering::{DoorLimits, GatheredWire};
+use gathering_door::GatheringDoor;
+use real_objects::SystemClock;
+use sb_model::Moment;
+use sb_outside::{Arrival, Clock, Door, write_all};
+use std::net::SocketAddr;
+
+/// A wire that was handed out and has no answer yet.
+#[derive(Drop)]
+struct Held {
+    wire: GatheredWire,
+    seen: Seen,
+}
+
+/// The door, what it handed out last, and the wires that wait for their answers.
+#[derive(Drop)]
+pub(crate) struct Gate<'a> {
+    rt: &'a HostRuntime,
+    door: Option<GatheringDoor<&'a HostRuntime>>,
+    pub(crate) seen: Seen,
+    held: Vec<Held>,
+}
+
+/// Writes the bytes of a tag, so many.
+fn write_numbered(wire: &mut GatheredWire, tag: u8, length: u64) -> bool {
+    let mut piece = [0; PIECE];
+    let mut written = 0u64;
+    for _ in 0..length {
+        let count = piece_of(length.saturating_sub(written));
+        if count == 0 {
+            break;
+        }
+        fill_piece(&mut piece[..count], tag, written);
+        if write_all(wire, &piece[..count]).is_err() {
+            return false;
+        }
+        written = written.saturating_add(count as u64);
+    }
+    true
+}
+
+/// Answers what was handed out with so many bytes.
+fn respond(wire: &mut GatheredWire, seen: Seen, length: u64) -> Turn {
+    match seen.turn {
+        Turn::Taken => {
+            if write_all(wire, GOOD).is_ok()
+                && write_numbered(wire, answer_tag(seen.number), length)
+            {
+                Turn::Answered
+            } else {
+                Turn::Failed
+            }
+        }
+        Turn::Refused if write_all(wire, BAD).is_err() => Turn::Failed,
+        other => other,
+    }
+}
+
+/// What the system's clock says.
+pub(crate) fn now(rt: &HostRuntime) -> u64 {
+    SystemClock::new(rt).now().0
+}
+
+impl<'a> Gate<'a> {
+    /// No door.
+    pub(crate) fn new(rt: &'a HostRuntime) -> Gate<'a> {
+        Gate {
+            rt,
+            door: None,
+            seen: Seen::of(Turn::Nobody),
+            held: Vec::new(rt.alloc()),
+        }
+    }
+
+    /// Makes a door in the place of the one that is there. It says whether it is usable.
+    pub(crate) fn open(&mut self, address: &str, limits: DoorLimits) -> bool {
+        self.held.clear();
+        let door = GatheringDoor::bind(self.rt, self.rt.alloc(), address, limits);
+        let is_usable = door.is_usable();
+        self.door = Some(door);
+        is_usable
+    }
+
+    pub(crate) fn address(&self) -> Option<SocketAddr> {
+        self.door.as_ref()?.local_addr()
+    }
+
+    /// Ends the door.
+    pub(crate) fn finish(&mut self) {
+        if let Some(door) = self.door.take() {
+            door.finish();
+        }
+    }
+
+    /// What the door hands out before a moment, or at all where there is none.
+    fn arrive(&mut self, moment: Option<u64>) -> Result<Option<GatheredWire>, Turn> {
+        let Some(door) = &mut self.door else {
+            return Err(Turn::Failed);
+        };
+        let arrival = match moment {
+            Some(moment) => door.next_before(Moment(moment)),
+            None => return door.next().map_err(|_| Turn::Failed),
+        };
+        match arrival {
+            Ok(Arrival::Connected(wire)) => Ok(Some(wire)),
+            Ok(Arrival::TimedOut) => Ok(None),
+            Ok(Arrival::NoMore) | Err(_) => Err(Turn::Failed),
+        }
+    }
+
+    /// Gives a wire back with its answer.
+    fn give_back(&mut self, mut wire: GatheredWire, seen: Seen, length: u64) -> Turn {
+        let turn = respond(&mut wire, seen, length);
+        if let Some(door) = &mut self.door {
+            door.done(wire);
+        }
+        turn
+    }
+
+    /// Asks the door until a moment, and answers what comes with so many bytes.
+    pub(crate) fn serve_before(&mut self, moment: u64, length: u64) -> Turn {
+        match self.arrive(Some(moment)) {
+            Ok(Some(mut wire)) => {
+                let seen = look(self.rt.alloc(), &mut wire);
+                self.seen = seen;
+                self.give_back(wire, seen, length)
+            }
+            Ok(None) => Turn::Nobody,
+            Err(turn) => turn,
+        }
+    }
+
+    /// Asks the door for so many milliseconds, and answers what comes with so many bytes.
+    pub(crate) fn serve(&mut self, millis: u64, length: u64) -> Turn {
+        let moment = now(self.rt).saturating_add(millis);
+        self.serve_before(moment, length)
+    }
+
+    /// Asks the door, for so many milliseconds or without an end, and keeps what comes.
+    pub(crate) fn take(&mut self, millis: Option<u64>) -> Turn {
+        let moment = match millis {
+            Some(millis) => Some(now(self.rt).saturating_add(millis)),
+            None => None,
+        };
+        match self.arrive(moment) {
+            Ok(Some(mut wire)) => {
+                let seen = look(self.rt.alloc(), &mut wire);
+                self.seen = seen;
+                match self.held.push(Held { wire, seen }) {
+                    Ok(()) => seen.turn,
+                    Err(_) => Turn::Failed,
+                }
+            }
+            Ok(None) => Turn::Nobody,
+            Err(turn) => turn,
+        }
+    }
+
+    /// Where the wire of a number waits for its answer. One whose request was refused has the number 0.
+    fn place_of(&self, number: u8) -> Option<usize> {
+        self.held.iter().position(|held| held.seen.number == number)
+    }
+
+    /// Answers a wire that was kept with so many bytes.
+    pub(crate) fn answer(&mut self, number: u8, length: u64) -> Turn {
+        let Some(place) = self.place_of(number) else {
+            return Turn::Nobody;
+        };
+        if place >= self.held.len() {
+            return Turn::Nobody;
+        }
+        let Held { wire, seen } = self.held.remove(place);
+        self.give_back(wire, seen, length)
+    }
+}
