@@ -1,0 +1,89 @@
+//! A system on which one path leads to a file of the system's own, which takes a write and cannot be flushed. So it is
+//! seen what a keeper has flushed.
+use crate::keepers::FORM;
+use crate::outcome::Outcome;
+use crate::words::cut;
+use real_objects::FileKeeper;
+use sb_outside::{KeepFault, Keeper};
+use std::alloc::Allocator;
+use std::fs::{File, Files, Metadata, OpenOptions};
+use std::io::{self, ErrorKind};
+
+/// The name of this thread, as the system has it. A write changes no other thing, and nobody can change its mode.
+const NEVER_FLUSHED: &str = "/proc/self/comm";
+
+#[derive(Drop)]
+struct Diverted<'a> {
+    rt: &'a HostRuntime,
+    from: &'a str,
+}
+
+fn no_call<T>() -> io::Result<T> {
+    Err(io::Error::from(ErrorKind::Unsupported))
+}
+
+impl Files for Diverted<'_> {
+    type File = File;
+
+    type Dir = <HostRuntime as Files>::Dir;
+
+    fn open_file(&self, how: &OpenOptions, path: &str) -> io::Result<File> {
+        if path != self.from {
+            return self.rt.open_file(how, path);
+        }
+        let mut options = OpenOptions::new();
+        options.read(how.asks_read()).write(how.asks_write());
+        self.rt.open_file(&options, NEVER_FLUSHED)
+    }
+
+    fn open_dir(&self, _path: &str) -> io::Result<Self::Dir> {
+        no_call()
+    }
+
+    fn metadata(&self, path: &str) -> io::Result<Metadata> {
+        self.rt.metadata(path)
+    }
+
+    fn symlink_metadata(&self, path: &str) -> io::Result<Metadata> {
+        self.rt.symlink_metadata(path)
+    }
+
+    fn copy(&self, _from: &str, _to: &str) -> io::Result<u64> {
+        no_call()
+    }
+
+    fn rename(&self, from: &str, to: &str) -> io::Result<()> {
+        self.rt.rename(from, to)
+    }
+
+    fn remove_file(&self, path: &str) -> io::Result<()> {
+        self.rt.remove_file(path)
+    }
+
+    fn create_dir(&self, _path: &str) -> io::Result<()> {
+        no_call()
+    }
+
+    fn remove_dir(&self, _path: &str) -> io::Result<()> {
+        no_call()
+    }
+
+    fn remove_dir_all<B: Allocator>(&self, _alloc: B, _path: &str) -> io::Result<()> {
+        no_call()
+    }
+}
+
+/// Keeps a text at a path, where another path cannot be flushed.
+pub(crate) fn step(rt: &HostRuntime, line: &str) -> Outcome {
+    let (from, rest) = cut(line);
+    let (path, text) = cut(rest);
+    let system = Diverted { rt, from };
+    let Ok(mut keeper) = FileKeeper::new(&system, rt.alloc(), path, FORM, true) else {
+        return Outcome::OutOfMemory;
+    };
+    match keeper.replace(text.as_bytes()) {
+        Ok(()) => Outcome::Done,
+        Err(KeepFault::OutOfMemory) => Outcome::OutOfMemory,
+        Err(KeepFault::Failed) => Outcome::Cannot(keeper.why()),
+    }
+}
