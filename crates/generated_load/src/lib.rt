@@ -18,6 +18,4 @@ mod fault;
 mod hosts;
 mod journals;
 mod loading;
-#[cfg(test)]
-mod tests;
 mod urls;
