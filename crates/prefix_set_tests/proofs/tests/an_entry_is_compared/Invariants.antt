@@ -1,4 +1,0 @@
-use Rattle.prefix_set_tests.proofs.tests.an_entry_is_compared.Given as goal
-
-abbrev pub ghosts-ordered : goal.ghosts-ordered
-ghosts-ordered g a = record { name = a.blank.name; parts = a.blank.parts }
