@@ -10,5 +10,3 @@ mod case;
 mod meets;
 mod published;
 mod run;
-#[cfg(test)]
-mod tests;

@@ -7,6 +7,4 @@ pub use laws::delays_are_bounded;
 pub use waits::WaitState;
 
 mod laws;
-#[cfg(test)]
-mod tests;
 mod waits;
