@@ -4,20 +4,20 @@ use std::sync::atomic::{AtomicBool, Ordering};
 use std::thread;
 
 // So many looks a thread waits at most: ten seconds and more.
-const MOST_LOOKS: u32 = 30_000_000;
+const MOST_LOOKS: u32 = 100_000_000;
 
-/// A sign that one thread gives, and others wait for.
+/// A sign that one thread gives, and another waits for.
 #[derive(Drop)]
 pub struct Sign {
     given: AtomicBool,
-    missed: AtomicBool,
+    seen: AtomicBool,
 }
 
 impl Sign {
     pub fn new() -> Sign {
         Sign {
             given: AtomicBool::new(false),
-            missed: AtomicBool::new(false),
+            seen: AtomicBool::new(false),
         }
     }
 
@@ -29,16 +29,16 @@ impl Sign {
     pub fn wait(&self) {
         for _look in 0..MOST_LOOKS {
             if self.given.load(Ordering::SeqCst) {
+                self.seen.store(true, Ordering::SeqCst);
                 return;
             }
             thread::yield_now();
         }
-        self.missed.store(true, Ordering::SeqCst);
     }
 
-    /// Whether it was given, and the limit was never met.
+    /// Whether one who waited saw it.
     pub fn was_seen(&self) -> bool {
-        self.given.load(Ordering::SeqCst) && !self.missed.load(Ordering::SeqCst)
+        self.seen.load(Ordering::SeqCst)
     }
 }
 
@@ -72,39 +72,56 @@ impl Gate for Halt {
     }
 }
 
-/// A gate at which the first two checks wait for each other.
+/// Who comes to a point may not go on before another point was come to.
 #[derive(Drop)]
-pub struct Meeting {
-    first: Sign,
-    second: Sign,
+pub struct Rule {
+    held: Point,
+    until: Point,
+    came: Sign,
 }
 
-impl Meeting {
-    pub fn new() -> Meeting {
-        Meeting {
-            first: Sign::new(),
-            second: Sign::new(),
+impl Rule {
+    pub fn new(held: Point, until: Point) -> Rule {
+        Rule {
+            held,
+            until,
+            came: Sign::new(),
         }
     }
 
-    /// Whether both came while the other waited.
+    // Tells that a point was come to.
+    fn tell(&self, point: Point) {
+        if point == self.until {
+            self.came.give();
+        }
+    }
+
+    fn hold(&self, point: Point) {
+        if point == self.held {
+            self.came.wait();
+        }
+    }
+}
+
+/// A gate with two rules.
+#[derive(Drop)]
+pub struct RuledGate {
+    pub first: Rule,
+    pub second: Rule,
+}
+
+impl RuledGate {
+    /// Whether each point that is to be held was come to and held until the other, so that no limit was met.
     pub fn was_kept(&self) -> bool {
-        self.first.was_seen() && self.second.was_seen()
+        self.first.came.was_seen() && self.second.came.was_seen()
     }
 }
 
-impl Gate for Meeting {
+impl Gate for RuledGate {
     fn pass(&self, point: Point) {
-        match point {
-            Point::Check(0) => {
-                self.first.give();
-                self.second.wait();
-            }
-            Point::Check(1) => {
-                self.second.give();
-                self.first.wait();
-            }
-            _ => {}
-        }
+        self.first.tell(point);
+        self.second.tell(point);
+        self.first.hold(point);
+        self.second.hold(point);
     }
 }

@@ -117,12 +117,6 @@ fn a_check_shows_what_was_published_beside_it(rt: HostRuntime) {
     let half = check_halfway(&rt, alloc, 1).expect(&rt, "no run");
     let text = shown(alloc, half.run.checks.as_slice()).expect(&rt, "no text");
     assert!(rt; text.as_slice() == BEFORE_AND_AFTER);
-}
-
-#[test]
-fn checks_stand_whose_publications_are_kept(rt: HostRuntime) {
-    let alloc = rt.alloc();
-    let half = check_halfway(&rt, alloc, 1).expect(&rt, "no run");
     let (_publisher, text) = settled(alloc, half).expect(&rt, "no memory");
     assert!(rt; text.as_slice() == BEFORE_AND_AFTER);
 }
