@@ -1,5 +1,0 @@
-//! The tests of reports. They stand apart, so that they are proved once and not with the crate.
-#![tactic(auto)]
-
-#[cfg(test)]
-mod reports;
