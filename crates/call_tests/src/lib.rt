@@ -27,8 +27,6 @@ mod runs;
 #[cfg(test)]
 mod seats;
 #[cfg(test)]
-mod server_objects;
-#[cfg(test)]
 mod shown;
 #[cfg(test)]
 mod sound_targets;

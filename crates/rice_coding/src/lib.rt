@@ -3,8 +3,7 @@
 //!
 //! `encode` makes the record of a list, `decode` gives the list of a record, and `RiceReader` gives
 //! it one number at a time. `specs/Rice.antt` says which record stands for which list, and `laws`
-//! that `encoding_of` and `decoding_of`, which the contracts cite, go by it. The tests stand in the
-//! crate `rice_coding_tests`.
+//! that `encoding_of` and `decoding_of`, which the contracts cite, go by it.
 #![tactic(auto)]
 
 pub use decoding::decode;

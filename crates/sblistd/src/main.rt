@@ -126,8 +126,5 @@ fn main(rt: HostRuntime) -> ExitCode {
         Err(fault) if fault.kind() == ErrorKind::InvalidData => Vec::new(alloc),
         Err(_) => return ExitCode::from(8),
     };
-    match run(&rt, alloc, words.as_slice()) {
-        Ok(status) => ExitCode::from(status),
-        Err(OutOfMemory) => ExitCode::from(8),
-    }
+    ExitCode::from(run(&rt, alloc, words.as_slice()).unwrap_or(8))
 }
