@@ -16,7 +16,7 @@ use Rattle.sb_members.specs.Laws.{AreReadAgain, NestAsValues}
 use Rattle.update_messages.specs.Messages.{IsAddition, IsRemoval}
 use Rattle.update_messages.specs.Ranges.{IsAdditionOfBytes, IsRemovalOfBytes, IsUpdateInRange, IsResponseInRange}
 use Rattle.update_messages.specs.Reading.{IsTextOf, ReadsResponse}
-use Rattle.update_messages.specs.Writing.{response_written}
+use Rattle.update_messages.specs.Writing.{response_written, spelling_of_response}
 use Rattle.served_runs.proofs.Responses.{response_reads_again}
 use Rattle.update_replay.specs.Example.{whole_update}
 use Rattle.example_runs.specs.Example.{example_message, example_body}
@@ -64,7 +64,7 @@ message_in_range = record { items = one IsUpdateInRange whole_update update_in_r
 -- ---- the spelling
 
 pub body_is_short : length example_body ≤ 201326592
-unfolding escape_byte encode_symbols digits
+unfolding spelling_of_response escape_byte encode_symbols digits
 body_is_short = leb-true (length example_body) 201326592 refl
 
 no_float : has_float (response_written example_message) ≡ false
@@ -90,6 +90,7 @@ within_values : (values counted size : ℕ) → values ≡ counted → counted �
 within_values values counted size e h = omega (arith, e, h)
 
 body_is_thin : AreCounted → AreClear → too_dense example_body ≡ None
+unfolding spelling_of_response
 body_is_thin counts clear =
     let counted = counts (response_written example_message) no_float in
     clear example_body

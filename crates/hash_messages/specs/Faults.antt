@@ -24,6 +24,13 @@ fault_of_each row items = fault_of_list (fault_by row) items
 
 -- ---- the request
 
+-- of the types that are asked for
+abbrev pub faults_of_types : Data → List (Option FieldFault)
+faults_of_types value =
+    fault_of_each request.asked_threat_row (request.in_info request.threats_row value)
+    ∷ fault_of_each request.asked_platform_row (request.in_info request.platforms_row value)
+    ∷ fault_of_each request.asked_entry_row (request.in_info request.entries_row value) ∷ []
+
 -- outside the items, which come after all of these
 abbrev pub faults_outside_items : Data → List (Option FieldFault)
 faults_outside_items value =

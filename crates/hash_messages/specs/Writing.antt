@@ -68,8 +68,8 @@ find_response_written message = object (
 
 -- ---- the spellings
 
-abbrev pub spelling_of_find_request : AskedHashes → List ℕ
+unfoldable pub spelling_of_find_request : AskedHashes → List ℕ
 spelling_of_find_request message = compact_text (find_request_written message)
 
-abbrev pub spelling_of_find_response : FindResponse → List ℕ
+unfoldable pub spelling_of_find_response : FindResponse → List ℕ
 spelling_of_find_response message = compact_text (find_response_written message)

@@ -8,7 +8,7 @@ ghost use Rattle.update_messages.specs.Faults.{fault_of_text};
 ghost use Rattle.hash_messages.specs.Messages.{AskedHashes, most_prefixes};
 ghost use Rattle.hash_messages.specs.RequestRows as row;
 ghost use Rattle.hash_messages.specs.Reading.{ReadsEach, ReadsOutsideItems, ReadsFindRequest};
-ghost use Rattle.hash_messages.specs.Faults.{faults_outside_items, fault_of_prefixes};
+ghost use Rattle.hash_messages.specs.Faults.{faults_of_types, faults_outside_items, fault_of_prefixes};
 ghost use Rattle.hash_messages.specs.Faults.{fault_of_find_request};
 
 use crate::FindRequest;
@@ -19,9 +19,40 @@ use crate::reading_client::client;
 use hash_prefixes::Prefix;
 use sb_json::{Field, FieldFault, MessageFault, object, read_json};
 use sb_members::{check_object, items_or_none, read_list};
-use sb_model::Row;
+use sb_model::{EntryType, PlatformType, Row, ThreatType};
 use serde_json::Value;
 use std::alloc::Global;
+
+/// The lists that a request asks of: those of these types.
+#[derive(Drop)]
+struct AskedTypes {
+    threats: Row<ThreatType>,
+    platforms: Row<PlatformType>,
+    entries: Row<EntryType>,
+}
+
+/// The types that are asked for.
+fn asked_types(alloc: Global, value: &Value) -> Result<AskedTypes, FieldFault>
+    ensures threats { IfOk result (λ types.
+        ReadsEach row.asked_threat_row (row.in_info row.threats_row (view value.now)) types.threats) }
+    ensures platforms { IfOk result (λ types.
+        ReadsEach row.asked_platform_row (row.in_info row.platforms_row (view value.now)) types.platforms) }
+    ensures entries { IfOk result (λ types.
+        ReadsEach row.asked_entry_row (row.in_info row.entries_row (view value.now)) types.entries) }
+    ensures clean { IfOk result (λ _. first (faults_of_types (view value.now)) ≡ None) }
+    ensures err { IfErr result (λ fault. (fault ≡ FieldFault.OutOfMemory)
+        ⊎ (first (faults_of_types (view value.now)) ≡ Some fault)) }
+{
+    let info = object(value, Field::ThreatInfo)?;
+    let threats = read_list::<AskedThreats>(alloc, info, Field::ThreatTypes)?;
+    let platforms = read_list::<AskedPlatforms>(alloc, info, Field::PlatformTypes)?;
+    let entries = read_list::<AskedEntries>(alloc, info, Field::ThreatEntryTypes)?;
+    Ok(AskedTypes {
+        threats,
+        platforms,
+        entries,
+    })
+}
 
 /// The request without its prefixes.
 fn outside_items(alloc: Global, value: &Value) -> Result<FindRequest, FieldFault>
@@ -33,16 +64,13 @@ fn outside_items(alloc: Global, value: &Value) -> Result<FindRequest, FieldFault
     check_object(value, Field::Root)?;
     let client = client(alloc, value)?;
     let states = read_list::<States>(alloc, value, Field::ClientStates)?;
-    let info = object(value, Field::ThreatInfo)?;
-    let threats = read_list::<AskedThreats>(alloc, info, Field::ThreatTypes)?;
-    let platforms = read_list::<AskedPlatforms>(alloc, info, Field::PlatformTypes)?;
-    let entries = read_list::<AskedEntries>(alloc, info, Field::ThreatEntryTypes)?;
+    let types = asked_types(alloc, value)?;
     Ok(FindRequest {
         client,
         states,
-        threats,
-        platforms,
-        entries,
+        threats: types.threats,
+        platforms: types.platforms,
+        entries: types.entries,
         prefixes: Row::new(alloc),
     })
 }

@@ -29,9 +29,9 @@ fn client_members(alloc: Global, client: &ClientInfo) -> Result<Map<String, Valu
     ensures range { IfOk result (λ _. IsClientInRange client.now) }
 {
     let mut members = Map::new(alloc);
-    let id = text_value(alloc, &client.id)?;
     let version = text_value(alloc, &client.version)?;
     put_member(alloc, &mut members, Field::ClientVersion, version)?;
+    let id = text_value(alloc, &client.id)?;
     put_member(alloc, &mut members, Field::ClientId, id)?;
     Ok(members)
 }
@@ -42,22 +42,22 @@ fn info_value(alloc: Global, message: &FindRequest) -> Result<Value, OutOfMemory
 {
     let mut members = Map::new(alloc);
     let threats = threat_values(alloc, message.threats.as_slice())?;
-    let entries = entry_values(alloc, message.entries.as_slice())?;
-    let prefixes = prefix_values(alloc, message.prefixes.as_slice())?;
-    let platforms = platform_values(alloc, message.platforms.as_slice())?;
     put_member(alloc, &mut members, Field::ThreatTypes, list_value(threats))?;
+    let entries = entry_values(alloc, message.entries.as_slice())?;
     put_member(
         alloc,
         &mut members,
         Field::ThreatEntryTypes,
         list_value(entries),
     )?;
+    let prefixes = prefix_values(alloc, message.prefixes.as_slice())?;
     put_member(
         alloc,
         &mut members,
         Field::ThreatEntries,
         list_value(prefixes),
     )?;
+    let platforms = platform_values(alloc, message.platforms.as_slice())?;
     put_member(
         alloc,
         &mut members,
@@ -73,10 +73,10 @@ fn request_value(alloc: Global, message: &FindRequest) -> Result<Value, OutOfMem
 {
     let mut members = Map::new(alloc);
     let info = info_value(alloc, message)?;
-    let states = state_values(alloc, message.states.as_slice())?;
-    let client = client_members(alloc, &message.client)?;
     put_member(alloc, &mut members, Field::ThreatInfo, Some(info))?;
+    let states = state_values(alloc, message.states.as_slice())?;
     put_member(alloc, &mut members, Field::ClientStates, list_value(states))?;
+    let client = client_members(alloc, &message.client)?;
     put_member(alloc, &mut members, Field::Client, object_value(client))?;
     Ok(Value::Object(members))
 }

@@ -34,14 +34,14 @@ fn match_value(alloc: Global, found: &Match) -> Result<Value, OutOfMemory>
 {
     let mut members = Map::new(alloc);
     let threat = string_value(alloc, found.name.threat.word())?;
-    let entry = string_value(alloc, found.name.entry.word())?;
-    let hash = hash_value(alloc, &found.hash.bytes)?;
-    let platform = string_value(alloc, found.name.platform.word())?;
-    let cache = duration_value(alloc, found.cache)?;
     put_member(alloc, &mut members, Field::ThreatType, Some(threat))?;
+    let entry = string_value(alloc, found.name.entry.word())?;
     put_member(alloc, &mut members, Field::ThreatEntryType, Some(entry))?;
+    let hash = hash_value(alloc, &found.hash.bytes)?;
     put_member(alloc, &mut members, Field::Threat, Some(hash))?;
+    let platform = string_value(alloc, found.name.platform.word())?;
     put_member(alloc, &mut members, Field::PlatformType, Some(platform))?;
+    let cache = duration_value(alloc, found.cache)?;
     put_member(alloc, &mut members, Field::CacheDuration, cache)?;
     Ok(Value::Object(members))
 }
@@ -64,10 +64,10 @@ fn response_value(alloc: Global, message: &FindResponse) -> Result<Value, OutOfM
 {
     let mut members = Map::new(alloc);
     let negative = duration_value(alloc, message.negative)?;
-    let wait = duration_value(alloc, message.wait)?;
-    let matches = match_values(alloc, message.matches.as_slice())?;
     put_member(alloc, &mut members, Field::NegativeCacheDuration, negative)?;
+    let wait = duration_value(alloc, message.wait)?;
     put_member(alloc, &mut members, Field::MinimumWaitDuration, wait)?;
+    let matches = match_values(alloc, message.matches.as_slice())?;
     put_member(alloc, &mut members, Field::Matches, list_value(matches))?;
     Ok(Value::Object(members))
 }

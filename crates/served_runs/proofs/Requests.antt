@@ -143,6 +143,7 @@ RequestsAreThin = (message : Request) → length message.items ≤ 1024 → too_
 
 pub asked_reads_again : AreReadAgain → NestAsValues → RequestsAreThin → (lists : List Held) (options : FetchOptions) → IsRequestInRange (request_asked lists options)
     → IsTextOf ReadsRequest (spelling_of_request (request_asked lists options)) (request_asked lists options)
+unfolding spelling_of_request
 asked_reads_again law nest thin lists options h =
     let m = request_asked lists options in (
       request_written m,

@@ -150,6 +150,7 @@ response_plain message h wait =
 
 pub response_reads_again : AreReadAgain → NestAsValues → (message : FetchResponse) → IsResponseInRange message → IsUtf8 (duration_text message.wait) → too_dense (spelling_of_response message) ≡ None
     → IsTextOf ReadsResponse (spelling_of_response message) message
+unfolding spelling_of_response
 response_reads_again law nest message h wait thin =
     (response_written message, value_again (response_written message) (response_plain message h wait) (omega (arith, response_depth nest message)) thin, response_again law message h)
 

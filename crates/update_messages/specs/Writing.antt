@@ -108,8 +108,8 @@ request_written message = object (
 
 -- ---- the spellings
 
-abbrev pub spelling_of_request : Request → List ℕ
+unfoldable pub spelling_of_request : Request → List ℕ
 spelling_of_request message = compact_text (request_written message)
 
-abbrev pub spelling_of_response : FetchResponse → List ℕ
+unfoldable pub spelling_of_response : FetchResponse → List ℕ
 spelling_of_response message = compact_text (response_written message)

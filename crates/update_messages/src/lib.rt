@@ -31,3 +31,4 @@ mod rows;
 mod sets;
 mod writing_request;
 mod writing_response;
+mod writing_words;

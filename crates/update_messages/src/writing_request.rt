@@ -7,11 +7,12 @@ ghost use Rattle.update_messages.specs.Reading.{ReadsRequest, IsTextOf};
 ghost use Rattle.sb_members.specs.Writing.{values_written};
 ghost use Rattle.update_messages.specs.Writing as spec;
 
+use crate::writing_words::{kinds, put_word};
 use crate::{ClientInfo, FetchRequest, ListRequest};
 use sb_json::Field;
 use sb_members::{
     bytes_value, list_value, members_are_as_their_values, number_value, object_value, put_member,
-    string_value, text_value, written_members_read_again,
+    text_value, written_members_read_again,
 };
 use sb_model::{Bytes, OutOfMemory};
 use serde_json::{Map, Value};
@@ -22,9 +23,9 @@ fn client_members(alloc: Global, client: &ClientInfo) -> Result<Map<String, Valu
     ensures range { IfOk result (λ _. IsClientInRange client.now) }
 {
     let mut members = Map::new(alloc);
-    let id = text_value(alloc, &client.id)?;
     let version = text_value(alloc, &client.version)?;
     put_member(alloc, &mut members, Field::ClientVersion, version)?;
+    let id = text_value(alloc, &client.id)?;
     put_member(alloc, &mut members, Field::ClientId, id)?;
     Ok(members)
 }
@@ -83,16 +84,16 @@ fn asked_value(alloc: Global, asked: &ListRequest) -> Result<Value, OutOfMemory>
     ensures value { IfOk result (λ value. view value ≡ spec.asked_written asked.now) }
     ensures range { IfOk result (λ _. IsAskedInRange asked.now) }
 {
-    let mut members = Map::new(alloc);
-    let threat = string_value(alloc, asked.name.threat.word())?;
-    let entry = string_value(alloc, asked.name.entry.word())?;
+    let mut members = kinds(alloc, &asked.name)?;
     let state = bytes_value(alloc, asked.state.as_slice())?;
-    let platform = string_value(alloc, asked.name.platform.word())?;
-    let constraints = constraint_members(alloc, asked)?;
-    put_member(alloc, &mut members, Field::ThreatType, Some(threat))?;
-    put_member(alloc, &mut members, Field::ThreatEntryType, Some(entry))?;
     put_member(alloc, &mut members, Field::State, state)?;
-    put_member(alloc, &mut members, Field::PlatformType, Some(platform))?;
+    put_word(
+        alloc,
+        &mut members,
+        Field::PlatformType,
+        asked.name.platform.word(),
+    )?;
+    let constraints = constraint_members(alloc, asked)?;
     put_member(
         alloc,
         &mut members,
@@ -119,13 +120,13 @@ fn request_value(alloc: Global, message: &FetchRequest) -> Result<Value, OutOfMe
 {
     let mut members = Map::new(alloc);
     let items = asked_values(alloc, message.items.as_slice())?;
-    let client = client_members(alloc, &message.client)?;
     put_member(
         alloc,
         &mut members,
         Field::ListUpdateRequests,
         list_value(items),
     )?;
+    let client = client_members(alloc, &message.client)?;
     put_member(alloc, &mut members, Field::Client, object_value(client))?;
     Ok(Value::Object(members))
 }

@@ -8,6 +8,7 @@ ghost use Rattle.update_messages.specs.Reading.{ReadsResponse, IsTextOf};
 ghost use Rattle.sb_members.specs.Writing.{list_written};
 ghost use Rattle.update_messages.specs.Writing as spec;
 
+use crate::writing_words::{kinds, put_word};
 use crate::{Additions, FetchResponse, ListUpdate, Removals};
 use rice_coding::RiceRecord;
 use sb_json::Field;
@@ -24,8 +25,6 @@ fn rice_value(alloc: Global, rice: &RiceRecord) -> Result<Value, OutOfMemory>
     ensures range { IfOk result (λ _. IsBytes rice.now.coded) }
 {
     let mut members = Map::new(alloc);
-    let coded = bytes_value(alloc, rice.coded.as_slice())?;
-    let first = long_value(alloc, rice.first)?;
     put_member(
         alloc,
         &mut members,
@@ -38,7 +37,9 @@ fn rice_value(alloc: Global, rice: &RiceRecord) -> Result<Value, OutOfMemory>
         Field::NumEntries,
         number_value(rice.count),
     )?;
+    let first = long_value(alloc, rice.first)?;
     put_member(alloc, &mut members, Field::FirstValue, first)?;
+    let coded = bytes_value(alloc, rice.coded.as_slice())?;
     put_member(alloc, &mut members, Field::EncodedData, coded)?;
     Ok(Value::Object(members))
 }
@@ -175,16 +176,20 @@ fn later_members(
     requires { option_map view removals ≡ list_written spec.removal_written update.now.removals }
     ensures { IfOk result (λ members. members_view members.entries ≡ spec.later_members update.now) }
 {
-    let mut members = Map::new(alloc);
-    let threat = string_value(alloc, update.name.threat.word())?;
-    let entry = string_value(alloc, update.name.entry.word())?;
-    let full = string_value(alloc, response_type_word(update.full))?;
-    let platform = string_value(alloc, update.name.platform.word())?;
-    put_member(alloc, &mut members, Field::ThreatType, Some(threat))?;
-    put_member(alloc, &mut members, Field::ThreatEntryType, Some(entry))?;
-    put_member(alloc, &mut members, Field::ResponseType, Some(full))?;
+    let mut members = kinds(alloc, &update.name)?;
+    put_word(
+        alloc,
+        &mut members,
+        Field::ResponseType,
+        response_type_word(update.full),
+    )?;
     put_member(alloc, &mut members, Field::Removals, removals)?;
-    put_member(alloc, &mut members, Field::PlatformType, Some(platform))?;
+    put_word(
+        alloc,
+        &mut members,
+        Field::PlatformType,
+        update.name.platform.word(),
+    )?;
     Ok(members)
 }
 
@@ -195,12 +200,12 @@ fn update_value(alloc: Global, update: &ListUpdate) -> Result<Value, OutOfMemory
     let removals = removal_values(alloc, update.removals.as_slice())?;
     let mut members = later_members(alloc, update, list_value(removals))?;
     let new_state = bytes_value(alloc, update.new_state.as_slice())?;
-    let checksum = checksum_value(alloc, &update.checksum)?;
-    let base = bytes_value(alloc, update.base.as_slice())?;
-    let additions = addition_values(alloc, update.additions.as_slice())?;
     put_member(alloc, &mut members, Field::NewClientState, new_state)?;
+    let checksum = checksum_value(alloc, &update.checksum)?;
     put_member(alloc, &mut members, Field::Checksum, Some(checksum))?;
+    let base = bytes_value(alloc, update.base.as_slice())?;
     put_member(alloc, &mut members, Field::BaseState, base)?;
+    let additions = addition_values(alloc, update.additions.as_slice())?;
     put_member(alloc, &mut members, Field::Additions, list_value(additions))?;
     Ok(Value::Object(members))
 }

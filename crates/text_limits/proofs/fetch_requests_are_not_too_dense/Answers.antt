@@ -1,9 +1,10 @@
-use Rattle.update_messages.specs.Writing.{request_written}
+use Rattle.update_messages.specs.Writing.{request_written, spelling_of_request}
 use Rattle.text_limits.proofs.Fetches.{requests_sparse}
 use Rattle.text_limits.proofs.Sparse.{clear_text}
 use Rattle.text_limits.proofs.fetch_requests_are_not_too_dense.Goals as goal
 
 pub returns : goal.returns
+unfolding spelling_of_request
 returns c message few =
     let counted = c.written_texts_are_counted.ensures in
     clear_text counted.counts counted.clear (request_written message) (requests_sparse message few)

@@ -2,7 +2,7 @@ use Rattle.std.proofs.Common.{ap, ◌∙◌, arith}
 use Rattle.serde_json.specs.View.{view}
 use Rattle.serde_json.specs.Written.{has_float, compact_text}
 use Rattle.hash_messages.specs.Reading.{ReadsFindRequest}
-use Rattle.hash_messages.specs.Writing.{find_request_written}
+use Rattle.hash_messages.specs.Writing.{find_request_written, spelling_of_find_request}
 use Rattle.hash_messages.proofs.Depths.{request_depth}
 use Rattle.hash_messages.proofs.Floats.{request_has_none}
 use Rattle.hash_messages.proofs.OneReading.{request_one}
@@ -11,6 +11,7 @@ use Rattle.hash_messages.proofs.TextsAgain.{text_again, no_other}
 use Rattle.hash_messages.proofs.writing_request.write_find.Goals as goal
 
 pub returns-clause-spelling : goal.returns-clause-spelling
+unfolding spelling_of_find_request
 returns-clause-spelling c =
     c.from_vec.ensures ∙ ap (λ v. v.items) c.into_bytes.ensures.value
     ∙ c.in_ok-text.ensures.text (ap has_float c.in_ok-value.ensures.value ∙ request_has_none c.members_are_as_their_values.ensures.floats c.args.message.now)

@@ -2,7 +2,7 @@ use Rattle.std.proofs.Common.{ap, ◌∙◌, arith}
 use Rattle.serde_json.specs.View.{view}
 use Rattle.serde_json.specs.Written.{has_float, compact_text}
 use Rattle.update_messages.specs.Reading.{ReadsRequest}
-use Rattle.update_messages.specs.Writing.{request_written}
+use Rattle.update_messages.specs.Writing.{request_written, spelling_of_request}
 use Rattle.update_messages.proofs.Depths.{request_depth}
 use Rattle.update_messages.proofs.Floats.{request_has_none}
 use Rattle.update_messages.proofs.OneReading.{request_one}
@@ -11,6 +11,7 @@ use Rattle.update_messages.proofs.TextsAgain.{text_again, no_other}
 use Rattle.update_messages.proofs.writing_request.write_request.Goals as goal
 
 pub returns-clause-spelling : goal.returns-clause-spelling
+unfolding spelling_of_request
 returns-clause-spelling c =
     c.from_vec.ensures ∙ ap (λ v. v.items) c.into_bytes.ensures.value
     ∙ c.in_ok-text.ensures.text (ap has_float c.in_ok-value.ensures.value ∙ request_has_none c.members_are_as_their_values.ensures.floats c.args.message.now)
