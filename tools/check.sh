@@ -3,6 +3,7 @@
 cd "$(dirname "$0")/.." || exit 1
 status=0
 python3 tools/wrong_bodies.py check || status=1
+python3 tools/check_crates.py || status=1
 python3 tools/check_documents.py || status=1
 python3 tools/man_pages.py check || status=1
 exit "$status"
