@@ -2,8 +2,8 @@
 """Holds the crates to the rules that keep the gate short, as far as a script can.
 
 It fails where a test stands outside the two crates of tests, where there is another crate of tests, where a main has too many
-lines, and where a function takes more parameters than it may and is not among those of tools/wide_functions.txt; also where one
-of those takes no more than it may, so that the list only shrinks.
+lines, where the spelling of a message is no `unfoldable` definition, and where a function takes more parameters than it may and is
+not among those of tools/wide_functions.txt; also where one of those takes no more than it may, so that the list only shrinks.
 
     check_crates.py
 """
@@ -38,6 +38,14 @@ def sources(name):
                     yield os.path.relpath(path, CRATES), text.read()
 
 
+def open_spellings(name):
+    """The definitions of spellings that open by themselves at each place that cites them."""
+    for at, _, files in os.walk(os.path.join(CRATES, name, "specs")):
+        for file in sorted(files):
+            with open(os.path.join(at, file), encoding="utf-8") as text:
+                yield from re.findall(r"(?m)^(?:abbrev )?pub (spelling\w*) ", text.read())
+
+
 def parameters(text, start):
     """How many parameters stand behind an opening bracket."""
     depth, angle, count, is_empty, before = 1, 0, 1, True, ""
@@ -63,6 +71,8 @@ def functions(text):
 def faults_of(name, wide, seen):
     if name.endswith("_tests") and name not in OF_TESTS:
         yield f"{name} is a further crate of tests: rows are data, and what is left goes to {' or '.join(OF_TESTS)}"
+    for spelling in open_spellings(name):
+        yield f"{name} defines {spelling}, which is to be unfoldable"
     for path, text in sources(name):
         if "#[test]" in text and name not in OF_TESTS:
             yield f"{path} has a test: rows are data, and what is left goes to {' or '.join(OF_TESTS)}"
