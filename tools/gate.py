@@ -10,8 +10,8 @@ a process and its end is lost, so the sums are a little low; the last line has w
 Words are handed on to `rt ci`. The status is that of `rt ci`.
 
 The second form proves one crate from nothing, or its tests, over the libraries that were built last below `crates/*/out`, and prints
-the seconds of processor time between each function's end and the one before, the dearest first. What was taken before the
-first one ended is the price of loading, with the first function in it.
+what each function took, in seconds of processor time, the dearest first. The prover checks a function in several modules, and
+those of what it calls first, so this looks at the modules as they come, and shares out what was taken since the last look.
 """
 
 import os
@@ -20,6 +20,7 @@ import resource
 import shutil
 import subprocess
 import sys
+import tempfile
 import threading
 import time
 
@@ -152,28 +153,80 @@ def words_of_check(name, is_test):
     return words, folder, [it for it in below if not os.path.isdir(built(it))]
 
 
-def taken_by(pid):
-    """The seconds of processor time of a process, with those of its ended children."""
-    with open(f"/proc/{pid}/stat", encoding="utf-8", errors="replace") as file:
-        words = file.read().rpartition(")")[2].split()
-    return sum(map(int, words[11:15])) / TICKS
+def family(top):
+    """The processes at and below one."""
+    parents = {}
+    for pid in os.listdir("/proc"):
+        found = stat_of(pid) if pid.isdigit() else None
+        if found:
+            parents[int(pid)] = found[0]
+    for pid in parents:
+        at = pid
+        while at in parents and at != top:
+            at = parents[at]
+        if at == top:
+            yield pid
 
 
-def time_functions(words, folder):
-    """Runs the prover: the seconds of each function, those before the first ended, its last line, and its status."""
-    rows, before, last = [], None, ""
-    given = {"cwd": folder, "stdout": subprocess.PIPE, "stderr": subprocess.STDOUT, "text": True, "errors": "replace"}
-    with subprocess.Popen(words, **given) as ran:
+def taken_by(top):
+    """The seconds of processor time of a process and of those below it, with the ended ones."""
+    total = 0
+    for pid in family(top):
+        try:
+            with open(f"/proc/{pid}/stat", encoding="utf-8", errors="replace") as file:
+                total += sum(map(int, file.read().rpartition(")")[2].split()[11:15]))
+        except OSError:
+            pass
+    return total / TICKS
+
+
+def modules_in(folder):
+    """The checked modules that the prover has written so far, with their sizes."""
+    return {it.name: it.stat().st_size for at, _, _ in os.walk(folder) for it in os.scandir(at) if it.is_file()}
+
+
+def look_at_modules(ran, folder, rows):
+    """Shares out what was taken between two looks among the modules that came between them, by their sizes."""
+    known, before = {}, 0.0
+    while True:
+        is_over = ran.poll() is not None
+        try:
+            now, found = taken_by(ran.pid), modules_in(folder)
+        except FileNotFoundError:
+            continue
+        new = {name: size for name, size in found.items() if name not in known}
+        if new and now > before:
+            total = sum(new.values()) or 1
+            rows += [(name, (now - before) * size / total) for name, size in new.items()]
+            known, before = found, now
+        if is_over:
+            return
+        time.sleep(0.1)
+
+
+def function_of(module, name, functions):
+    """Whose module it is, by its path: that of the function with the longest path that begins it."""
+    path = re.sub(rf"^Rattle-{name}[-.]proofs\.", "", module)
+    owners = [it for it in functions if path.startswith(it.replace("::", ".") + ".")]
+    return max(owners, key=len, default=None)
+
+
+def prove_in(folder, words, crate_folder, rows):
+    """Runs the prover, which writes its modules into a folder: the functions that it names, its last line, and its status."""
+    functions, last = [], ""
+    given = {"cwd": crate_folder, "stdout": subprocess.PIPE, "stderr": subprocess.STDOUT, "text": True, "errors": "replace"}
+    with subprocess.Popen([*words, "--incremental", folder], **given) as ran:
+        watcher = threading.Thread(target=look_at_modules, args=(ran, folder, rows))
+        watcher.start()
         for line in ran.stdout:
-            found = re.match(r"checked (\S+), \d+ of \d+", line)
+            found = re.match(r"checked \w+::(\S+), \d+ of \d+", line)
             last = line.rstrip() or last
             if found:
-                now = taken_by(ran.pid)
-                rows.append((now - (before or 0.0), found[1]))
-                before = now
+                functions.append(found[1])
             elif ": error" in line or line.startswith("error"):
                 print(line.rstrip())
-    return rows, last, ran.returncode
+        watcher.join()
+    return functions, last, ran.returncode
 
 
 def functions(name, is_test, above):
@@ -184,13 +237,20 @@ def functions(name, is_test, above):
     if missing:
         print(f"these were not built: {', '.join(missing)}", file=sys.stderr)
         return 2
-    rows, last, status = time_functions(words, folder)
-    first = rows[0] if rows else (0.0, "")
-    print(f"{first[0]:7.1f} loading, and {first[1]}")
-    for seconds, function in sorted(rows[1:], reverse=True):
+    rows, taken, rest = [], {}, 0.0
+    with tempfile.TemporaryDirectory(prefix="functions-") as room:
+        names, last, status = prove_in(room, words, folder, rows)
+    for module, seconds in rows:
+        owner = function_of(module, name, names)
+        if owner is None:
+            rest += seconds
+        else:
+            taken[owner] = taken.get(owner, 0.0) + seconds
+    for function, seconds in sorted(taken.items(), key=lambda it: -it[1]):
         if seconds >= above:
             print(f"{seconds:7.1f} {function}")
-    print(f"{sum(seconds for seconds, _ in rows):7.1f} in all, {len(rows)} functions")
+    print(f"{rest:7.1f} loading, definitions, lemmas and types")
+    print(f"{rest + sum(taken.values()):7.1f} in all, {len(names)} functions")
     print(last)
     return status
 
