@@ -6,40 +6,34 @@ use crate::words::{cut, number_of, size_of, text_of};
 use real_objects::{TcpLimits, TcpLink};
 use sb_model::{Bytes, Moment, OutOfMemory};
 use sb_outside::{Failed, Kind, Link};
-use std::alloc::Global;
+use std::io;
 use std::time::{Duration, Instant};
 
 /// From how many milliseconds on a call is late, whatever it comes to.
-const LATE: u64 = 20_000;
+const LATE: u64 = 45_000;
 
-/// Takes a step, and says so where it took longer than any limit of the steps allows.
 pub(crate) fn step<'a>(rt: &'a HostRuntime, ends: &mut Ends<'a>, line: &str) -> Outcome {
-    let begun = Instant::now(rt);
-    let outcome = call(rt, ends, line);
-    match begun {
-        Ok(begun) if is_late(rt, begun) => Outcome::Word("late"),
-        _ => outcome,
-    }
-}
-
-fn is_late(rt: &HostRuntime, begun: Instant) -> bool {
-    match begun.elapsed(rt) {
-        Ok(passed) => passed >= Duration::from_millis(LATE),
-        Err(_) => true,
-    }
-}
-
-fn call<'a>(rt: &'a HostRuntime, ends: &mut Ends<'a>, line: &str) -> Outcome {
     let (word, rest) = cut(line);
     match word.as_bytes() {
         b"to" => lead(rt, ends, rest),
-        b"begin" => begin(&mut ends.link),
-        b"send" => send(rt.alloc(), &mut ends.link, rest),
-        b"receive" => receive(rt.alloc(), &mut ends.link, size_of(rest)),
+        b"begin" => begin(rt, &mut ends.link),
+        b"send" => send(rt, &mut ends.link, rest),
+        b"receive" => receive(rt, &mut ends.link, size_of(rest)),
         b"close" => close(&mut ends.link),
         b"faults" => Outcome::Number(ends.link.faults()),
         b"default" => default_limits(),
         _ => Outcome::NoStep,
+    }
+}
+
+/// What a call came to that began then, or that it took longer than any limit of the steps allows.
+fn in_time(rt: &HostRuntime, begun: io::Result<Instant>, outcome: Outcome) -> Outcome {
+    let Ok(begun) = begun else {
+        return Outcome::Word("no clock");
+    };
+    match begun.elapsed(rt) {
+        Ok(passed) if passed < Duration::from_millis(LATE) => outcome,
+        _ => Outcome::Word("late"),
     }
 }
 
@@ -70,29 +64,35 @@ fn default_limits() -> Outcome {
     Outcome::Word("other")
 }
 
-fn begin(link: &mut LocalLink<'_>) -> Outcome {
-    match link.begin(Moment(0), Kind::Find) {
+fn begin(rt: &HostRuntime, link: &mut LocalLink<'_>) -> Outcome {
+    let begun = Instant::now(rt);
+    let outcome = match link.begin(Moment(0), Kind::Find) {
         Ok(()) => Outcome::Done,
         Err(Failed) => Outcome::Cannot(link.why()),
-    }
+    };
+    in_time(rt, begun, outcome)
 }
 
-fn send(alloc: Global, link: &mut LocalLink<'_>, more: &str) -> Outcome {
-    let Ok(bytes) = text_of(alloc, more) else {
+fn send(rt: &HostRuntime, link: &mut LocalLink<'_>, more: &str) -> Outcome {
+    let Ok(bytes) = text_of(rt.alloc(), more) else {
         return Outcome::OutOfMemory;
     };
-    match link.send(bytes.as_slice()) {
+    let begun = Instant::now(rt);
+    let outcome = match link.send(bytes.as_slice()) {
         Ok(()) => Outcome::Done,
         Err(Failed) => Outcome::Cannot(link.why()),
-    }
+    };
+    in_time(rt, begun, outcome)
 }
 
-fn receive(alloc: Global, link: &mut LocalLink<'_>, count: usize) -> Outcome {
+fn receive(rt: &HostRuntime, link: &mut LocalLink<'_>, count: usize) -> Outcome {
     let mut buffer = [0; 64];
-    match link.recv(&mut buffer[..count.min(64)]) {
-        Ok(given) => text(Bytes::from_slice(alloc, &buffer[..given])),
+    let begun = Instant::now(rt);
+    let outcome = match link.recv(&mut buffer[..count.min(64)]) {
+        Ok(given) => text(Bytes::from_slice(rt.alloc(), &buffer[..given])),
         Err(Failed) => Outcome::Cannot(link.why()),
-    }
+    };
+    in_time(rt, begun, outcome)
 }
 
 fn close(link: &mut LocalLink<'_>) -> Outcome {
