@@ -74,11 +74,11 @@ impl Files for Diverted<'_> {
 }
 
 /// Keeps a text at a path, where another path cannot be flushed.
-pub(crate) fn step(rt: &HostRuntime, line: &str) -> Outcome {
+pub(crate) fn step<'a>(rt: &'a HostRuntime, line: &'a str) -> Outcome {
     let (from, rest) = cut(line);
     let (path, text) = cut(rest);
     let system = Diverted { rt, from };
-    let Ok(mut keeper) = FileKeeper::new(&system, rt.alloc(), path, FORM, true) else {
+    let Ok(mut keeper) = FileKeeper::new(system, rt.alloc(), path, FORM, true) else {
         return Outcome::OutOfMemory;
     };
     match keeper.replace(text.as_bytes()) {
