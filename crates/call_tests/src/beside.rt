@@ -1,7 +1,7 @@
 //! Runs that judge on several threads.
 use crate::gates::{Rule, RuledGate};
 use crate::rounds::CountedDice;
-use crate::runs::{objects, run};
+use crate::runs::{objects_with, run};
 use crate::words::words;
 use sb_outside::Point;
 use std::process::Abort;
@@ -32,7 +32,7 @@ fn a_url_is_checked_before_an_update_and_one_after_it(rt: HostRuntime) {
         second: Rule::new(Point::Check(1), Point::Published(1)),
     };
     let words = words(rt.alloc(), &BESIDE_AN_UPDATE).expect(&rt, "no memory");
-    let mut own = objects(rt.alloc(), &[UPDATE, MATCH]).expect(&rt, "no memory");
+    let mut own = objects_with(rt.alloc(), &[UPDATE, MATCH]).expect(&rt, "no memory");
     let drawn = AtomicU32::new(0);
     let mut dice = CountedDice::new(&drawn);
     let status = run(
@@ -67,7 +67,7 @@ fn two_workers_check_beside_each_other(rt: HostRuntime) {
         second: Rule::new(Point::Check(1), Point::Check(0)),
     };
     let words = words(rt.alloc(), &BY_TWO_WORKERS).expect(&rt, "no memory");
-    let mut own = objects(rt.alloc(), &[]).expect(&rt, "no memory");
+    let mut own = objects_with(rt.alloc(), &[]).expect(&rt, "no memory");
     let drawn = AtomicU32::new(0);
     let mut dice = CountedDice::new(&drawn);
     let status = run(

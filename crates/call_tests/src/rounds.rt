@@ -1,7 +1,7 @@
 //! When a run passes a gate.
 ghost use Rattle.std.specs.Prelude.{None};
 
-use crate::runs::{objects, run};
+use crate::runs::{objects_with, run};
 use crate::words::words;
 use sb_outside::{Dice, Gate, Point};
 use std::process::Abort;
@@ -62,7 +62,7 @@ static TWO_ROUNDS: [&str; 6] = [
 #[test]
 fn a_gate_is_passed_before_each_round(rt: HostRuntime) {
     let words = words(rt.alloc(), &TWO_ROUNDS).expect(&rt, "no memory");
-    let mut own = objects(rt.alloc(), &[]).expect(&rt, "no memory");
+    let mut own = objects_with(rt.alloc(), &[]).expect(&rt, "no memory");
     let drawn = AtomicU32::new(0);
     let gate = CountedGate {
         words: &drawn,

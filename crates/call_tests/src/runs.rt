@@ -49,7 +49,7 @@ pub struct Objects {
 }
 
 /// The two URLs, no store, and a link with a session for each of these responses.
-pub fn objects(alloc: Global, responses: &[&[u8]]) -> Option<Objects> {
+pub fn objects_with(alloc: Global, responses: &[&[u8]]) -> Option<Objects> {
     Some(Objects {
         input: source(alloc)?,
         out: MemorySink::new(alloc, 1_000, Row::new(alloc)).ok()?,
