@@ -16,14 +16,8 @@ const UPDATE: &[u8] =
 const MATCH: &[u8] =
     b"HTTP/1.1 200 OK\r\nContent-Length: 157\r\nContent-Digest: sha-256=:doLDzf3ManLgfKr5Qdtb240NscW3CdMlxGx9P7VnHKQ=:\r\n\r\n{\"matches\":[{\"platformType\":\"ANY_PLATFORM\",\"threat\":{\"hash\":\"YR0s9Wh6cieMPaifKNwMxfZ0sbf8oEK/MfzkqdHhWaU=\"},\"threatEntryType\":\"URL\",\"threatType\":\"MALWARE\"}]}";
 
-static BESIDE_AN_UPDATE: [&str; 6] = [
-    "sbcheck",
-    "judge",
-    "--update=1",
-    "--store=s",
-    "--server=h:1",
-    "MALWARE/ANY_PLATFORM/URL",
-];
+const BESIDE_AN_UPDATE: &str =
+    "sbcheck judge --update=1 --store=s --server=h:1 MALWARE/ANY_PLATFORM/URL";
 
 #[test]
 fn a_url_is_checked_before_an_update_and_one_after_it(rt: HostRuntime) {
@@ -31,7 +25,7 @@ fn a_url_is_checked_before_an_update_and_one_after_it(rt: HostRuntime) {
         first: Rule::new(Point::Round(1), Point::Check(1)),
         second: Rule::new(Point::Check(1), Point::Published(1)),
     };
-    let words = words(rt.alloc(), &BESIDE_AN_UPDATE).expect(&rt, "no memory");
+    let words = words(rt.alloc(), BESIDE_AN_UPDATE).expect(&rt, "no memory");
     let mut own = objects_with(rt.alloc(), &[UPDATE, MATCH]).expect(&rt, "no memory");
     let drawn = AtomicU32::new(0);
     let mut dice = CountedDice::new(&drawn);
@@ -51,14 +45,8 @@ fn a_url_is_checked_before_an_update_and_one_after_it(rt: HostRuntime) {
     );
 }
 
-static BY_TWO_WORKERS: [&str; 6] = [
-    "sbcheck",
-    "judge",
-    "--workers=2",
-    "--store=s",
-    "--server=h:1",
-    "MALWARE/ANY_PLATFORM/URL",
-];
+const BY_TWO_WORKERS: &str =
+    "sbcheck judge --workers=2 --store=s --server=h:1 MALWARE/ANY_PLATFORM/URL";
 
 #[test]
 fn two_workers_check_beside_each_other(rt: HostRuntime) {
@@ -66,7 +54,7 @@ fn two_workers_check_beside_each_other(rt: HostRuntime) {
         first: Rule::new(Point::Check(0), Point::Check(1)),
         second: Rule::new(Point::Check(1), Point::Check(0)),
     };
-    let words = words(rt.alloc(), &BY_TWO_WORKERS).expect(&rt, "no memory");
+    let words = words(rt.alloc(), BY_TWO_WORKERS).expect(&rt, "no memory");
     let mut own = objects_with(rt.alloc(), &[]).expect(&rt, "no memory");
     let drawn = AtomicU32::new(0);
     let mut dice = CountedDice::new(&drawn);

@@ -3,6 +3,7 @@ ghost use Rattle.std.specs.Prelude.{IsTrue};
 ghost use Rattle.sb_words.specs.CommandLine.{has_plain_names};
 ghost use Rattle.sb_words.specs.Views.{shape_of};
 
+use crate::words::words;
 use sb_model::OutOfMemory;
 use sb_words::{OptionKind, OptionShape, Shape, Words, read_words};
 use std::alloc::Global;
@@ -98,23 +99,11 @@ fn text_of(alloc: Global, shape: &Shape, given: &Words<'_>) -> Result<String, Ou
     Ok(text)
 }
 
-/// The words of a line, which single spaces part. The empty line has none.
-fn words_of(alloc: Global, line: &str) -> Result<Vec<String>, OutOfMemory> {
-    let mut words = Vec::new(alloc);
-    if line.is_empty() {
-        return Ok(words);
-    }
-    for word in line.split(' ') {
-        words.push(String::from_str(alloc, word)?)?;
-    }
-    Ok(words)
-}
-
 /// What a line gives, as text.
 fn read(alloc: Global, shape: &Shape, line: &str) -> Result<String, OutOfMemory>
     requires { IsTrue (has_plain_names (shape_of shape.now)) }
 {
-    let words = words_of(alloc, line)?;
+    let words = words(alloc, line)?;
     match read_words(alloc, shape, words.as_slice())? {
         Some(given) => text_of(alloc, shape, &given),
         None => Ok(String::from_str(alloc, "none")?),
@@ -146,7 +135,7 @@ fn words_give_options_their_values(rt: HostRuntime) {
 
 #[test]
 fn a_name_that_the_words_do_not_give_has_no_value(rt: HostRuntime) {
-    let words = words_of(rt.alloc(), "--store s --rounds 3 --no-digest a").expect(&rt, "memory");
+    let words = words(rt.alloc(), "--store s --rounds 3 --no-digest a").expect(&rt, "memory");
     let Ok(Some(given)) = read_words(rt.alloc(), &OPTIONS, words.as_slice()) else {
         panic!(rt; "refused");
     };

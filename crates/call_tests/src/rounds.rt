@@ -50,18 +50,11 @@ impl<'a> Gate for CountedGate<'a> {
     }
 }
 
-static TWO_ROUNDS: [&str; 6] = [
-    "sbupdate",
-    "run",
-    "--rounds=2",
-    "--store=s",
-    "--server=h:1",
-    "MALWARE/ANY_PLATFORM/URL",
-];
+const TWO_ROUNDS: &str = "sbupdate run --rounds=2 --store=s --server=h:1 MALWARE/ANY_PLATFORM/URL";
 
 #[test]
 fn a_gate_is_passed_before_each_round(rt: HostRuntime) {
-    let words = words(rt.alloc(), &TWO_ROUNDS).expect(&rt, "no memory");
+    let words = words(rt.alloc(), TWO_ROUNDS).expect(&rt, "no memory");
     let mut own = objects_with(rt.alloc(), &[]).expect(&rt, "no memory");
     let drawn = AtomicU32::new(0);
     let gate = CountedGate {

@@ -1,10 +1,14 @@
-use std::alloc::{AllocError, Global};
+use sb_model::OutOfMemory;
+use std::alloc::Global;
 
-/// Words of a command line.
-pub fn words(alloc: Global, texts: &[&str]) -> Result<Vec<String>, AllocError> {
+/// The words of a command line, which single spaces part. The empty line has none.
+pub fn words(alloc: Global, line: &str) -> Result<Vec<String>, OutOfMemory> {
     let mut words = Vec::new(alloc);
-    for text in texts {
-        words.push(String::from_str(alloc, text)?)?;
+    if line.is_empty() {
+        return Ok(words);
+    }
+    for word in line.split(' ') {
+        words.push(String::from_str(alloc, word)?)?;
     }
     Ok(words)
 }
