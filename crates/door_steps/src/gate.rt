@@ -94,19 +94,26 @@ impl<'a> Gate<'a> {
         }
     }
 
-    /// What the door hands out before a moment, or at all where there is none.
-    fn arrive(&mut self, moment: Option<u64>) -> Result<Option<GatheredWire>, Turn> {
+    /// What the door hands out before a moment.
+    fn arrive_before(&mut self, moment: u64) -> Result<Option<GatheredWire>, Turn> {
         let Some(door) = &mut self.door else {
             return Err(Turn::Failed);
         };
-        let arrival = match moment {
-            Some(moment) => door.next_before(Moment(moment)),
-            None => return door.next().map_err(|_| Turn::Failed),
-        };
-        match arrival {
+        match door.next_before(Moment(moment)) {
             Ok(Arrival::Connected(wire)) => Ok(Some(wire)),
             Ok(Arrival::TimedOut) => Ok(None),
             Ok(Arrival::NoMore) | Err(_) => Err(Turn::Failed),
+        }
+    }
+
+    /// What the door hands out, whenever that comes.
+    fn arrive(&mut self) -> Result<Option<GatheredWire>, Turn> {
+        let Some(door) = &mut self.door else {
+            return Err(Turn::Failed);
+        };
+        match door.next() {
+            Ok(next) => Ok(next),
+            Err(_) => Err(Turn::Failed),
         }
     }
 
@@ -119,14 +126,17 @@ impl<'a> Gate<'a> {
         turn
     }
 
+    /// Answers a wire with so many bytes, where its request is what it should be.
+    fn serve_one(&mut self, mut wire: GatheredWire, length: u64) -> Turn {
+        let seen = look(self.rt.alloc(), &mut wire);
+        self.seen = seen;
+        self.give_back(wire, seen, length)
+    }
+
     /// Asks the door until a moment, and answers what comes with so many bytes.
     pub(crate) fn serve_before(&mut self, moment: u64, length: u64) -> Turn {
-        match self.arrive(Some(moment)) {
-            Ok(Some(mut wire)) => {
-                let seen = look(self.rt.alloc(), &mut wire);
-                self.seen = seen;
-                self.give_back(wire, seen, length)
-            }
+        match self.arrive_before(moment) {
+            Ok(Some(wire)) => self.serve_one(wire, length),
             Ok(None) => Turn::Nobody,
             Err(turn) => turn,
         }
@@ -138,21 +148,24 @@ impl<'a> Gate<'a> {
         self.serve_before(moment, length)
     }
 
+    /// Keeps a wire until it is answered.
+    fn keep(&mut self, mut wire: GatheredWire) -> Turn {
+        let seen = look(self.rt.alloc(), &mut wire);
+        self.seen = seen;
+        match self.held.push(Held { wire, seen }) {
+            Ok(()) => seen.turn,
+            Err(_) => Turn::Failed,
+        }
+    }
+
     /// Asks the door, for so many milliseconds or without an end, and keeps what comes.
     pub(crate) fn take(&mut self, millis: Option<u64>) -> Turn {
-        let moment = match millis {
-            Some(millis) => Some(now(self.rt).saturating_add(millis)),
-            None => None,
+        let arrival = match millis {
+            Some(millis) => self.arrive_before(now(self.rt).saturating_add(millis)),
+            None => self.arrive(),
         };
-        match self.arrive(moment) {
-            Ok(Some(mut wire)) => {
-                let seen = look(self.rt.alloc(), &mut wire);
-                self.seen = seen;
-                match self.held.push(Held { wire, seen }) {
-                    Ok(()) => seen.turn,
-                    Err(_) => Turn::Failed,
-                }
-            }
+        match arrival {
+            Ok(Some(wire)) => self.keep(wire),
             Ok(None) => Turn::Nobody,
             Err(turn) => turn,
         }
@@ -160,7 +173,12 @@ impl<'a> Gate<'a> {
 
     /// Where the wire of a number waits for its answer. One whose request was refused has the number 0.
     fn place_of(&self, number: u8) -> Option<usize> {
-        self.held.iter().position(|held| held.seen.number == number)
+        for (place, held) in self.held.iter().enumerate() {
+            if held.seen.number == number {
+                return Some(place);
+            }
+        }
+        None
     }
 
     /// Answers a wire that was kept with so many bytes.
