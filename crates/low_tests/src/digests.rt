@@ -11,5 +11,6 @@ fn a_hash_is_that_of_the_standard(rt: HostRuntime) {
 
 #[test]
 fn a_short_text_is_no_hash(rt: HostRuntime) {
-    assert!(rt; read_hex(&OF_ABC[1..]) == Err(HexFault::Length(63)));
+    let whole = OF_ABC.as_slice();
+    assert!(rt; read_hex(&whole[1..]) == Err(HexFault::Length(63)));
 }
