@@ -197,7 +197,8 @@ def look_at_modules(ran, folder, rows):
         new = {name: size for name, size in found.items() if name not in known}
         if new and now > before:
             total = sum(new.values()) or 1
-            rows += [(name, (now - before) * size / total) for name, size in new.items()]
+            # what was taken before the first module came is the price of loading
+            rows += [(name, (now - before) * size / total) for name, size in new.items()] if known else [("", now)]
             known, before = found, now
         if is_over:
             return
