@@ -1,8 +1,6 @@
 //! Runs that judge on several threads.
 use crate::gates::{Rule, RuledGate};
-use crate::rounds::CountedDice;
-use crate::runs::{objects_with, run};
-use crate::words::words;
+use crate::runs::run_line;
 use sb_outside::Point;
 use std::process::Abort;
 use std::sync::atomic::AtomicU32;
@@ -25,22 +23,20 @@ fn a_url_is_checked_before_an_update_and_one_after_it(rt: HostRuntime) {
         first: Rule::new(Point::Round(1), Point::Check(1)),
         second: Rule::new(Point::Check(1), Point::Published(1)),
     };
-    let words = words(rt.alloc(), BESIDE_AN_UPDATE).expect(&rt, "no memory");
-    let mut own = objects_with(rt.alloc(), &[UPDATE, MATCH]).expect(&rt, "no memory");
     let drawn = AtomicU32::new(0);
-    let mut dice = CountedDice::new(&drawn);
-    let status = run(
+    let ran = run_line(
         &rt,
         rt.alloc(),
-        words.as_slice(),
-        &mut own,
-        &mut dice,
+        BESIDE_AN_UPDATE,
+        &[UPDATE, MATCH],
+        &drawn,
         &gate,
-    );
+    )
+    .expect(&rt, "no memory");
     assert!(rt; gate.was_kept());
-    assert_eq!(rt; status, 20);
+    assert_eq!(rt; ran.status, 20);
     assert!(rt;
-        own.out.bytes()
+        ran.out.bytes()
             == b"round 1 at 1000000 ok\nround 1 MALWARE/ANY_PLATFORM/URL installed 1\nround 1 saved\n1 safe 0 http://bad.example/1\n2 unsafe 1 MALWARE/ANY_PLATFORM/URL http://bad.example/2\nchecked 2: 1 safe, 1 unsafe, 0 undecided, 0 refused\n".as_slice()
     );
 }
@@ -54,22 +50,15 @@ fn two_workers_check_beside_each_other(rt: HostRuntime) {
         first: Rule::new(Point::Check(0), Point::Check(1)),
         second: Rule::new(Point::Check(1), Point::Check(0)),
     };
-    let words = words(rt.alloc(), BY_TWO_WORKERS).expect(&rt, "no memory");
-    let mut own = objects_with(rt.alloc(), &[]).expect(&rt, "no memory");
     let drawn = AtomicU32::new(0);
-    let mut dice = CountedDice::new(&drawn);
-    let status = run(
+    let ran = run_line(&rt, rt.alloc(), BY_TWO_WORKERS, &[], &drawn, &gate).expect(
         &rt,
-        rt.alloc(),
-        words.as_slice(),
-        &mut own,
-        &mut dice,
-        &gate,
+        "no memory",
     );
     assert!(rt; gate.was_kept());
-    assert_eq!(rt; status, 0);
+    assert_eq!(rt; ran.status, 0);
     assert!(rt;
-        own.out.bytes()
+        ran.out.bytes()
             == b"1 safe 0 http://bad.example/1\n2 safe 0 http://bad.example/2\nchecked 2: 2 safe, 0 unsafe, 0 undecided, 0 refused\n".as_slice()
     );
 }

@@ -1,8 +1,7 @@
 //! When a run passes a gate.
 ghost use Rattle.std.specs.Prelude.{None};
 
-use crate::runs::{objects_with, run};
-use crate::words::words;
+use crate::runs::run_line;
 use sb_outside::{Dice, Gate, Point};
 use std::process::Abort;
 use std::sync::atomic::{AtomicU32, Ordering};
@@ -54,24 +53,14 @@ const TWO_ROUNDS: &str = "sbupdate run --rounds=2 --store=s --server=h:1 MALWARE
 
 #[test]
 fn a_gate_is_passed_before_each_round(rt: HostRuntime) {
-    let words = words(rt.alloc(), TWO_ROUNDS).expect(&rt, "no memory");
-    let mut own = objects_with(rt.alloc(), &[]).expect(&rt, "no memory");
     let drawn = AtomicU32::new(0);
     let gate = CountedGate {
         words: &drawn,
         passed: AtomicU32::new(0),
         before: AtomicU32::new(0),
     };
-    let mut dice = CountedDice::new(&drawn);
-    let status = run(
-        &rt,
-        rt.alloc(),
-        words.as_slice(),
-        &mut own,
-        &mut dice,
-        &gate,
-    );
-    assert_eq!(rt; status, 5);
+    let ran = run_line(&rt, rt.alloc(), TWO_ROUNDS, &[], &drawn, &gate).expect(&rt, "no memory");
+    assert_eq!(rt; ran.status, 5);
     assert_eq!(rt; gate.passed.load(Ordering::SeqCst), 2);
     assert_eq!(rt; gate.before.load(Ordering::SeqCst), 2);
 }

@@ -1,11 +1,13 @@
 //! Runs of the client programs over objects in memory.
 use crate::rounds::CountedDice;
+use crate::words::words;
 use memory_objects::{MemoryKeeper, MemorySink, MemorySource, Play, ScriptClock, ScriptLink};
 use sb_client::run_client;
 use sb_model::{Bytes, Moment, Row};
 use sb_outside::Gate;
 use std::alloc::Global;
 use std::sync::Wait;
+use std::sync::atomic::AtomicU32;
 use std::thread::Threads;
 
 const URLS: &[u8] = b"http://bad.example/1\nhttp://bad.example/2\n";
@@ -38,18 +40,18 @@ fn clock(alloc: Global) -> Option<ScriptClock> {
     ScriptClock::new(alloc, readings, 0).ok()
 }
 
-/// What a run reads and writes.
+// What a run reads and writes.
 #[derive(Drop)]
-pub struct Objects {
+struct Objects {
     input: MemorySource,
-    pub out: MemorySink,
+    out: MemorySink,
     keep: MemoryKeeper,
     link: ScriptLink,
     clock: ScriptClock,
 }
 
-/// The two URLs, no store, and a link with a session for each of these responses.
-pub fn objects_with(alloc: Global, responses: &[&[u8]]) -> Option<Objects> {
+// The two URLs, no store, and a link with a session for each of these responses.
+fn objects_with(alloc: Global, responses: &[&[u8]]) -> Option<Objects> {
     Some(Objects {
         input: source(alloc)?,
         out: MemorySink::new(alloc, 1_000, Row::new(alloc)).ok()?,
@@ -59,16 +61,25 @@ pub fn objects_with(alloc: Global, responses: &[&[u8]]) -> Option<Objects> {
     })
 }
 
-/// The exit status of a run with these words.
-pub fn run<R: Threads + Wait + Sync, G: Gate + Sync>(
+/// What a run came to: its exit status, and what it printed.
+#[derive(Drop)]
+pub struct Ran {
+    pub status: u8,
+    pub out: MemorySink,
+}
+
+// What a run with these words and objects comes to.
+fn run<R: Threads + Wait + Sync, G: Gate + Sync>(
     rt: &R,
     alloc: Global,
     words: &[String],
-    own: &mut Objects,
-    dice: &mut CountedDice<'_>,
+    own: Objects,
+    drawn: &AtomicU32,
     gate: &G,
-) -> u8 {
-    run_client(
+) -> Ran {
+    let mut own = own;
+    let mut dice = CountedDice::new(drawn);
+    let status = run_client(
         rt,
         alloc,
         words,
@@ -77,7 +88,25 @@ pub fn run<R: Threads + Wait + Sync, G: Gate + Sync>(
         &mut own.keep,
         &mut own.link,
         &mut own.clock,
-        dice,
+        &mut dice,
         gate,
-    )
+    );
+    Ran {
+        status,
+        out: own.out,
+    }
+}
+
+/// What a run with the words of a line comes to, with the two URLs, no store, and a session for each of these responses.
+pub fn run_line<R: Threads + Wait + Sync, G: Gate + Sync>(
+    rt: &R,
+    alloc: Global,
+    line: &str,
+    responses: &[&[u8]],
+    drawn: &AtomicU32,
+    gate: &G,
+) -> Option<Ran> {
+    let words = words(alloc, line).ok()?;
+    let own = objects_with(alloc, responses)?;
+    Some(run(rt, alloc, words.as_slice(), own, drawn, gate))
 }
