@@ -279,9 +279,17 @@ class Run:
         words = self.rest(number).decode().split(" ")
         return ["" if word == '""' else word for word in words]
 
+    def has_known_store(self):
+        """Whether it is told what the keeper keeps at first: by the run itself, or by the one before, if that is known or says it."""
+        if not self.earlier or self.find(b"store", (self.own,)) is not None:
+            return True
+        if self.earlier.find(b"kept", (self.earlier.own, self.earlier.group)) is not None or self.earlier.every(b"handed"):
+            return True
+        return self.earlier.is_known()
+
     def is_known(self):
         fails = any(re.match(rb"[a-z]+-fails ", self.book.lines[number]) for number in self.own)
-        return self.words()[:2] not in LEFT_OUT and not fails
+        return self.words()[:2] not in LEFT_OUT and not fails and self.has_known_store()
 
     def text(self, name, cut):
         number = self.find(name, (self.own, self.group))
