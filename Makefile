@@ -21,7 +21,8 @@ all:
 test:
 	.ci/run
 
-# The repository's own checks alone, without a proof: wrong bodies, what the documents name, and the man pages.
+# The repository's own checks alone, without a proof: wrong bodies, rules for crates, what the documents name, and the man
+# pages.
 check:
 	tools/check.sh
 
