@@ -7,8 +7,8 @@ ghost use Rattle.update_messages.specs.Answer.{version_named, update_to, update_
 ghost use Rattle.delta_server.specs.Served.{IsOlder, IsServed};
 ghost use Rattle.delta_server.specs.Tokens.{server_naming, server_token};
 
-use crate::served::{Held, Served, held_at, later_prefixes, older_prefixes, served_list};
-use crate::targets::{Limits, target_from};
+use crate::served::{Served, older_prefixes, served_list, set_at};
+use crate::targets::{Limits, reached_from, target_from};
 use crate::tokens::{held_version, state_token};
 use crate::updates::{Sent, full_update, partial_update, unchanged_update};
 use list_versions::History;
@@ -73,7 +73,7 @@ fn whole_answer(
         (target_version history.now.versions asked.now.name None asked.now.max_update asked.now.max_database)) }
 {
     let list = asked.name;
-    let nothing = held_at(alloc, history, list, 0)?;
+    let nothing = PrefixSet::empty(alloc);
     let version = target_from(
         alloc,
         history,
@@ -113,27 +113,25 @@ fn partial_answer(
         let token = state_token(history.epoch(), list, held);
         return unchanged_update(alloc, asked, served.digest, token);
     }
-    let before = held_at(alloc, history, list, held)?;
-    let version = target_from(
+    let before = set_at(alloc, history, list, held)?;
+    let reached = reached_from(
         alloc,
         history,
         list,
         served,
-        Some(held),
+        held,
         &before,
         limits_of(asked),
     )?;
-    let Held { folding, set } = before;
-    let older = later_prefixes(alloc, history, list, folding, held, version)?;
     let sent = sent_of(
         history,
         list,
-        version,
+        reached.version,
         served.set,
         served.digest,
-        older.as_ref(),
+        reached.older.as_ref(),
     );
-    partial_update(alloc, asked, served.size, &set, &sent)
+    partial_update(alloc, asked, served.size, &before, &sent)
 }
 
 // The version that the asked state names, where it names one.

@@ -34,6 +34,23 @@ pub(crate) fn served_list(history: &History, list: ListName) -> Option<Served<'_
     })
 }
 
+/// The prefixes of a declared list at a version.
+pub(crate) fn set_at(
+    alloc: Global,
+    history: &History,
+    list: ListName,
+    version: u64,
+) -> Result<PrefixSet, OutOfMemory>
+    requires declared { declares history.now.versions list ≡ true }
+    requires within { version ≤ version_count history.now.versions }
+    ensures { IfOk result (λ set. set ≡ prefixes_at history.now.versions list version) }
+{
+    let Some(set) = history.prefixes(alloc, list, version)? else {
+        unreachable!()
+    };
+    Ok(set)
+}
+
 /// The prefixes of a declared list at a version; `None` where it is the newest, whose set is served.
 pub(crate) fn older_prefixes(
     alloc: Global,
@@ -48,33 +65,8 @@ pub(crate) fn older_prefixes(
     if version == history.len() {
         return Ok(None);
     }
-    let Some(set) = history.prefixes(alloc, list, version)? else {
-        unreachable!()
-    };
+    let set = set_at(alloc, history, list, version)?;
     Ok(Some(set))
-}
-
-/// The full hashes of a list at a version that a client holds, and their prefixes.
-#[derive(Drop)]
-pub(crate) struct Held {
-    pub(crate) folding: Folding,
-    pub(crate) set: PrefixSet,
-}
-
-/// A version of a list that a client holds.
-pub(crate) fn held_at(
-    alloc: Global,
-    history: &History,
-    list: ListName,
-    version: u64,
-) -> Result<Held, OutOfMemory>
-    requires { version ≤ version_count history.now.versions }
-    ensures folding { IfOk result (λ held. IsMapOf held.folding (sizes_at history.now.versions list version)) }
-    ensures set { IfOk result (λ held. held.set ≡ prefixes_at history.now.versions list version) }
-{
-    let folding = history.folding(alloc, list, version)?;
-    let set = folding.prefixes(alloc)?;
-    Ok(Held { folding, set })
 }
 
 /// The prefixes of a list at a version, where its full hashes at an earlier one were folded; `None`

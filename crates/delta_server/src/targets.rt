@@ -1,15 +1,15 @@
-ghost use Rattle.std.specs.Prelude.{◌≡◌, ℕ, ◌≤◌, List, true, IfOk, IfSome, IsTrue};
+ghost use Rattle.std.specs.Prelude.{◌≡◌, ℕ, ◌≤◌, true, Option, Some, IfOk, IfSome, IsTrue};
 ghost use Rattle.std.specs.Option.{unwrap_or};
-ghost use Rattle.sb_model.specs.History.{declares, version_count, sizes_at, prefixes_at};
+ghost use Rattle.sb_model.specs.declared.names.ListName.{ListName as Name};
+ghost use Rattle.sb_model.specs.History.{History as Versions, declares, version_count, sizes_at, prefixes_at};
 ghost use Rattle.sb_model.specs.Target.{target_version};
 ghost use Rattle.list_versions.specs.HashSizes.{IsMapOf};
-ghost use Rattle.delta_server.specs.Served.{IsServed};
-ghost use Rattle.delta_server.specs.Walk.{may_take};
+ghost use Rattle.delta_server.specs.Served.{IsOlder, IsServed};
 
-use crate::served::{Held, Served, held_at, served_list};
+use crate::served::{Served, later_prefixes, served_list, set_at};
 use crate::version::is_within;
 use crate::walk::target_of;
-use list_versions::History;
+use list_versions::{Folding, History};
 use prefix_set::{PrefixSet, sets_go_by_members};
 use sb_model::{ListName, OutOfMemory, targets_are_the_greatest};
 use std::alloc::Global;
@@ -24,32 +24,45 @@ pub(crate) struct Limits {
     pub(crate) database: u32,
 }
 
-// Whether one who holds a set may be brought to another, told by their sizes alone: they differ in
-// no more prefixes than they have together.
-fn may_surely_take(held: &PrefixSet, newer: &PrefixSet, limits: Limits) -> bool
-    ensures { IsTrue result → may_take held.now limits.update limits.database newer.now ≡ true }
-{
-    sent_numbers_rise();
-    let most = u64::from(held.len()) + u64::from(newer.len());
-    is_within(limits.update, most) && is_within(limits.database, u64::from(newer.len()))
+/// The version of a list that a client is brought to, and its prefixes; `None` if it is the newest,
+/// whose set is served.
+#[derive(Drop)]
+pub(crate) struct Reached {
+    pub(crate) version: u64,
+    pub(crate) older: Option<PrefixSet>,
 }
 
-/// The version of a list that a client is brought to, who holds a version of it or none: what was
-/// folded of the version that it holds, or of version 0. It walks through the changes only where the
-/// limits may keep the client from the newest version.
-pub(crate) fn target_from(
+// Whether one who holds a set is surely brought to the newest, told by the sizes of the two alone:
+// they differ in no more prefixes than they have together. One who holds no version holds the set
+// of version 0.
+fn surely_takes_newest(held: &PrefixSet, newest: &PrefixSet, limits: Limits) -> bool
+    ensures { IsTrue result → (versions : Versions) (list : Name) (from : Option ℕ)
+        → IfSome from (λ version. version ≤ version_count versions)
+        → held.now ≡ prefixes_at versions list (unwrap_or from 0)
+        → newest.now ≡ prefixes_at versions list (version_count versions)
+        → target_version versions list from limits.update limits.database ≡ version_count versions }
+{
+    sent_numbers_rise();
+    targets_are_the_greatest();
+    let most = u64::from(held.len()) + u64::from(newest.len());
+    is_within(limits.update, most) && is_within(limits.database, u64::from(newest.len()))
+}
+
+// The version of a list that a client is brought to, told by a walk through the changes after the
+// version that it holds, or after version 0. `held` is the set of that version, and its full hashes
+// were folded.
+fn walked_target(
     alloc: Global,
     history: &History,
     list: ListName,
-    served: &Served<'_>,
     from: Option<u64>,
-    before: &Held,
+    held: &PrefixSet,
+    folding: &Folding,
     limits: Limits,
 ) -> Result<u64, OutOfMemory>
-    requires served { IsServed served.now history.now.versions list }
     requires within { IfSome from (λ version. version ≤ version_count history.now.versions) }
-    requires folding { IsMapOf before.now.folding (sizes_at history.now.versions list (unwrap_or from 0)) }
-    requires held { before.now.set ≡ prefixes_at history.now.versions list (unwrap_or from 0) }
+    requires folding { IsMapOf folding.now (sizes_at history.now.versions list (unwrap_or from 0)) }
+    requires held { held.now ≡ prefixes_at history.now.versions list (unwrap_or from 0) }
     ensures target { IfOk result (λ version. version
         ≡ target_version history.now.versions list from limits.update limits.database) }
     ensures within { IfOk result (λ version. version ≤ version_count history.now.versions) }
@@ -57,22 +70,93 @@ pub(crate) fn target_from(
 {
     sets_go_by_members();
     targets_are_the_greatest();
-    if may_surely_take(&before.set, served.set, limits) {
-        return Ok(history.len());
-    }
     // looked at for the prover: what holds of each history that was read
     let _ = history.len();
-    let entries = before.folding.entries(alloc)?;
+    let entries = folding.entries(alloc)?;
     target_of(
         alloc,
         list,
         from,
-        &before.set,
+        held,
         &entries,
         history.changes(),
         limits.update,
         limits.database,
     )
+}
+
+/// The version of a list that a client is brought to, who holds a version of it or none. `held` is
+/// the set of that version, or of version 0. Full hashes are folded, and changes walked through,
+/// only if the limits may keep the client from the newest version.
+pub(crate) fn target_from(
+    alloc: Global,
+    history: &History,
+    list: ListName,
+    served: &Served<'_>,
+    from: Option<u64>,
+    held: &PrefixSet,
+    limits: Limits,
+) -> Result<u64, OutOfMemory>
+    requires served { IsServed served.now history.now.versions list }
+    requires within { IfSome from (λ version. version ≤ version_count history.now.versions) }
+    requires held { held.now ≡ prefixes_at history.now.versions list (unwrap_or from 0) }
+    ensures target { IfOk result (λ version. version
+        ≡ target_version history.now.versions list from limits.update limits.database) }
+    ensures within { IfOk result (λ version. version ≤ version_count history.now.versions) }
+{
+    if surely_takes_newest(held, served.set, limits) {
+        return Ok(history.len());
+    }
+    let folding = history.folding(alloc, list, from.unwrap_or(0))?;
+    walked_target(alloc, history, list, from, held, &folding, limits)
+}
+
+/// As `target_from`, for one who holds a version, with the set of the version that it is brought
+/// to. If full hashes are folded, that set is made of the same map.
+pub(crate) fn reached_from(
+    alloc: Global,
+    history: &History,
+    list: ListName,
+    served: &Served<'_>,
+    from: u64,
+    held: &PrefixSet,
+    limits: Limits,
+) -> Result<Reached, OutOfMemory>
+    requires served { IsServed served.now history.now.versions list }
+    requires within { from ≤ version_count history.now.versions }
+    requires held { held.now ≡ prefixes_at history.now.versions list from }
+    ensures target { IfOk result (λ reached. reached.version
+        ≡ target_version history.now.versions list (Some from) limits.update limits.database) }
+    ensures older { IfOk result (λ reached.
+        IsOlder history.now.versions list reached.version reached.older) }
+{
+    if surely_takes_newest(held, served.set, limits) {
+        return Ok(Reached {
+            version: history.len(),
+            older: None,
+        });
+    }
+    let folding = history.folding(alloc, list, from)?;
+    let version = walked_target(alloc, history, list, Some(from), held, &folding, limits)?;
+    let older = later_prefixes(alloc, history, list, folding, from, version)?;
+    Ok(Reached { version, older })
+}
+
+// The set of a declared list that a client holds, who holds a version of it or none.
+fn held_set(
+    alloc: Global,
+    history: &History,
+    list: ListName,
+    from: Option<u64>,
+) -> Result<PrefixSet, OutOfMemory>
+    requires declared { declares history.now.versions list ≡ true }
+    requires within { IfSome from (λ version. version ≤ version_count history.now.versions) }
+    ensures { IfOk result (λ set. set ≡ prefixes_at history.now.versions list (unwrap_or from 0)) }
+{
+    match from {
+        None => Ok(PrefixSet::empty(alloc)),
+        Some(version) => set_at(alloc, history, list, version),
+    }
 }
 
 /// The version of a declared list that a client is brought to, who holds a version of it or none:
@@ -94,7 +178,7 @@ pub fn target(
     let Some(served) = served_list(history, list) else {
         unreachable!()
     };
-    let held = held_at(alloc, history, list, from.unwrap_or(0))?;
+    let held = held_set(alloc, history, list, from)?;
     let limits = Limits {
         update: max_update,
         database: max_database,

@@ -1,4 +1,4 @@
-use Rattle.std.proofs.Common.{◌≡◌, ◌≤◌, ◌∙◌, List, [], Option, refl, sym, subst, ℕ, arith}
+use Rattle.std.proofs.Common.{◌≡◌, ◌≤◌, ◌∙◌, List, [], Option, sym, subst, ℕ}
 use Rattle.std.specs.Option.{unwrap_or}
 use Rattle.std.specs.Prelude.{IfSome}
 use Rattle.std.proofs.lemmas.Result.{IfOk-weaker}
@@ -10,11 +10,10 @@ use Rattle.sb_model.specs.Target.{target_version}
 use Rattle.list_versions.specs.HashSizes.{HashSizes, IsMapOf}
 use Rattle.delta_server.specs.Counts.{AreApart}
 use Rattle.delta_server.specs.Walk.{HaveSame, entries_after}
-use Rattle.delta_server.proofs.AnswerFacts.{reaches_newest}
 use Rattle.delta_server.proofs.CountFacts.{SetLaws}
 use Rattle.delta_server.proofs.SameFacts.{apart_of, folded_same, published_same, sized_alike}
-use Rattle.delta_server.proofs.TargetFacts.{goes_on, held_is}
-use Rattle.delta_server.proofs.targets.target_from.Goals as goal
+use Rattle.delta_server.proofs.TargetFacts.{goes_on}
+use Rattle.delta_server.proofs.targets.walked_target.Goals as goal
 
 -- what was folded, in whatever order
 module _ (versions : History) (list : ListName) (from : Option ℕ) (folding : HashSizes) (entries : List Added) where
@@ -28,7 +27,7 @@ pub target_of-requires-clause-held : goal.target_of-requires-clause-held
 target_of-requires-clause-held c =
     let laws : SetLaws = record { members = c.sets_go_by_members.ensures.members; same = c.sets_go_by_members.ensures.same } in
     let versions : History = c.args.history.now.versions in
-    let folding : HashSizes = c.args.before.now.folding in
+    let folding : HashSizes = c.args.folding.now in
     let entries : List Added = c.deref.result.now in
     let listed = subst (IsMapOf folding) (sym c.deref.ensures.value) c.in_ok-entries.ensures.map in
     let same = alike versions c.args.list c.args.from folding entries listed c.requires.folding in
@@ -41,31 +40,20 @@ target_of-requires-clause-apart c =
 pub target_of-requires-clause-sizes : goal.target_of-requires-clause-sizes
 target_of-requires-clause-sizes c =
     let versions : History = c.args.history.now.versions in
-    let folding : HashSizes = c.args.before.now.folding in
+    let folding : HashSizes = c.args.folding.now in
     let entries : List Added = c.deref.result.now in
     let listed = subst (IsMapOf folding) (sym c.deref.ensures.value) c.in_ok-entries.ensures.map in
-    sized_alike versions c.args.list (unwrap_or c.args.from 0) entries c.len-2.ensures.well_formed
+    sized_alike versions c.args.list (unwrap_or c.args.from 0) entries c.len.ensures.well_formed
     (alike versions c.args.list c.args.from folding entries listed c.requires.folding)
 
 pub target_of-requires-clause-same : goal.target_of-requires-clause-same
 target_of-requires-clause-same c =
     let versions : History = c.args.history.now.versions in
-    let folding : HashSizes = c.args.before.now.folding in
+    let folding : HashSizes = c.args.folding.now in
     let entries : List Added = c.deref.result.now in
     let listed = subst (IsMapOf folding) (sym c.deref.ensures.value) c.in_ok-entries.ensures.map in
     subst (λ (changes : List Change). HaveSame entries (entries_after c.args.list [] changes (unwrap_or c.args.from 0))) (sym c.changes.ensures)
     (alike versions c.args.list c.args.from folding entries listed c.requires.folding)
-
-pub returns-then-may_surely_take-clause-target : goal.returns-then-may_surely_take-clause-target
-returns-then-may_surely_take-clause-target c =
-    let versions : History = c.args.history.now.versions in
-    let target : ℕ = target_version versions c.args.list c.args.from c.args.limits.update c.args.limits.database in
-    let reach = reaches_newest versions c.args.list c.args.limits.update c.args.limits.database c.args.from c.args.before.now.set c.args.served.now.set.now
-    c.requires.within (c.requires.held ∙ sym (held_is c.args.list c.args.from versions.changes (unwrap_or c.args.from 0) refl)) c.requires.served.set (c.may_surely_take.ensures c.if-may_surely_take.true) in
-    let up : version_count versions ≤ target =
-    c.targets_are_the_greatest.ensures.greatest versions c.args.list c.args.from c.args.limits.update c.args.limits.database (version_count versions) (omega arith) reach in
-    let down : target ≤ version_count versions = c.targets_are_the_greatest.ensures.last versions c.args.list c.args.from c.args.limits.update c.args.limits.database in
-    omega (arith, up, down, c.len.ensures.count)
 
 pub returns-clause-within : goal.returns-clause-within
 returns-clause-within c =
@@ -77,10 +65,6 @@ returns-clause-within c =
     (λ (version : ℕ). version ≤ version_count versions)
     (λ version is. subst (λ v. v ≤ version_count versions) (sym (is versions (sym c.changes.ensures))) down)
     c.target_of.ensures
-
-pub returns-then-may_surely_take-clause-onward : goal.returns-then-may_surely_take-clause-onward
-returns-then-may_surely_take-clause-onward c =
-    subst (λ (n : ℕ). IfSome c.args.from (λ (held : ℕ). held ≤ n)) (sym c.len.ensures.count) c.requires.within
 
 pub returns-clause-onward : goal.returns-clause-onward
 returns-clause-onward c =
