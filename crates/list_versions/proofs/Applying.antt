@@ -1,7 +1,8 @@
 -- Lists to which a change is applied.
-use Rattle.std.proofs.Common.{◌≡◌, ℕ, suc, zero, ◌+◌, ◌^◌, ◌<◌, ◌≤◌, List, [], ◌∷◌, Bool, true, false, cond, length, get_or, set, refl, sym, ap, ◌∙◌, subst, arith, fold, Option, below_more, get_or-set_other, get_or-set_same, ◌≢◌, drop, add-one, Some}
+use Rattle.std.proofs.Common.{◌≡◌, ℕ, suc, zero, ◌+◌, ◌^◌, ◌<◌, ◌≤◌, List, [], ◌∷◌, Bool, true, false, cond, length, get_or, set, refl, sym, ap, ◌∙◌, subst, arith, fold, Option, below_more, get_or-set_other, get_or-set_same, ◌≢◌, drop, add-one, Some, inl, inr}
 use Rattle.std.specs.Prelude.{All, find}
 use Rattle.std.proofs.Math.Seq.{drop-cons}
+use Rattle.std.proofs.lemmas.Bool.{cases_lt}
 use Rattle.sb_model.specs.declared.history.Added.{Added}
 use Rattle.sb_model.specs.declared.history.Change.{Change}
 use Rattle.sb_model.specs.declared.names.ListName.{ListName}
@@ -48,6 +49,25 @@ applied_more change sizes lists first i v d lt lt' same name ok small few all be
     let P : ListName → Type 0 = λ n. Holds v.live (after_change n (sizes n) change) in
     subst P (sym name) (ok (sizes (get_or lists i d).name) (small (get_or lists i d).name) few held')))
     k
+
+-- what holds of the lists that were written, and of one more
+pub below_set : (P : Listed → Listed → Type 0) (lists first : List Listed) (i : ℕ) (v d : Listed) → i < length lists → ((k : ℕ) (e : Listed) → i ≤ k → get_or lists k e ≡ get_or first k e)
+    → P (get_or lists i d) v → ((k : ℕ) (e : Listed) → k < i → P (get_or first k e) (get_or lists k e))
+    → (k : ℕ) (e : Listed) → k < i + 1 → P (get_or first k e) (get_or (set lists i v) k e)
+below_set P lists first i v d lt same now before k e =
+    below_more (λ (j : ℕ). P (get_or first j e) (get_or (set lists i v) j e)) i
+    (λ j h. let ne : j ≢ i = omega arith in rw get_or-set_other (before j e h))
+    (rw get_or-set_same (subst (λ (l : Listed). P l v) (same_item lists i d e lt ∙ same i e (omega arith)) now))
+    k
+
+-- the same where the others are as they were
+pub around_set : (P : Listed → Listed → Type 0) (lists first : List Listed) (i : ℕ) (v d : Listed) → ((l : Listed) → P l l) → i < length lists
+    → ((k : ℕ) (e : Listed) → i ≤ k → get_or lists k e ≡ get_or first k e) → P (get_or lists i d) v
+    → ((k : ℕ) (e : Listed) → k < i → P (get_or first k e) (get_or lists k e)) → (k : ℕ) (e : Listed) → P (get_or first k e) (get_or (set lists i v) k e)
+around_set P lists first i v d own lt same now before k e = elim (cases_lt k (i + 1)) [
+  | inl below ↦ below_set P lists first i v d lt same now before k e below
+  | inr above ↦ (let ne : k ≢ i = omega arith in rw get_or-set_other (subst (λ (l : Listed). P (get_or first k e) l) (sym (same k e (omega (arith, above)))) (own (get_or first k e))))
+]
 
 cond_true : (b : Bool) (x y : List Added) → b ≡ true → cond b x y ≡ x
 cond_true true x y h = refl

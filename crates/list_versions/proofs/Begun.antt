@@ -1,13 +1,15 @@
 -- Full hashes that begin with a prefix.
-use Rattle.std.proofs.Common.{◌≡◌, ℕ, zero, suc, ◌+◌, ◌<◌, ◌≤◌, List, [], ◌∷◌, ◌++◌, length, take, map, get_or, refl, sym, ap, ◌∙◌, Bool, true, false, cond, Some, Result, Ok, Err, IfOk}
+use Rattle.std.proofs.Common.{◌≡◌, ℕ, zero, suc, ◌+◌, ◌<◌, ◌≤◌, List, [], ◌∷◌, ◌++◌, length, take, map, get_or, refl, sym, ap, subst, ◌∙◌, Bool, true, false, cond, Some, Result, Ok, Err, IfOk}
 use Rattle.std.specs.Prelude.{All, filter, slice_get}
 use Rattle.std.specs.Str.{bytes_eq}
 use Rattle.std.proofs.lemmas.List.{take_more, map-append, take-take}
-use Rattle.std.proofs.lemmas.List.Elements.{filter-append, All-filter, All-map}
+use Rattle.std.proofs.lemmas.List.Elements.{filter-append, All-filter, All-map, All-push}
 use Rattle.hash_prefixes.specs.declared.hashes.FullHash.{FullHash}
 use Rattle.sb_model.specs.declared.history.Added.{Added}
 use Rattle.sb_model.specs.Prefixes.{set_of}
+use Rattle.list_versions.specs.Buckets.{added_of}
 use Rattle.list_versions.specs.Limits.{has_head}
+use Rattle.list_versions.specs.declared.bucket.Standing.{Standing}
 use Rattle.list_versions.specs.Live.{Holds}
 use Rattle.list_versions.specs.Lookup.{begins}
 use Rattle.list_versions.specs.declared.live.Live.{Live}
@@ -20,6 +22,24 @@ begun_more prefix bucket i d old new lt before e =
     ∙ sym (filter-append (begins prefix) (map (λ (entry : Added). entry.hash) (take i bucket)) ((get_or bucket i d).hash ∷ []))
     ∙ ap (filter (begins prefix)) (sym (map-append {B = List ℕ} (λ (entry : Added). entry.hash) (take i bucket) (get_or bucket i d ∷ [])))
     ∙ ap (λ es. filter (begins prefix) (map (λ (entry : Added). entry.hash) es)) (sym (take_more bucket i d lt))
+
+lines_next : (bucket : List Standing) (i : ℕ) (d : Standing) → i < length bucket → added_of (take (i + 1) bucket) ≡ added_of (take i bucket) ++ (get_or bucket i d).added ∷ []
+lines_next bucket i d lt = ap added_of (take_more bucket i d lt) ∙ map-append {B = Added} (λ (l : Standing). l.added) (take i bucket) (get_or bucket i d ∷ [])
+
+pub begun_lines : (prefix : List ℕ) (bucket : List Standing) (i : ℕ) (d : Standing) (old new : List (List ℕ)) → i < length bucket
+    → old ≡ filter (begins prefix) (map (λ (entry : Added). entry.hash) (added_of (take i bucket)))
+    → new ≡ old ++ filter (begins prefix) ((get_or bucket i d).added.hash ∷ []) → new ≡ filter (begins prefix) (map (λ (entry : Added). entry.hash) (added_of (take (i + 1) bucket)))
+begun_lines prefix bucket i d old new lt before e =
+    let line = get_or bucket i d in
+    e ∙ ap (λ hs. hs ++ filter (begins prefix) (line.added.hash ∷ [])) before
+    ∙ sym (filter-append (begins prefix) (map (λ (entry : Added). entry.hash) (added_of (take i bucket))) (line.added.hash ∷ []))
+    ∙ ap (filter (begins prefix)) (sym (map-append {B = List ℕ} (λ (entry : Added). entry.hash) (added_of (take i bucket)) (line.added ∷ [])))
+    ∙ ap (λ es. filter (begins prefix) (map (λ (entry : Added). entry.hash) es)) (sym (lines_next bucket i d lt))
+
+pub whole_lines : (bucket : List Standing) (i : ℕ) (d : Standing) → i < length bucket → All (λ (entry : Added). length entry.hash ≡ 32) (added_of (take i bucket))
+    → length (get_or bucket i d).added.hash ≡ 32 → All (λ (entry : Added). length entry.hash ≡ 32) (added_of (take (i + 1) bucket))
+whole_lines bucket i d lt h own =
+    subst (All (λ (entry : Added). length entry.hash ≡ 32)) (sym (lines_next bucket i d lt)) (All-push (λ (entry : Added). length entry.hash ≡ 32) (added_of (take i bucket)) (get_or bucket i d).added h own)
 
 pub take_next : (set : List (List ℕ)) (i : ℕ) (x : List ℕ) → slice_get set i ≡ Some x → take (suc i) set ≡ take i set ++ x ∷ []
 take_next [] i x h = absurd (cc)

@@ -5,7 +5,7 @@ use Rattle.std.specs.List.{list_any}
 use Rattle.std.proofs.lemmas.Bool.{cases_lt}
 use Rattle.std.proofs.lemmas.Bool.Decides.{nat_tests}
 use Rattle.std.proofs.lemmas.List.{take-append-le, take_all, length-map}
-use Rattle.std.proofs.lemmas.List.Elements.{All-push, All-weaker, All-head, All-tail}
+use Rattle.std.proofs.lemmas.List.Elements.{All-push, All-weaker, All-head, All-tail, All-take}
 use Rattle.std.proofs.lemmas.List.Sums.{sum_by-append}
 use Rattle.sb_model.specs.declared.history.Added.{Added}
 use Rattle.sb_model.specs.declared.history.Change.{Change}
@@ -15,10 +15,11 @@ use Rattle.sb_model.specs.Names.{same_name}
 use Rattle.list_versions.specs.Lines.{IsAdded}
 use Rattle.list_versions.specs.Limits.{IsWithin, WithinLimits, limit_fault, is_crowded, prefix_bytes, most_hashes, most_prefix_bytes, hash_lines, most_lists}
 use Rattle.list_versions.specs.Journal.{Reading, settled, is_complete, if_within_limits, with_change, change_of, next_line, lines_begun, after_list}
-use Rattle.list_versions.specs.Checkpoints.{HasPoints}
-use Rattle.list_versions.specs.declared.checkpoints.Checkpoint.{Checkpoint}
 use Rattle.list_versions.specs.Draft.{declared_of, history_of, kept_of_draft, IsDraft, begun_of}
-use Rattle.list_versions.specs.Live.{Holds}
+use Rattle.list_versions.specs.Ends.{adds_if, adds_of}
+use Rattle.list_versions.specs.Folding.{after_changes}
+use Rattle.list_versions.specs.Live.{Holds, HasPlaced, IsPlaced}
+use Rattle.list_versions.proofs.Versions.{ends_nothing}
 use Rattle.list_versions.specs.declared.draft.Begin.{Begin}
 use Rattle.list_versions.specs.declared.draft.Draft.{Draft}
 use Rattle.list_versions.specs.declared.draft.Listed.{Listed}
@@ -102,8 +103,8 @@ pub draft_completed : (old new : Draft) (change : Change) (n : ℕ) → IsDraft 
     → All (IsApplied change (λ name. sizes_at (history_of old) name (length old.changes.items))) new.lists.items
     → limit_fault n (after_change change.list (sizes_at (history_of old) change.list (length old.changes.items)) change) ≡ None
     → length old.changes.items < 65536 → old.hashes + (length change.adds + length change.removes) ≤ 2097152 → declares (history_of old) change.list ≡ true
-    → All IsAdded change.adds → All (λ (hash : List ℕ). length hash ≡ 32) change.removes → HasPoints new.points.items (old.changes.items ++ change ∷ []) → IsDraft new
-draft_completed old new change n draft epoch declared changes hashes applied none few count named adds removes points =
+    → All IsAdded change.adds → All (λ (hash : List ℕ). length hash ≡ 32) change.removes → All (λ (list : Listed). HasPlaced list.name (old.changes.items ++ change ∷ []) list.live) new.lists.items → IsDraft new
+draft_completed old new change n draft epoch declared changes hashes applied none few count named adds removes placed =
     let history = history_completed old new change epoch declared changes in
     let long = ap length changes ∙ length-append old.changes.items (change ∷ []) in
     record {
@@ -126,7 +127,7 @@ draft_completed old new change n draft epoch declared changes hashes applied non
         removes = subst (λ cs. All (λ (c : Change). All (λ (hash : List ℕ). length hash ≡ 32) c.removes) cs) (sym changes)
             (All-push (λ (c : Change). All (λ (hash : List ℕ). length hash ≡ 32) c.removes) old.changes.items change draft.well_formed.removes removes);
       };
-      points = subst (λ (cs : List Change). HasPoints new.points.items cs) (sym changes) points;
+      placed = subst (λ (cs : List Change). All (λ (list : Listed). HasPlaced list.name cs list.live) new.lists.items) (sym changes) placed;
     }
 
 -- ---- what the last line does
@@ -167,7 +168,7 @@ pub no_change : (name : ListName) (change : Change) (b : Bool) → same_name cha
 no_change name change true e h = absurd (cc)
 no_change name change false e h = rw e refl
 
-no_changes : (name : ListName) (changes : List Change) → All (λ (c : Change). same_name c.list name ≡ false) changes → fold (after_change name) [] changes ≡ []
+pub no_changes : (name : ListName) (changes : List Change) → All (λ (c : Change). same_name c.list name ≡ false) changes → fold (after_change name) [] changes ≡ []
 no_changes name [] h = refl
 no_changes name (change ∷ changes) h =
     ap (λ es. fold (after_change name) es changes) (no_change name change false (All-head (λ (c : Change). same_name c.list name ≡ false) change changes h) refl)
@@ -182,13 +183,34 @@ no_sizes draft name h absent =
     ap (fold (after_change name) []) (take_all (length draft.changes.items) draft.changes.items (omega arith))
     ∙ no_changes name draft.changes.items (All-weaker (λ (c : Change). declares (history_of draft) c.list ≡ true) (λ (c : Change). same_name c.list name ≡ false) (λ c k. other_name (history_of draft) name c.list _ refl absent k) draft.changes.items h.declared)
 
+others_of : (draft : Draft) (name : ListName) → IsDraft draft → declares (history_of draft) name ≡ false → All (λ (c : Change). same_name c.list name ≡ false) draft.changes.items
+others_of draft name h absent =
+    All-weaker (λ (c : Change). declares (history_of draft) c.list ≡ true) (λ (c : Change). same_name c.list name ≡ false) (λ c k. other_name (history_of draft) name c.list _ refl absent k) draft.changes.items h.declared
+
+pub no_sizes_at : (draft : Draft) (name : ListName) → IsDraft draft → declares (history_of draft) name ≡ false → (version : ℕ) → after_changes name (take version draft.changes.items) ≡ []
+no_sizes_at draft name h absent version =
+    no_changes name (take version draft.changes.items) (All-take (λ (c : Change). same_name c.list name ≡ false) version draft.changes.items (others_of draft name h absent))
+
+no_add : (name : ListName) (change : Change) (b : Bool) → same_name change.list name ≡ b → b ≡ false → adds_if b change.adds ≡ []
+no_add name change true e h = absurd (cc)
+no_add name change false e h = refl
+
+none_added : (name : ListName) (changes : List Change) → All (λ (c : Change). same_name c.list name ≡ false) changes → adds_of name changes ≡ []
+none_added name [] h = refl
+none_added name (change ∷ changes) h =
+    ap (λ (es : List Added). es ++ adds_of name changes) (no_add name change (same_name change.list name) refl (All-head (λ (c : Change). same_name c.list name ≡ false) change changes h))
+    ∙ none_added name changes (All-tail (λ (c : Change). same_name c.list name ≡ false) change changes h)
+
+pub no_adds : (draft : Draft) (name : ListName) → IsDraft draft → declares (history_of draft) name ≡ false → adds_of name draft.changes.items ≡ []
+no_adds draft name h absent = none_added name draft.changes.items (others_of draft name h absent)
+
 pub declared_more : (lists : List Listed) (listed : Listed) → declared_of (lists ++ listed ∷ []) ≡ declared_of lists ++ (listed.name, listed.size) ∷ []
 declared_more [] listed = refl
 declared_more (x ∷ xs) listed = ap (λ ds. (x.name, x.size) ∷ ds) (declared_more xs listed)
 
-pub draft_declared : (old new : Draft) (listed : Listed) → IsDraft old → new.lists.items ≡ old.lists.items ++ listed ∷ [] → new.changes ≡ old.changes → new.hashes ≡ old.hashes → new.points ≡ old.points
-    → length old.lists.items < 8 → declares (history_of old) listed.name ≡ false → IsPrefixSize listed.size → Holds listed.live [] → IsDraft new
-draft_declared old new listed draft lists changes hashes points few absent size live =
+pub draft_declared : (old new : Draft) (listed : Listed) → IsDraft old → new.lists.items ≡ old.lists.items ++ listed ∷ [] → new.changes ≡ old.changes → new.hashes ≡ old.hashes
+    → length old.lists.items < 8 → declares (history_of old) listed.name ≡ false → IsPrefixSize listed.size → Holds listed.live [] → IsPlaced listed.live [] → IsDraft new
+draft_declared old new listed draft lists changes hashes few absent size live placed =
     let items = ap (λ cs. cs.items) changes in
     let declared = ap declared_of lists ∙ declared_more old.lists.items listed in
     let sizes : (name : ListName) → sizes_at (history_of new) name (length new.changes.items) ≡ sizes_at (history_of old) name (length old.changes.items) =
@@ -211,7 +233,10 @@ draft_declared old new listed draft lists changes hashes points few absent size 
         adds = subst (λ cs. All (λ (c : Change). All (λ (added : Added). (length added.hash ≡ 32) × IsPrefixSize added.size) c.adds) cs) (sym items) draft.well_formed.adds;
         removes = subst (λ cs. All (λ (c : Change). All (λ (hash : List ℕ). length hash ≡ 32) c.removes) cs) (sym items) draft.well_formed.removes;
       };
-      points = subst (λ (cs : List Change). HasPoints new.points.items cs) (sym items) (subst (λ (ps : List Checkpoint). HasPoints ps old.changes.items) (sym (ap (λ ps. ps.items) points)) draft.points);
+      placed = subst (λ (ls : List Listed). All (λ (list : Listed). HasPlaced list.name new.changes.items list.live) ls) (sym lists)
+          (subst (λ (cs : List Change). All (λ (list : Listed). HasPlaced list.name cs list.live) (old.lists.items ++ listed ∷ [])) (sym items)
+          (All-push (λ (list : Listed). HasPlaced list.name old.changes.items list.live) old.lists.items listed draft.placed
+          (record { lines = []; are = ends_nothing listed.name old.changes.items (no_adds old listed.name draft absent) (no_sizes_at old listed.name draft absent); placed = placed })));
     }
 
 -- ---- a line that declares a list

@@ -1,5 +1,5 @@
 -- Full hashes that share their first four bytes.
-use Rattle.std.proofs.Common.{◌≡◌, ℕ, ◌<◌, ◌≤◌, nat_lt, List, [], ◌∷◌, Bool, true, false, not, ◌||◌, cond, length, take, refl, ap, ◌∙◌, arith, fold}
+use Rattle.std.proofs.Common.{◌≡◌, ℕ, ◌<◌, ◌≤◌, nat_lt, List, [], ◌∷◌, Bool, true, false, not, ◌||◌, cond, length, take, refl, sym, ap, ◌∙◌, arith, fold}
 use Rattle.std.specs.List.{list_any, filter}
 use Rattle.std.specs.Str.{bytes_eq}
 use Rattle.std.specs.Cmp.{both_ways}
@@ -11,11 +11,11 @@ use Rattle.std.specs.Prelude.{Option, Some, None, if◌then◌else◌}
 use Rattle.list_versions.specs.declared.fault.JournalFault.{JournalFault}
 use Rattle.list_versions.specs.declared.fault.JournalFault.TheVariants as fault
 use Rattle.list_versions.specs.Limits.{has_head, is_crowded, most_alike, most_hashes, most_prefix_bytes, limit_fault, IsUncrowded}
-use Rattle.list_versions.specs.Live.{Holds, bucket_in}
+use Rattle.list_versions.specs.Live.{Holds, lines_in}
 use Rattle.list_versions.specs.declared.live.Live.{Live}
 use Rattle.list_versions.proofs.Finding.{same_bytes}
 use Rattle.list_versions.proofs.Splitting.{without-same, with-other}
-use Rattle.list_versions.proofs.Holding.{length-filter-le}
+use Rattle.list_versions.proofs.Holding.{length-filter-le, length-added_of}
 
 -- whether more than 16 begin as this one does
 abbrev pub is_crowd : List Added → Added → Bool
@@ -106,22 +106,22 @@ any_same s t h (x ∷ xs) = ap (λ b. b || list_any s xs) (h x) ∙ ap (λ b. t 
 
 -- the same as the code looks into its buckets
 pub crowds_held : (live : Live) (before adds : List Added) (removes : List (List ℕ)) → IsUncrowded before → Holds live (fold with_added (fold without_hash before removes) adds)
-    → list_any (λ added. nat_lt most_alike (length (bucket_in live.buckets.entries (take 4 added.hash)))) adds ≡ is_crowded (fold with_added (fold without_hash before removes) adds)
+    → list_any (λ added. nat_lt most_alike (length (lines_in live.buckets.entries (take 4 added.hash)))) adds ≡ is_crowded (fold with_added (fold without_hash before removes) adds)
 crowds_held live before adds removes few holds =
-    any_same (λ added. nat_lt most_alike (length (bucket_in live.buckets.entries (take 4 added.hash)))) (is_crowd (fold with_added (fold without_hash before removes) adds))
-    (λ entry. ap (λ bucket. nat_lt most_alike (length bucket)) (holds.buckets (take 4 entry.hash))) adds
+    any_same (λ added. nat_lt most_alike (length (lines_in live.buckets.entries (take 4 added.hash)))) (is_crowd (fold with_added (fold without_hash before removes) adds))
+    (λ entry. ap (nat_lt most_alike) (sym (length-added_of (lines_in live.buckets.entries (take 4 entry.hash))) ∙ ap length (holds.buckets (take 4 entry.hash)))) adds
     ∙ crowds_of_adds before adds removes few
 
 none_above : (n : ℕ) → n ≤ 16 → nat_lt most_alike n ≡ false
 none_above n h = grind (arith, nat_tests)
 
 -- where no bucket has more than 16
-pub no_crowds : (live : Live) (adds : List Added) → ((head : List ℕ) → length (bucket_in live.buckets.entries head) ≤ live.most) → live.most ≤ 16
-    → false ≡ list_any (λ added. nat_lt most_alike (length (bucket_in live.buckets.entries (take 4 added.hash)))) adds
+pub no_crowds : (live : Live) (adds : List Added) → ((head : List ℕ) → length (lines_in live.buckets.entries head) ≤ live.most) → live.most ≤ 16
+    → false ≡ list_any (λ added. nat_lt most_alike (length (lines_in live.buckets.entries (take 4 added.hash)))) adds
 no_crowds live [] alike few = refl
 no_crowds live (added ∷ adds) alike few =
     let head = take 4 added.hash in
-    let none : nat_lt most_alike (length (bucket_in live.buckets.entries head)) ≡ false = none_above _ (omega (arith, alike head, few)) in
+    let none : nat_lt most_alike (length (lines_in live.buckets.entries head)) ≡ false = none_above _ (omega (arith, alike head, few)) in
     rw none (no_crowds live adds alike few)
 
 uncrowded_at : (entries : List Added) (head : List ℕ) (b : Bool) → nat_lt most_alike (length (filter (has_head head) entries)) ≡ b → is_crowded entries ≡ false → length (filter (has_head head) entries) ≤ most_alike

@@ -1,10 +1,11 @@
 -- Folding the changes of a history.
-use Rattle.std.proofs.Common.{◌≡◌, ◌≢◌, ℕ, ◌+◌, ◌^◌, ◌<◌, ◌≤◌, List, [], ◌∷◌, length, take, get_or, refl, sym, ap, subst, ◌∙◌, arith, Bool, true, false, not, cond, fold, nat_le, get_or-set_other, get_or-set_same}
-use Rattle.std.specs.Prelude.{All}
+use Rattle.std.proofs.Common.{◌≡◌, ◌≢◌, ℕ, zero, suc, inl, inr, ◌+◌, ◌^◌, ◌<◌, ◌≤◌, List, [], ◌∷◌, ◌++◌, length, take, get_or, refl, sym, ap, subst, ◌∙◌, arith, Bool, true, false, not, cond, fold, nat_le, get_or-set_other, get_or-set_same}
+use Rattle.std.specs.Prelude.{All, OnOk, Result, Ok, Err}
 use Rattle.std.specs.Str.{bytes_eq}
 use Rattle.std.proofs.Math.ListN.{set}
+use Rattle.std.proofs.lemmas.Bool.{cases_lt}
 use Rattle.std.proofs.lemmas.Bool.Decides.{nat_tests}
-use Rattle.std.proofs.lemmas.List.{take_all, take-take, length-map, length-take}
+use Rattle.std.proofs.lemmas.List.{take_all, take_more, take-take, length-map, length-take}
 use Rattle.std.proofs.lemmas.List.Elements.{All-weaker, All-cons, All-nil, All-head, All-tail, All-push, All-filter, All-take}
 use Rattle.std.proofs.lemmas.List.Sums.{sum_by-append}
 use borrow.Author.Count.{below_more}
@@ -13,16 +14,19 @@ use Rattle.sb_model.specs.declared.history.Change.{Change}
 use Rattle.sb_model.specs.declared.names.ListName.{ListName}
 use Rattle.sb_model.specs.History.{History, declares, sizes_at, after_change, with_added, without_hash, IsPrefixSize, IsWellFormed}
 use Rattle.sb_model.specs.Names.{same_name}
-use Rattle.list_versions.specs.Checkpoints.{HasPoints}
-use Rattle.list_versions.specs.declared.checkpoints.Checkpoint.{Checkpoint}
 use Rattle.list_versions.specs.declared.draft.Draft.{Draft}
 use Rattle.list_versions.specs.declared.draft.Listed.{Listed}
 use Rattle.list_versions.specs.Draft.{declared_of, history_of, IsDraft}
 use Rattle.list_versions.specs.Folding.{after_changes, IsFoldable, StaysSmall}
 use Rattle.list_versions.specs.Limits.{hash_lines, WithinLimits}
-use Rattle.list_versions.specs.Live.{Holds, IsPublishable}
+use Rattle.list_versions.specs.Live.{Holds, HasPlaced, HasRead, IsPlaced, IsPublishable}
+use Rattle.list_versions.specs.declared.live.Live.{Live}
 use Rattle.list_versions.specs.Loaded.{IsStem}
+use Rattle.list_versions.specs.Draft.{lines_after}
+use Rattle.list_versions.specs.Ends.{Line}
 use Rattle.list_versions.proofs.Holding.{publishable}
+use Rattle.list_versions.proofs.Keeping.{adds_few}
+use Rattle.list_versions.proofs.Versions.{adds_front, ends_after, ends_nothing, lines_long, one_more}
 
 few_adds : (changes : List Change) → All (λ (c : Change). length c.adds ≤ hash_lines changes) changes
 few_adds [] = All-nil (λ (c : Change). length c.adds ≤ 0)
@@ -73,10 +77,73 @@ refreshed_more changes lists i v d lt name holds before k e =
     (rw get_or-set_same (let P : ListName → Type 0 = λ n. Holds v.live (after_changes n changes) in subst P (sym name) holds))
     k
 
+-- one change after the other
+next_change : (changes : List Change) (i : ℕ) (item : Change) → i < length changes → item ≡ get_or changes i item → take (i + 1) changes ≡ take i changes ++ item ∷ []
+next_change changes i item lt is = take_more changes i item lt ∙ ap (λ (c : Change). take i changes ++ c ∷ []) (sym is)
+
+pub held_next : (list : ListName) (changes : List Change) (i : ℕ) (item : Change) (live : Live) → i < length changes → item ≡ get_or changes i item
+    → Holds live (after_change list (after_changes list (take i changes)) item) → Holds live (after_changes list (take (i + 1) changes))
+held_next list changes i item live lt is h =
+    subst (λ es. Holds live es) (sym (ap (after_changes list) (next_change changes i item lt is) ∙ one_more list (take i changes) item)) h
+
+pub adds_at : (changes : List Change) (i : ℕ) (item : Change) → i < length changes → item ≡ get_or changes i item → length item.adds ≤ hash_lines changes
+adds_at changes i item lt is = subst (λ (c : Change). length c.adds ≤ hash_lines changes) (sym is) (few_adds changes i item lt)
+
+pub placed_next : (list : ListName) (changes : List Change) (i : ℕ) (item : Change) (before after : Live) (version : ℕ) → i < length changes → item ≡ get_or changes i item → length changes ≤ 65536
+    → hash_lines changes ≤ 2097152 → version ≡ i + 1
+    → ((lines : List Line) → length lines + length item.adds < 2 ^ 32 → IsPlaced before lines → IsPlaced after (lines_after list version lines item))
+    → HasPlaced list (take i changes) before → HasPlaced list (take (i + 1) changes) after
+placed_next list changes i item before after version lt is few lines e applies h =
+    let long : length (take i changes) ≡ i = length-take i changes ∙ omega (arith, lt) in
+    let count = lines_long list (take i changes) h.lines h.are in
+    let made : HasPlaced list (take i changes ++ item ∷ []) after = record {
+      lines = lines_after list version h.lines item;
+      are = ends_after list (take i changes) item h.lines version (omega (arith, e, long)) (omega (arith, e, lt, few)) h.are;
+      placed = applies h.lines (omega (arith, count, adds_front list changes i, adds_few list changes, adds_at changes i item lt is, lines)) h.placed;
+    } in
+    subst (λ (cs : List Change). HasPlaced list cs after) (sym (next_change changes i item lt is)) made
+
+pub placed_nothing : (list : ListName) (live : Live) → IsPlaced live [] → HasPlaced list [] live
+placed_nothing list live placed = record {
+  lines = [];
+  are = ends_nothing list [] refl (λ version. ap (after_changes list) (take_all version [] (omega arith)));
+  placed = placed;
+}
+
+pub both_ok : {T E : Type 0} (result : Result T E) (P Q R : Type 0) → OnOk result P → OnOk result Q → (P → Q → R) → OnOk result R
+both_ok (Ok x) P Q R p q f = f p q
+both_ok (Err e) P Q R p q f = tt
+
+pub placed_more : (changes : List Change) (lists : List Listed) (i : ℕ) (v d : Listed) → i < length lists → v.name ≡ (get_or lists i d).name → HasPlaced (get_or lists i d).name changes v.live
+    → ((k : ℕ) (e : Listed) → k < i → HasPlaced (get_or lists k e).name changes (get_or lists k e).live) → (k : ℕ) (e : Listed) → k < i + 1
+    → HasPlaced (get_or (set lists i v) k e).name changes (get_or (set lists i v) k e).live
+placed_more changes lists i v d lt name placed before k e =
+    below_more (λ (j : ℕ). HasPlaced (get_or (set lists i v) j e).name changes (get_or (set lists i v) j e).live) i
+    (λ j h. let ne : j ≢ i = omega arith in rw get_or-set_other (before j e h))
+    (rw get_or-set_same (subst (λ (n : ListName). HasPlaced n changes v.live) (sym name) placed))
+    k
+
+pub read_placed : (name : ListName) (changes : List Change) (live : Live) → HasPlaced name changes live → HasRead name changes live
+read_placed name changes live h = record { lines = h.lines; are = h.are; ends = h.placed.ends }
+
+-- of the lists some are made anew, and the others are as they were
+pub read_so_far : (changes : List Change) (lists first : List Listed) (i : ℕ) → length lists ≡ length first → ((k : ℕ) (e : Listed) → i ≤ k → get_or lists k e ≡ get_or first k e)
+    → ((k : ℕ) (e : Listed) → k < i → HasPlaced (get_or lists k e).name changes (get_or lists k e).live)
+    → All (λ (list : Listed). HasRead list.name changes list.live) first → All (λ (list : Listed). HasRead list.name changes list.live) lists
+read_so_far changes lists first i long same placed all = λ k d lt. elim (cases_lt k i) [
+  | inl below ↦ read_placed (get_or lists k d).name changes (get_or lists k d).live (placed k d below)
+  | inr above ↦ subst (λ (l : Listed). HasRead l.name changes l.live) (sym (same k d above)) (all k d (omega (arith, lt, long)))
+]
+
+pub set_same : (lists : List Listed) (i : ℕ) (d : Listed) → i < length lists → set lists i (get_or lists i d) ≡ lists
+set_same [] i d h = absurd (omega arith)
+set_same (x ∷ xs) zero d h = refl
+set_same (x ∷ xs) (suc i) d h = ap (λ ls. x ∷ ls) (set_same xs i d (omega (arith, h)))
+
 -- a history whose tables are made anew
 pub draft_refreshed : (old new : Draft) → IsStem old → declared_of new.lists.items ≡ declared_of old.lists.items → new.epoch ≡ old.epoch → new.changes ≡ old.changes → new.hashes ≡ old.hashes
-    → new.points ≡ old.points → All (IsRefreshed old.changes.items) new.lists.items → IsDraft new
-draft_refreshed old new h declared epoch changes hashes points all =
+    → All (IsRefreshed old.changes.items) new.lists.items → All (λ (list : Listed). HasPlaced list.name old.changes.items list.live) new.lists.items → IsDraft new
+draft_refreshed old new h declared epoch changes hashes all placed =
     let items = ap (λ cs. cs.items) changes in
     let history : history_of new ≡ history_of old = λ i. record { epoch = epoch i; declared = declared i; changes = items i } in
     let whole : take (length new.changes.items) new.changes.items ≡ old.changes.items = take_all (length new.changes.items) new.changes.items (omega arith) ∙ items in
@@ -90,7 +157,7 @@ draft_refreshed old new h declared epoch changes hashes points all =
       declared = subst (λ (v : History). All (λ (c : Change). declares v c.list ≡ true) v.changes) (sym history) h.declared;
       within = subst (λ (v : History). WithinLimits v) (sym history) h.within;
       well_formed = subst (λ (v : History). IsWellFormed v) (sym history) h.well_formed;
-      points = subst (λ (cs : List Change). HasPoints new.points.items cs) (sym items) (subst (λ (ps : List Checkpoint). HasPoints ps old.changes.items) (sym (ap (λ ps. ps.items) points)) h.points);
+      placed = subst (λ (cs : List Change). All (λ (list : Listed). HasPlaced list.name cs list.live) new.lists.items) (sym items) placed;
     }
 
 pub draft_stem : (draft : Draft) → IsDraft draft → IsStem draft
@@ -102,7 +169,8 @@ draft_stem draft h = record {
   declared = h.declared;
   within = h.within;
   well_formed = h.well_formed;
-  points = h.points;
+  read = All-weaker (λ (list : Listed). HasPlaced list.name draft.changes.items list.live) (λ (list : Listed). HasRead list.name draft.changes.items list.live)
+      (λ list k. read_placed list.name draft.changes.items list.live k) draft.lists.items h.placed;
 }
 
 -- ---- what is published of each version

@@ -187,9 +187,3 @@ begun_listed laws p sizes entries h rises =
     let same = same_hashes sizes entries h rises in
     set_is laws (filter p (keys_of sizes)) (filter p (hashes_in entries)) (IsStrictlySortedBy-filter bytes_cmp p (keys_of sizes) rises)
     (λ x. (same_filtered p (keys_of sizes) (hashes_in entries) (λ y. (same y).0) x, same_filtered p (hashes_in entries) (keys_of sizes) (λ y. (same y).1) x))
-
-pub found_in_map : {E : Type 0} (result : Result (List FullHash) E) (sizes : HashSizes) (prefix : List ℕ) (entries : List Added) → IsMapOf sizes entries
-    → IfOk result (λ hashes. (others : List Added) → IsMapOf sizes others → map (λ (hash : FullHash). hash.bytes) hashes ≡ set_of (filter (begins prefix) (map (λ (entry : Added). entry.hash) others)))
-    → FoundIn result prefix entries
-found_in_map (Ok hashes) sizes prefix entries h found = found entries h
-found_in_map (Err e) sizes prefix entries h found = tt

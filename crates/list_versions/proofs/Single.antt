@@ -1,5 +1,5 @@
 -- Lists that have each full hash once.
-use Rattle.std.proofs.Common.{◌≡◌, ◌⊎◌, ℕ, List, [], ◌∷◌, refl, sym, ap, ◌∙◌, inl, inr, Bool, true, false, not, cond, fold, Some}
+use Rattle.std.proofs.Common.{◌≡◌, ◌⊎◌, ℕ, List, [], ◌∷◌, refl, sym, ap, subst, ◌∙◌, inl, inr, Bool, true, false, not, cond, fold, Some, Result, Ok, Err, IfOk}
 use Rattle.std.specs.Prelude.{Contains}
 use Rattle.std.specs.Str.{bytes_eq}
 use Rattle.sb_model.specs.declared.history.Added.{Added}
@@ -7,7 +7,6 @@ use Rattle.sb_model.specs.declared.history.Change.{Change}
 use Rattle.sb_model.specs.declared.names.ListName.{ListName}
 use Rattle.sb_model.specs.History.{after_change, without_hash, with_added}
 use Rattle.sb_model.specs.Names.{same_name}
-use Rattle.list_versions.specs.Checkpoints.{IsSame}
 use Rattle.list_versions.specs.Folding.{after_changes}
 use Rattle.list_versions.specs.HashSizes.{HashSizes, size_in, IsMapOf}
 use Rattle.list_versions.proofs.Finding.{same_bytes, bytes_are_same}
@@ -99,16 +98,21 @@ into_fold all (added ∷ adds) entries x h within i (inr (inl is)) =
     into_fold all adds (with_added entries added) x h (λ y j. within y (inr j)) i (inl (in_right x (without_hash entries added.hash) (added ∷ []) (inl is)))
 into_fold all (added ∷ adds) entries x h within i (inr (inr k)) = into_fold all adds (with_added entries added) x h (λ y j. within y (inr j)) i (inr k)
 
--- a map of the same entries, put in any order
-pub mapped_same : (sizes : HashSizes) (entries others : List Added) → IsSingle others → IsSame entries others → IsMapOf sizes (fold with_added [] entries) → IsMapOf sizes others
-mapped_same sizes entries others h same map = record { same = λ hash size. (there hash size, back hash size) }
+-- a map of the entries, put one after the other
+pub mapped_each : (sizes : HashSizes) (entries : List Added) → IsSingle entries → IsMapOf sizes (fold with_added [] entries) → IsMapOf sizes entries
+mapped_each sizes entries h map = record { same = λ hash size. (there hash size, back hash size) }
   where
-    there : (hash : List ℕ) (size : ℕ) → Contains others (record { hash = hash; size = size }) → size_in sizes hash ≡ Some size
+    there : (hash : List ℕ) (size : ℕ) → Contains entries (record { hash = hash; size = size }) → size_in sizes hash ≡ Some size
     there hash size c =
         let x : Added = record { hash = hash; size = size } in
-        (map.same hash size).0 (contains_in x (fold with_added [] entries) (into_fold others entries [] x h (λ y j. in_contained y others ((same y).0 (contains_in y entries j))) (in_contained x others c) (inr (in_contained x entries ((same x).1 c)))))
+        (map.same hash size).0 (contains_in x (fold with_added [] entries) (into_fold entries entries [] x h (λ y j. j) (in_contained x entries c) (inr (in_contained x entries c))))
 
-    back : (hash : List ℕ) (size : ℕ) → size_in sizes hash ≡ Some size → Contains others (record { hash = hash; size = size })
+    back : (hash : List ℕ) (size : ℕ) → size_in sizes hash ≡ Some size → Contains entries (record { hash = hash; size = size })
     back hash size k =
         let x : Added = record { hash = hash; size = size } in
-        elim (from_fold entries [] x (in_contained x (fold with_added [] entries) ((map.same hash size).1 k))) [ inl nothing ↦ absurd nothing | inr j ↦ (same x).0 (contains_in x entries j) ]
+        elim (from_fold entries [] x (in_contained x (fold with_added [] entries) ((map.same hash size).1 k))) [ inl nothing ↦ absurd nothing | inr j ↦ contains_in x entries j ]
+
+pub map_after : {E : Type 0} (result : Result HashSizes E) (list : ListName) (changes : List Change) (entries : List Added) → entries ≡ after_changes list changes
+    → IfOk result (λ sizes. IsMapOf sizes (fold with_added [] entries)) → IfOk result (λ sizes. IsMapOf sizes (after_changes list changes))
+map_after (Ok sizes) list changes entries e h = mapped_each sizes (after_changes list changes) (single_after list changes) (subst (λ es. IsMapOf sizes (fold with_added [] es)) e h)
+map_after (Err fault) list changes entries e h = tt

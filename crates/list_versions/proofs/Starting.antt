@@ -6,14 +6,11 @@ use Rattle.sb_model.specs.declared.history.Added.{Added}
 use Rattle.sb_model.specs.declared.history.Change.{Change}
 use Rattle.sb_model.specs.declared.names.ListName.{ListName}
 use Rattle.sb_model.specs.History.{after_change, declares, sizes_at, IsPrefixSize}
-use Rattle.list_versions.specs.Checkpoints.{HasPoints}
-use Rattle.list_versions.specs.declared.checkpoints.Checkpoint.{Checkpoint}
 use Rattle.list_versions.specs.Limits.{IsWithin, hash_lines}
-use Rattle.list_versions.specs.Live.{Holds}
+use Rattle.list_versions.specs.Live.{Holds, HasPlaced}
 use Rattle.list_versions.specs.Draft.{declared_of, history_of, IsDraft}
 use Rattle.list_versions.specs.declared.draft.Draft.{Draft}
 use Rattle.list_versions.specs.declared.draft.Listed.{Listed}
-use Rattle.list_versions.proofs.Points.{points_nothing}
 
 nothing_within : IsWithin []
 nothing_within = record { count = omega arith; uncrowded = λ head. omega arith; bytes = omega arith }
@@ -22,8 +19,8 @@ take_nothing : (n : ℕ) → take {A = Change} n [] ≡ []
 take_nothing zero = refl
 take_nothing (suc n) = refl
 
-pub draft_new : (draft : Draft) → draft.lists.items ≡ [] → draft.changes.items ≡ [] → draft.hashes ≡ 0 → draft.points.items ≡ [] → IsDraft draft
-draft_new draft lists changes hashes points = record {
+pub draft_new : (draft : Draft) → draft.lists.items ≡ [] → draft.changes.items ≡ [] → draft.hashes ≡ 0 → IsDraft draft
+draft_new draft lists changes hashes = record {
   hashes = hashes ∙ ap hash_lines (sym changes);
   few_lists = omega (arith, ap length lists);
   few_changes = omega (arith, ap length changes);
@@ -36,5 +33,5 @@ draft_new draft lists changes hashes points = record {
     adds = subst (λ cs. All (λ (c : Change). All (λ (added : Added). (length added.hash ≡ 32) × IsPrefixSize added.size) c.adds) cs) (sym changes) (All-nil (λ (c : Change). All (λ (added : Added). (length added.hash ≡ 32) × IsPrefixSize added.size) c.adds));
     removes = subst (λ cs. All (λ (c : Change). All (λ (hash : List ℕ). length hash ≡ 32) c.removes) cs) (sym changes) (All-nil (λ (c : Change). All (λ (hash : List ℕ). length hash ≡ 32) c.removes));
   };
-  points = subst (λ (cs : List Change). HasPoints draft.points.items cs) (sym changes) (subst (λ (ps : List Checkpoint). HasPoints ps []) (sym points) points_nothing);
+  placed = subst (λ ls. All (λ (list : Listed). HasPlaced list.name draft.changes.items list.live) ls) (sym lists) (All-nil (λ (list : Listed). HasPlaced list.name draft.changes.items list.live));
 }

@@ -1,5 +1,5 @@
 -- A history that is being read.
-use Rattle.std.specs.Prelude.{◌≡◌, ℕ, ◌≤◌, true, List, [], ◌++◌, length, map, take, All, None, Result, Ok, Err}
+use Rattle.std.specs.Prelude.{◌≡◌, ℕ, ◌+◌, ◌^◌, ◌<◌, ◌≤◌, true, min, if◌then◌else◌, List, [], ◌++◌, length, map, take, All, None, Result, Ok, Err, slice_index_or}
 use Rattle.sb_model.specs.declared.history.Added.{Added}
 use Rattle.sb_model.specs.declared.names.ListName.{ListName}
 use Rattle.sb_model.specs.History.{History, declares, sizes_at, IsWellFormed}
@@ -7,10 +7,13 @@ use Rattle.list_versions.specs.declared.fault.JournalFault.{JournalFault}
 use Rattle.list_versions.specs.declared.draft.Begin.{Begin}
 use Rattle.list_versions.specs.declared.draft.Draft.{Draft}
 use Rattle.list_versions.specs.declared.draft.Listed.{Listed}
-use Rattle.list_versions.specs.Checkpoints.{HasPoints}
+use Rattle.list_versions.specs.declared.live.Live.{Live}
 use Rattle.list_versions.specs.Journal.{Kept, Begun, after_bytes, settled, ◌>>=◌, after_change_line, declared_size_of}
 use Rattle.list_versions.specs.Limits.{most_lists, most_changes, most_hash_lines, hash_lines, WithinLimits}
-use Rattle.list_versions.specs.Live.{Holds}
+use Rattle.list_versions.specs.Ends.{Line, HasEnds, after_lines, adds_of, restored, most_lines}
+use Rattle.list_versions.specs.Live.{Holds, HasPlaced, IsPlaced}
+use Rattle.sb_model.specs.declared.history.Change.{Change}
+use Rattle.sb_model.specs.Names.{same_name}
 
 -- the declared lists, and the history
 abbrev pub declared_of : List Listed → List (ListName × ℕ)
@@ -32,7 +35,7 @@ pub record IsDraft (draft : Draft) : Type 0 where
   pub declared : All (λ change. declares (history_of draft) change.list ≡ true) draft.changes.items
   pub within : WithinLimits (history_of draft)
   pub well_formed : IsWellFormed (history_of draft)
-  pub points : HasPoints draft.points.items draft.changes.items
+  pub placed : All (λ list. HasPlaced list.name draft.changes.items list.live) draft.lists.items
 
 -- a change of which these hashes have come
 abbrev pub begun_of : Begin → List Added → List (List ℕ) → Begun
@@ -60,13 +63,39 @@ Waits draft before bytes = (seen : List ℕ) → before seen bytes ≡ Ok (kept_
 abbrev pub Fails : (List ℕ → List ℕ → Result Kept JournalFault) → List ℕ → JournalFault → Type 0
 Fails before bytes fault = (seen more : List ℕ) → before seen (bytes ++ more) ≡ Err fault
 
--- what stays also where a record is refused: the lists, the changes and the checkpoints that were there are the first ones
+-- the lines of a list after a change, which is of the list or of another
+abbrev pub lines_after : ListName → ℕ → List Line → Change → List Line
+lines_after name version lines change =
+    if same_name change.list name then after_lines version lines change.removes change.adds else lines
+
+-- a change is applied to the lines of a list
+abbrev pub AppliesLines : ℕ → Change → Listed → Listed → Type 0
+AppliesLines version change before after = (lines : List Line) → length lines + length change.adds < 2 ^ 32 → IsPlaced before.live lines
+    → IsPlaced after.live (lines_after before.name version lines change)
+
+-- the lines of a list, once no end is above the last change
+pub record HasCut (name : ListName) (changes : List Change) (live : Live) : Type 0 where
+  pub lines : List Line
+  pub are : HasEnds name changes lines
+  pub ends : restored (length changes) (length lines) live.ends.items ≡ map (λ line. line.1) lines
+
+-- the lists have the ends that they had when there were these changes alone
+pub record AreRestored (changes : List Change) (before after : List Listed) : Type 0 where
+  pub declared : declared_of after ≡ declared_of before
+  pub ends : (k : ℕ) (d : Listed) → k < length before
+      → (slice_index_or after k d).live.ends.items
+      ≡ restored (length changes) (min (length (adds_of (slice_index_or before k d).name changes)) most_lines) (slice_index_or before k d).live.ends.items
+
+-- what stays also where a record is refused: the lists and the changes that were there are the first ones, and the ends of
+-- all lists can be set back to what the changes tell
 pub record KeepsFront (before after : Draft) : Type 0 where
   pub sized : after.sized ≡ before.sized
   pub epoch : after.epoch ≡ before.epoch
   pub changes : take (length before.changes.items) after.changes.items ≡ before.changes.items
   pub declared : take (length before.lists.items) (declared_of after.lists.items) ≡ declared_of before.lists.items
-  pub points : take (length before.points.items) after.points.items ≡ before.points.items
+  pub cut : All (λ list. HasCut list.name after.changes.items list.live) after.lists.items
+  pub few_changes : length after.changes.items ≤ most_changes
+  pub few_lines : hash_lines after.changes.items ≤ most_hash_lines
 
 -- what bytes become after the line that begins a change, and before the next record
 abbrev pub after_begin : Draft → ListName → ℕ → ℕ → List ℕ → List ℕ → Result Kept JournalFault

@@ -1,6 +1,6 @@
 pub mod Buckets
-pub mod Checkpoints
 pub mod Draft
+pub mod Ends
 pub mod Folding
 pub mod HashSizes
 pub mod Hexes

@@ -9,7 +9,7 @@ use Rattle.list_versions.specs.declared.draft.Draft.{Draft}
 use Rattle.list_versions.specs.declared.fault.JournalFault.{JournalFault}
 use Rattle.list_versions.specs.declared.fault.JournalFault.TheVariants as fault
 use Rattle.list_versions.specs.declared.newest.Newest.{Newest}
-use Rattle.list_versions.specs.Checkpoints.{HasPoints}
+use Rattle.list_versions.specs.Live.{HasRead}
 use Rattle.list_versions.specs.Draft.{history_of, kept_of_draft, before_record, IsDraft}
 use Rattle.list_versions.specs.Journal.{Kept, kept_of, read_on}
 use Rattle.list_versions.specs.Limits.{most_lists, most_changes, most_hash_lines, hash_lines, WithinLimits}
@@ -57,7 +57,7 @@ FurtherFault kept bytes (fault.TooLarge n) = IsBadRest kept bytes (fault.TooLarg
 
 -- ---- what is kept
 
--- the changes, lists and checkpoints of a history, whatever the tables of the newest full hashes hold
+-- the changes and lists of a history with the ends of their lines, whatever the tables of the newest full hashes hold
 pub record IsStem (draft : Draft) : Type 0 where
   pub hashes : draft.hashes ≡ hash_lines draft.changes.items
   pub few_lists : length draft.lists.items ≤ most_lists
@@ -66,7 +66,7 @@ pub record IsStem (draft : Draft) : Type 0 where
   pub declared : All (λ change. declares (history_of draft) change.list ≡ true) draft.changes.items
   pub within : WithinLimits (history_of draft)
   pub well_formed : IsWellFormed (history_of draft)
-  pub points : HasPoints draft.points.items draft.changes.items
+  pub read : All (λ list. HasRead list.name draft.changes.items list.live) draft.lists.items
 
 -- the newest prefixes of a list stand ready, with their digest
 pub record IsNewest (versions : History) (newest : Newest) : Type 0 where

@@ -1,17 +1,23 @@
 ghost use Rattle.std.specs.Prelude.{◌≡◌, ◌+◌, ◌^◌, ◌<◌, ◌≤◌, [], ◌∷◌, ◌++◌, length, cond, IfOk, OnOk};
 ghost use Rattle.std.specs.List.{list_any};
 ghost use Rattle.std.specs.Str.{bytes_eq};
-ghost use Rattle.sb_model.specs.History.{prefix_of, without_hash, with_added};
-ghost use Rattle.list_versions.specs.Limits.{prefix_bytes};
-ghost use Rattle.list_versions.specs.Buckets.{IsTally};
+ghost use Rattle.sb_model.specs.History.{prefix_of};
+ghost use Rattle.list_versions.specs.Buckets.{IsTally, without, with_line};
 
 use sb_model::{Added, OutOfMemory};
 use std::alloc::Global;
 use std::marker::Model;
 use std::slice;
 
-/// Full hashes with their sizes. Contracts see them as a list. One alone takes no memory of its
-/// own.
+/// A line of a list that adds, while its full hash stands: the hash with its size, and the place of
+/// the line among those of the list that add.
+#[derive(Clone, Copy, Debug)]
+pub(crate) struct Standing {
+    pub added: Added,
+    pub place: u32,
+}
+
+/// Lines that stand. Contracts see them as a list. One alone takes no memory of its own.
 #[derive(Debug, Drop)]
 pub(crate) struct Bucket {
     entries: Entries,
@@ -20,16 +26,16 @@ pub(crate) struct Bucket {
 #[derive(Debug, Drop)]
 pub(crate) enum Entries {
     Nothing,
-    One(Added),
-    More(Vec<Added>),
+    One(Standing),
+    More(Vec<Standing>),
 }
 
 impl Model for Bucket {
     ghost use Rattle.std.specs.Prelude.{List};
-    ghost use Rattle.sb_model.specs.declared.history.Added.{Added as Entry};
+    ghost use Rattle.list_versions.specs.declared.bucket.Standing.{Standing as Line};
     ghost use Rattle.list_versions.specs.Buckets.{entries_of};
 
-    ghost Value = { List Entry };
+    ghost Value = { List Line };
 
     ghost view = { λ bucket. entries_of bucket.entries };
 }
@@ -70,15 +76,15 @@ fn published(entry: &Added) -> &[u8]
 }
 
 // Whether one of these full hashes publishes the same bytes.
-fn is_published(entries: &[Added], prefix: &[u8]) -> bool
-    ensures { result ≡ list_any (λ entry. bytes_eq (prefix_of entry) prefix.now) entries.now }
+fn is_published(entries: &[Standing], prefix: &[u8]) -> bool
+    ensures { result ≡ list_any (λ line. bytes_eq (prefix_of line.added) prefix.now) entries.now }
 {
-    entries.iter().any(|entry| published(entry) == prefix)
+    entries.iter().any(|line| published(&line.added) == prefix)
 }
 
 // How many bytes a prefix has, where none of these full hashes publishes it.
-fn further_bytes(entries: &[Added], prefix: &[u8]) -> u64
-    ensures { result ≡ cond (list_any (λ entry. bytes_eq (prefix_of entry) prefix.now) entries.now)
+fn further_bytes(entries: &[Standing], prefix: &[u8]) -> u64
+    ensures { result ≡ cond (list_any (λ line. bytes_eq (prefix_of line.added) prefix.now) entries.now)
         0 (length prefix.now) }
 {
     if is_published(entries, prefix) {
@@ -88,8 +94,8 @@ fn further_bytes(entries: &[Added], prefix: &[u8]) -> u64
 }
 
 // Takes a full hash out of a list.
-fn take_out(entries: &mut Vec<Added>, hash: &[u8; 32]) -> Tally
-    ensures left { entries.new.items ≡ without_hash entries.old.items hash.now }
+fn take_out(entries: &mut Vec<Standing>, hash: &[u8; 32]) -> Tally
+    ensures left { entries.new.items ≡ without entries.old.items hash.now }
     ensures tally { IsTally entries.old.items entries.new.items result }
     ensures none_in { result.hashes_in ≡ 0 }
     ensures nothing_in { result.bytes_in ≡ 0 }
@@ -99,10 +105,10 @@ fn take_out(entries: &mut Vec<Added>, hash: &[u8; 32]) -> Tally
     let mut i = entries.len();
     'back: while i > 0 {
         i -= 1;
-        if entries[i].hash == *hash {
-            let entry = entries.remove(i);
+        if entries[i].added.hash == *hash {
+            let line = entries.remove(i);
             hashes += 1;
-            bytes = bytes.saturating_add(further_bytes(entries, published(&entry)));
+            bytes = bytes.saturating_add(further_bytes(entries, published(&line.added)));
         }
     }
     Tally::of_removal(entries.len() as u64, hashes, bytes)
@@ -118,27 +124,27 @@ impl Bucket {
         }
     }
 
-    pub fn as_slice(&self) -> &[Added]
+    pub fn as_slice(&self) -> &[Standing]
         ensures { result.now ≡ self.now }
     {
         match &self.entries {
             Entries::Nothing => &[],
-            Entries::One(entry) => slice::from_ref(entry),
+            Entries::One(line) => slice::from_ref(line),
             Entries::More(entries) => entries.as_slice(),
         }
     }
 
     /// Takes a full hash out.
     pub fn remove(&mut self, hash: &[u8; 32]) -> Tally
-        ensures left { self.new ≡ without_hash self.old hash.now }
+        ensures left { self.new ≡ without self.old hash.now }
         ensures tally { IsTally self.old self.new result }
         ensures none_in { result.hashes_in ≡ 0 }
         ensures nothing_in { result.bytes_in ≡ 0 }
     {
         match &mut self.entries {
             Entries::More(entries) => take_out(entries, hash),
-            Entries::One(entry) if entry.hash == *hash => {
-                let bytes = published(entry).len() as u64;
+            Entries::One(line) if line.added.hash == *hash => {
+                let bytes = published(&line.added).len() as u64;
                 self.entries = Entries::Nothing;
                 Tally::of_removal(0, 1, bytes)
             }
@@ -147,29 +153,29 @@ impl Bucket {
         }
     }
 
-    // Puts a full hash at the end.
-    fn push(&mut self, alloc: Global, added: Added) -> Result<(), OutOfMemory>
-        ensures { OnOk result (self.new ≡ self.old ++ added ∷ []) }
+    // Puts a line at the end.
+    fn push(&mut self, alloc: Global, line: Standing) -> Result<(), OutOfMemory>
+        ensures { OnOk result (self.new ≡ self.old ++ line ∷ []) }
     {
         match &mut self.entries {
-            Entries::More(entries) => entries.push(added)?,
+            Entries::More(entries) => entries.push(line)?,
             Entries::One(first) => {
-                let entries = vec![in alloc; *first, added]?;
+                let entries = vec![in alloc; *first, line]?;
                 self.entries = Entries::More(entries);
             }
-            Entries::Nothing => self.entries = Entries::One(added),
+            Entries::Nothing => self.entries = Entries::One(line),
         }
         Ok(())
     }
 
-    /// Puts a full hash in, in place of the entry that it had.
-    pub fn put(&mut self, alloc: Global, added: Added) -> Result<Tally, OutOfMemory>
-        ensures items { OnOk result (self.new ≡ with_added self.old added) }
+    /// Puts a line in, in place of that which its full hash had.
+    pub fn put(&mut self, alloc: Global, line: Standing) -> Result<Tally, OutOfMemory>
+        ensures items { OnOk result (self.new ≡ with_line self.old line) }
         ensures tally { IfOk result (IsTally self.old self.new) }
     {
-        let gone = self.remove(&added.hash);
-        let bytes_in = further_bytes(self.as_slice(), published(&added));
-        self.push(alloc, added)?;
+        let gone = self.remove(&line.added.hash);
+        let bytes_in = further_bytes(self.as_slice(), published(&line.added));
+        self.push(alloc, line)?;
         let hashes = self.as_slice().len() as u64;
         Ok(Tally {
             hashes_in: 1,

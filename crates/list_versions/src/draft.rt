@@ -5,15 +5,14 @@ ghost use Rattle.sb_model.specs.declared.history.Added.{Added as Entry};
 ghost use Rattle.list_versions.specs.Lines.{IsAdded};
 ghost use Rattle.list_versions.specs.Journal.{next_line, after_list, at_record, empty_history};
 ghost use Rattle.list_versions.specs.Limits.{most_hash_lines, most_changes};
-ghost use Rattle.list_versions.specs.Draft.{history_of, kept_of_draft, IsDraft, before_record, within_change, Moves, Waits, Fails, KeepsFront, after_begin, before_next};
+ghost use Rattle.list_versions.specs.Draft.{history_of, kept_of_draft, IsDraft, before_record, within_change, Moves, Waits, Fails, KeepsFront, AreRestored, after_begin, before_next};
 ghost use Rattle.list_versions.specs.Split.{EndsWith};
 
 use crate::JournalFault;
-use crate::checkpoints::{Checkpoint, keep_point};
 use crate::heads::{Head, Header};
 use crate::known::KnownName;
 use crate::lines::{read_add, read_head_among, read_remove};
-use crate::lists::{apply_each, is_declared, limit_of, size_of};
+use crate::lists::{apply_each, is_declared, limit_of, restore_each, size_of};
 use crate::live::Live;
 use crate::split::next_line;
 use sb_model::{Added, Change, ListName, Row};
@@ -45,8 +44,6 @@ pub(crate) struct Draft {
     pub changes: Vec<Change>,
     /// How many hash lines the changes have.
     pub hashes: u64,
-    /// The full hashes of every list at some of the versions.
-    pub points: Vec<Checkpoint>,
 }
 
 /// What the first line of a change says, and the size that is declared for its list.
@@ -71,7 +68,6 @@ impl Draft {
             lists: Vec::new(alloc),
             changes: Vec::new(alloc),
             hashes: 0,
-            points: Vec::new(alloc),
         }
     }
 
@@ -263,32 +259,22 @@ impl Draft {
             adds,
             removes,
         };
-        let Ok(()) = apply_each(alloc, &mut self.lists, &change) else {
+        let version = self.changes.len() as u32 + 1;
+        let Ok(()) = apply_each(alloc, &mut self.lists, &change, version) else {
             return Err(JournalFault::OutOfMemory);
         };
         if let Some(fault) = limit_of(&self.lists, &change, line) {
             return Err(fault);
         }
-        let hashes = self.hashes + count;
-        let version = self.changes.len() + 1;
-        let Ok(()) = keep_point(
-            alloc,
-            &mut self.points,
-            &self.lists,
-            version,
-            self.hashes,
-            hashes,
-        ) else {
-            return Err(JournalFault::OutOfMemory);
-        };
         let Ok(()) = self.changes.push(change) else {
             return Err(JournalFault::OutOfMemory);
         };
-        self.hashes = hashes;
+        self.hashes += count;
         Ok(())
     }
 
     // Takes a line that declares a list.
+    #[tactic(auto, using(crate::proofs::Keeping::keeps_same))]
     fn declare(&mut self, alloc: Global, name: ListName, size: u8) -> Result<(), JournalFault>
         requires draft { IsDraft self.old }
         requires size { IsPrefixSize size }
@@ -321,6 +307,7 @@ impl Draft {
     }
 
     // Reads the change that a line begins.
+    #[tactic(auto, using(crate::proofs::Keeping::keeps_same))]
     fn read_change<'a>(
         &mut self,
         alloc: Global,
@@ -373,6 +360,7 @@ impl Draft {
     }
 
     /// Reads one record, and gives what stands after it; `None` where the record has not ended.
+    #[tactic(auto, using(crate::proofs::Keeping::keeps_same))]
     pub fn read_record<'a>(
         &mut self,
         alloc: Global,
@@ -439,18 +427,18 @@ impl Draft {
         }
     }
 
-    /// Keeps the first lists, changes and checkpoints. The changes have so many hash lines.
-    pub fn cut(&mut self, lists: usize, changes: usize, points: usize, hashes: u64)
+    /// Keeps the first lists and changes, and no end above the last of these. The changes have so
+    /// many hash lines.
+    pub fn cut(&mut self, lists: usize, changes: usize, hashes: u64)
         ensures sized { self.new.sized ≡ self.old.sized }
         ensures epoch { self.new.epoch ≡ self.old.epoch }
-        ensures lists { self.new.lists.items ≡ take lists self.old.lists.items }
+        ensures lists { AreRestored (take changes self.old.changes.items) (take lists self.old.lists.items) self.new.lists.items }
         ensures changes { self.new.changes.items ≡ take changes self.old.changes.items }
-        ensures points { self.new.points.items ≡ take points self.old.points.items }
         ensures hashes { self.new.hashes ≡ hashes }
     {
         self.lists.truncate(lists);
         self.changes.truncate(changes);
-        self.points.truncate(points);
+        restore_each(&mut self.lists, self.changes.as_slice());
         self.hashes = hashes;
     }
 }

@@ -18,13 +18,16 @@ use crate::JournalFault;
 use crate::draft::Draft;
 use crate::growing::{More, read_more};
 use crate::hash_sizes::Folding;
-use crate::listing::{hashes_begun, hashes_of, prefixes_of};
+use crate::listing::{hashes_begun, hashes_of};
 use crate::lists::{same, size_of};
 use crate::lookup::{hashes_with, live_of};
 use crate::newest::Newest;
-use crate::older::{fold_on, folded, folding_at};
+use crate::older::{fold_on, folding_at};
 use crate::pieces::{FIRST_PIECE, PIECE, buffer_of, read_first};
+use crate::published::published_of;
+use crate::refreshing::refresh;
 use crate::renewing::{Before, take_kept};
+use crate::standing::entries_at;
 use hash_prefixes::{FullHash, Prefix};
 use prefix_set::PrefixSet;
 use sb_model::{Bytes, Change, ListName, OutOfMemory, Row, Steps, names_go_by_their_codes};
@@ -198,7 +201,6 @@ impl History {
     {
         let lists = self.draft.lists.len();
         let changes = self.draft.changes.len();
-        let points = self.draft.points.len();
         let hashes = self.draft.hashes;
         match read_more(alloc, source, buffer, &mut self.draft, self.stale, text) {
             Ok(mut more) => {
@@ -217,8 +219,8 @@ impl History {
                 Ok(())
             }
             Err(fault) => {
-                self.draft.cut(lists, changes, points, hashes);
-                self.stale = true;
+                self.draft.cut(lists, changes, hashes);
+                self.stale = refresh(alloc, &mut self.draft).is_err();
                 Err(fault)
             }
         }
@@ -317,8 +319,8 @@ impl History {
         if version == self.draft.changes.len() {
             return Ok(Some(newest.set.copy(alloc)?));
         }
-        let folding = folding_at(alloc, &self.draft, list, version)?;
-        Ok(Some(prefixes_of(alloc, &folding)?))
+        let entries = entries_at(alloc, &self.draft, list, version)?;
+        Ok(Some(published_of(alloc, entries.as_slice())?))
     }
 
     /// The full hashes of a list at a version, with their sizes. `fold_on` makes those of a later
@@ -375,13 +377,12 @@ impl History {
         {
             return hashes_with(alloc, live, prefix);
         }
-        let folding = folding_at(alloc, &self.draft, list, version)?;
-        hashes_begun(alloc, &folding, prefix)
+        let entries = entries_at(alloc, &self.draft, list, version)?;
+        hashes_begun(alloc, entries.as_slice(), prefix)
     }
 
     /// The full hashes of a declared list at a version, rising. Each hash line that is folded for
-    /// them is counted as a step: fewer than 65,536, since they are folded from the last checkpoint
-    /// at or before the version.
+    /// them is counted as a step. None is, since the ends of the lines tell which full hashes stand.
     pub fn hashes_counted<L: Ledger>(
         &self,
         alloc: Global,
@@ -397,7 +398,9 @@ impl History {
         ensures few { steps.new < steps.old + 65536 }
         ensures counted { steps.old ≤ steps.new }
     {
-        let folding = folded(alloc, &self.draft, list, version as usize, steps)?;
-        hashes_of(alloc, &folding)
+        // looked at for the prover: no step is taken
+        let _ = &steps;
+        let entries = entries_at(alloc, &self.draft, list, version as usize)?;
+        hashes_of(alloc, entries.as_slice())
     }
 }

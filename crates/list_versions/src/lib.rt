@@ -15,8 +15,8 @@ pub use writing::{push_change, push_header, push_list};
 
 mod bucket;
 mod buckets;
-mod checkpoints;
 mod draft;
+mod ends;
 mod fault;
 mod growing;
 mod hash_sizes;
@@ -38,4 +38,5 @@ mod published;
 mod refreshing;
 mod renewing;
 mod split;
+mod standing;
 mod writing;

@@ -18,13 +18,13 @@ use sb_model::{Added, OutOfMemory, Row};
 use std::alloc::Global;
 use std::collections::HashMap;
 
-// The full hashes in the order of the map.
-fn keys_in(alloc: Global, sizes: &HashMap<HashKey, u8>) -> Result<Vec<[u8; 32]>, OutOfMemory>
-    ensures { IfOk result (λ hashes. hashes.items ≡ keys_of sizes.now.entries) }
+// The hashes of some full hashes with their sizes.
+fn hashes_in(alloc: Global, entries: &[Added]) -> Result<Vec<[u8; 32]>, OutOfMemory>
+    ensures { IfOk result (λ hashes. hashes.items ≡ map (λ entry. entry.hash) entries.now) }
 {
-    let mut hashes = Vec::with_capacity(alloc, sizes.len())?;
-    'hashes: for key in sizes.keys() {
-        hashes.push(key.bytes)?;
+    let mut hashes = Vec::with_capacity(alloc, entries.len())?;
+    for entry in entries {
+        hashes.push(entry.hash)?;
     }
     Ok(hashes)
 }
@@ -57,15 +57,12 @@ fn rising_row(alloc: Global, mut hashes: Vec<[u8; 32]>) -> Result<Row<FullHash>,
     row_of(alloc, hashes.as_slice())
 }
 
-/// The full hashes, rising.
-pub(crate) fn hashes_of(alloc: Global, folding: &Folding) -> Result<Row<FullHash>, OutOfMemory>
-    ensures { IfOk result (λ hashes. (entries : List Entry) → IsMapOf folding.now entries
-        → map (λ hash. hash.bytes) hashes ≡ set_of (map (λ entry. entry.hash) entries)) }
+/// The hashes of some full hashes with their sizes, rising.
+pub(crate) fn hashes_of(alloc: Global, entries: &[Added]) -> Result<Row<FullHash>, OutOfMemory>
+    ensures { IfOk result (λ hashes. map (λ hash. hash.bytes) hashes ≡ set_of (map (λ entry. entry.hash) entries.now)) }
 {
-    sets_go_by_members();
-    let hashes = keys_in(alloc, folding.sizes())?;
-    let row = rising_row(alloc, hashes)?;
-    Ok(row)
+    let hashes = hashes_in(alloc, entries)?;
+    rising_row(alloc, hashes)
 }
 
 // Appends a full hash, where it begins with a prefix.
@@ -82,36 +79,33 @@ fn push_begun(
     Ok(())
 }
 
-// The full hashes that begin with a prefix, in the order of the map.
-fn keys_begun(
+// The hashes that begin with a prefix.
+fn begun_in(
     alloc: Global,
-    sizes: &HashMap<HashKey, u8>,
+    entries: &[Added],
     prefix: &Prefix,
 ) -> Result<Vec<[u8; 32]>, OutOfMemory>
     ensures { IfOk result (λ hashes.
-        hashes.items ≡ filter (begins prefix.now) (keys_of sizes.now.entries)) }
+        hashes.items ≡ filter (begins prefix.now) (map (λ entry. entry.hash) entries.now)) }
 {
     let mut hashes = Vec::new(alloc);
-    'hashes: for key in sizes.keys() {
-        push_begun(&mut hashes, prefix, &key.bytes)?;
+    for entry in entries {
+        push_begun(&mut hashes, prefix, &entry.hash)?;
     }
     Ok(hashes)
 }
 
-/// The full hashes that begin with a prefix, rising.
+/// The hashes that begin with a prefix, rising.
 pub(crate) fn hashes_begun(
     alloc: Global,
-    folding: &Folding,
+    entries: &[Added],
     prefix: &Prefix,
 ) -> Result<Row<FullHash>, OutOfMemory>
-    ensures { IfOk result (λ hashes. (entries : List Entry) → IsMapOf folding.now entries
-        → map (λ hash. hash.bytes) hashes
-        ≡ set_of (filter (begins prefix.now) (map (λ entry. entry.hash) entries))) }
+    ensures { IfOk result (λ hashes. map (λ hash. hash.bytes) hashes
+        ≡ set_of (filter (begins prefix.now) (map (λ entry. entry.hash) entries.now))) }
 {
-    sets_go_by_members();
-    let hashes = keys_begun(alloc, folding.sizes(), prefix)?;
-    let row = rising_row(alloc, hashes)?;
-    Ok(row)
+    let hashes = begun_in(alloc, entries, prefix)?;
+    rising_row(alloc, hashes)
 }
 
 // The full hashes with their sizes, in the order of the map.

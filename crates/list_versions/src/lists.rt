@@ -1,12 +1,14 @@
-ghost use Rattle.std.specs.Prelude.{◌≡◌, ℕ, ◌^◌, ◌<◌, ◌≤◌, List, true, length, All, Option, option_map, find, OnOk};
+ghost use Rattle.std.specs.Prelude.{◌≡◌, ℕ, ◌+◌, ◌^◌, ◌<◌, ◌≤◌, min, List, true, length, All, Option, option_map, find, OnOk, slice_index_or};
 ghost use Rattle.sb_model.specs.Names.{same_name};
 ghost use Rattle.sb_model.specs.History.{after_change};
 ghost use Rattle.sb_model.specs.declared.history.Added.{Added as Entry};
 ghost use Rattle.sb_model.specs.declared.names.ListName.{ListName as Name};
-ghost use Rattle.list_versions.specs.Draft.{declared_of};
+ghost use Rattle.list_versions.specs.declared.draft.Listed.{Listed as List'};
+ghost use Rattle.list_versions.specs.Draft.{declared_of, lines_after, AppliesLines, AreRestored};
+ghost use Rattle.list_versions.specs.Ends.{Line, adds_of, most_lines, never, restored};
 ghost use Rattle.std.specs.List.{list_any};
 ghost use Rattle.list_versions.specs.Limits.{IsUncrowded, limit_fault};
-ghost use Rattle.list_versions.specs.Live.{Holds};
+ghost use Rattle.list_versions.specs.Live.{Holds, IsPlaced, KeepsEnds};
 
 use crate::JournalFault;
 use crate::draft::Listed;
@@ -40,35 +42,53 @@ pub(crate) fn size_of(lists: &[Listed], name: ListName) -> Option<u8>
 }
 
 // Applies a change to a list, where it is one of the list.
-fn apply_to(alloc: Global, listed: &mut Listed, change: &Change) -> Result<(), OutOfMemory>
-    requires { All (λ added. 4 ≤ added.size) change.now.adds }
+fn apply_to(
+    alloc: Global,
+    listed: &mut Listed,
+    change: &Change,
+    version: u32,
+) -> Result<(), OutOfMemory>
+    requires sizes { All (λ added. 4 ≤ added.size) change.now.adds }
+    requires version { version < never }
     ensures name { listed.new.name ≡ listed.old.name }
     ensures size { listed.new.size ≡ listed.old.size }
-    ensures ok { OnOk result ((entries : List Entry) → length entries < 2 ^ 32 → length change.now.adds < 2 ^ 32
+    ensures held { OnOk result ((entries : List Entry) → length entries < 2 ^ 32 → length change.now.adds < 2 ^ 32
         → Holds listed.old.live entries → Holds listed.new.live (after_change listed.old.name entries change.now)) }
+    ensures placed { OnOk result ((lines : List Line) → length lines + length change.now.adds < 2 ^ 32 → IsPlaced listed.old.live lines
+        → IsPlaced listed.new.live (lines_after listed.old.name version lines change.now)) }
+    ensures kept { KeepsEnds version (length change.now.adds) listed.old.live listed.new.live }
 {
     if same(change.list, listed.name) {
-        listed
-            .live
-            .apply(alloc, change.removes.as_slice(), change.adds.as_slice())?;
+        listed.live.apply(
+            alloc,
+            change.removes.as_slice(),
+            change.adds.as_slice(),
+            version,
+        )?;
     }
     Ok(())
 }
 
-/// Applies a change to the list that it is of.
+/// Applies a change, which leads to a version, to the list that it is of.
 pub(crate) fn apply_each(
     alloc: Global,
     lists: &mut Vec<Listed>,
     change: &Change,
+    version: u32,
 ) -> Result<(), OutOfMemory>
-    requires { All (λ added. 4 ≤ added.size) change.now.adds }
+    requires sizes { All (λ added. 4 ≤ added.size) change.now.adds }
+    requires version { version < never }
     ensures names { declared_of lists.new.items ≡ declared_of lists.old.items }
-    ensures ok { OnOk result ((sizes : Name → List Entry) → ((name : Name) → length (sizes name) < 2 ^ 32) → length change.now.adds < 2 ^ 32
+    ensures held { OnOk result ((sizes : Name → List Entry) → ((name : Name) → length (sizes name) < 2 ^ 32) → length change.now.adds < 2 ^ 32
         → All (λ list. Holds list.live (sizes list.name)) lists.old.items
         → All (λ list. Holds list.live (after_change list.name (sizes list.name) change.now)) lists.new.items) }
+    ensures placed { OnOk result ((k : ℕ) (d : List') → k < length lists.old.items
+        → AppliesLines version change.now (slice_index_or lists.old.items k d) (slice_index_or lists.new.items k d)) }
+    ensures kept { (k : ℕ) (d : List') → k < length lists.old.items
+        → KeepsEnds version (length change.now.adds) (slice_index_or lists.old.items k d).live (slice_index_or lists.new.items k d).live }
 {
     for i in 0..lists.len() {
-        apply_to(alloc, &mut lists[i], change)?;
+        apply_to(alloc, &mut lists[i], change, version)?;
     }
     Ok(())
 }
@@ -86,4 +106,37 @@ pub(crate) fn limit_of(lists: &[Listed], change: &Change, line: u64) -> Option<J
         }
     }
     None
+}
+
+// How many lines the changes of a list add.
+fn adds_count(changes: &[Change], list: ListName) -> usize
+    ensures { result ≡ min (length (adds_of list changes.now)) most_lines }
+{
+    let mut count = 0usize;
+    for change in changes {
+        if same(change.list, list) {
+            count = count.saturating_add(change.adds.len());
+        }
+    }
+    count
+}
+
+// Leaves the ends that a list had when there were these changes alone.
+fn restore_list(listed: &mut Listed, changes: &[Change])
+    ensures name { listed.new.name ≡ listed.old.name }
+    ensures size { listed.new.size ≡ listed.old.size }
+    ensures ends { listed.new.live.ends.items
+        ≡ restored (length changes.now) (min (length (adds_of listed.old.name changes.now)) most_lines) listed.old.live.ends.items }
+{
+    let count = adds_count(changes, listed.name);
+    listed.live.restore(count, changes.len());
+}
+
+/// Leaves the ends that the lists had when there were these changes alone.
+pub(crate) fn restore_each(lists: &mut Vec<Listed>, changes: &[Change])
+    ensures { AreRestored changes.now lists.old.items lists.new.items }
+{
+    for i in 0..lists.len() {
+        restore_list(&mut lists[i], changes);
+    }
 }

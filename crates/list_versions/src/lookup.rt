@@ -5,10 +5,13 @@ ghost use Rattle.sb_model.specs.Names.{same_name};
 ghost use Rattle.sb_model.specs.Prefixes.{set_of};
 ghost use Rattle.sb_model.specs.declared.history.Added.{Added as Entry};
 ghost use Rattle.sb_model.specs.declared.names.ListName.{ListName as Name};
-ghost use Rattle.list_versions.specs.Live.{Holds};
+ghost use Rattle.sb_model.specs.declared.history.Change.{Change as Changed};
+ghost use Rattle.list_versions.specs.Buckets.{added_of};
+ghost use Rattle.list_versions.specs.Live.{Holds, HasRead};
 ghost use Rattle.list_versions.specs.Lookup.{begins};
 
-use crate::buckets::{HashHead, entries_at};
+use crate::bucket::Standing;
+use crate::buckets::{HashHead, lines_at};
 use crate::draft::Listed;
 use crate::lists::same;
 use crate::live::Live;
@@ -21,6 +24,8 @@ use std::alloc::Global;
 pub(crate) fn live_of(lists: &[Listed], name: ListName) -> Option<&Live>
     ensures found { (sizes : Name → List Entry) → All (λ list. Holds list.live (sizes list.name)) lists.now
         → IfSome result (λ live. Holds live.now (sizes name)) }
+    ensures read { (changes : List Changed) → All (λ list. HasRead list.name changes list.live) lists.now
+        → IfSome result (λ live. HasRead name changes live.now) }
     ensures none { IfNone result (list_any (λ list. same_name list.name name) lists.now ≡ false) }
 {
     for listed in lists {
@@ -72,13 +77,17 @@ fn push_begun(found: &mut Vec<Prefix>, prefix: &Prefix, entry: &Added) -> Result
 }
 
 // The full hashes of a bucket that begin with a prefix.
-fn begun_with(alloc: Global, bucket: &[Added], prefix: &Prefix) -> Result<Vec<Prefix>, OutOfMemory>
-    ensures value { IfOk result (λ found. found.items ≡ filter (begins prefix.now) (map (λ entry. entry.hash) bucket.now)) }
-    ensures whole { OnOk result (All (λ entry. length entry.hash ≡ 32) bucket.now) }
+fn begun_with(
+    alloc: Global,
+    bucket: &[Standing],
+    prefix: &Prefix,
+) -> Result<Vec<Prefix>, OutOfMemory>
+    ensures value { IfOk result (λ found. found.items ≡ filter (begins prefix.now) (map (λ entry. entry.hash) (added_of bucket.now))) }
+    ensures whole { OnOk result (All (λ entry. length entry.hash ≡ 32) (added_of bucket.now)) }
 {
     let mut found = Vec::new(alloc);
-    for entry in bucket {
-        push_begun(&mut found, prefix, entry)?;
+    for line in bucket {
+        push_begun(&mut found, prefix, &line.added)?;
     }
     Ok(found)
 }
@@ -126,6 +135,6 @@ pub(crate) fn hashes_with(
         → map (λ hash. hash.bytes) hashes ≡ set_of (filter (begins prefix.now) (map (λ entry. entry.hash) entries))) }
 {
     let head = head_of(prefix);
-    let found = begun_with(alloc, entries_at(&live.buckets, &head), prefix)?;
+    let found = begun_with(alloc, lines_at(&live.buckets, &head), prefix)?;
     rising(alloc, found.as_slice())
 }

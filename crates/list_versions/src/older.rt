@@ -1,16 +1,15 @@
-ghost use Rattle.std.specs.Prelude.{◌≡◌, ℕ, ◌+◌, ◌^◌, ◌<◌, ◌≤◌, List, [], length, take, drop, fold, IfOk, OnOk};
+ghost use Rattle.std.specs.Prelude.{◌≡◌, ℕ, ◌+◌, ◌^◌, ◌<◌, ◌≤◌, List, [], length, fold, IfOk, OnOk};
 ghost use Rattle.sb_model.specs.History.{after_change, sizes_at, with_added, without_hash};
 ghost use Rattle.sb_model.specs.declared.history.Added.{Added as Entry};
-ghost use Rattle.list_versions.specs.Checkpoints.{most_folded};
 ghost use Rattle.list_versions.specs.Draft.{history_of};
 ghost use Rattle.list_versions.specs.HashSizes.{IsMapOf};
 ghost use Rattle.list_versions.specs.Limits.{hash_lines};
 ghost use Rattle.list_versions.specs.Loaded.{IsStem};
 
-use crate::checkpoints::{entries_of, point_before};
 use crate::draft::Draft;
 use crate::hash_sizes::Folding;
 use crate::lists::same;
+use crate::standing::entries_at;
 use hash_prefixes::FullHash;
 use sb_model::{Added, Change, ListName, OutOfMemory, Steps};
 use std::alloc::Global;
@@ -92,13 +91,6 @@ fn fold_changes<L: Ledger>(
     Ok(())
 }
 
-// The full hashes that are folded first, and the version at which these were the list's.
-#[derive(Drop)]
-struct Start {
-    folding: Folding,
-    version: usize,
-}
-
 // The map of some full hashes with their sizes.
 fn folding_of(alloc: Global, entries: &[Added]) -> Result<Folding, OutOfMemory>
     ensures { IfOk result (λ folding. IsMapOf folding (fold with_added [] entries.now)) }
@@ -108,77 +100,6 @@ fn folding_of(alloc: Global, entries: &[Added]) -> Result<Folding, OutOfMemory>
         folding.put(entry.hash, entry.size)?;
     }
     Ok(folding)
-}
-
-// The full hashes of a list at the last checkpoint at or before a version, or else at the beginning.
-fn started(
-    alloc: Global,
-    draft: &Draft,
-    list: ListName,
-    version: usize,
-) -> Result<Start, OutOfMemory>
-    requires stem { IsStem draft.now }
-    requires version { version ≤ length draft.now.changes.items }
-    ensures map { IfOk result (λ start.
-        IsMapOf start.folding (sizes_at (history_of draft.now) list start.version)) }
-    ensures before { IfOk result (λ start. start.version ≤ version) }
-    ensures near { IfOk result (λ start.
-        hash_lines (drop start.version (take version draft.now.changes.items)) < most_folded) }
-{
-    match point_before(draft.points.as_slice(), version) {
-        None => Ok(Start {
-            folding: Folding::new(alloc),
-            version: 0,
-        }),
-        Some(point) => Ok(Start {
-            folding: folding_of(alloc, entries_of(point.lists.as_slice(), list))?,
-            version: point.version,
-        }),
-    }
-}
-
-/// The full hashes of a list at a version, with their sizes. Each hash line that is folded is a
-/// step; those up to the last checkpoint are not folded.
-pub(crate) fn folded<L: Ledger>(
-    alloc: Global,
-    draft: &Draft,
-    list: ListName,
-    version: usize,
-    steps: &mut Steps<L>,
-) -> Result<Folding, OutOfMemory>
-    requires stem { IsStem draft.now }
-    requires version { version ≤ length draft.now.changes.items }
-    requires few { steps.old < 2 ^ 32 }
-    ensures map { IfOk result (λ folding.
-        IsMapOf folding (sizes_at (history_of draft.now) list version)) }
-    ensures few { steps.new < steps.old + most_folded }
-    ensures counted { steps.old ≤ steps.new }
-{
-    let start = started(alloc, draft, list, version)?;
-    let mut folding = start.folding;
-    let changes = &draft.changes.as_slice()[..version];
-    fold_changes(&mut folding, list, &changes[start.version..], steps)?;
-    Ok(folding)
-}
-
-// The same, counted from zero.
-fn folded_anew<L: Ledger>(
-    blank: Blank,
-    alloc: Global,
-    draft: &Draft,
-    list: ListName,
-    version: usize,
-) -> Result<Folding, OutOfMemory>
-    requires name { blank.name ≡ L.name }
-    requires parts { blank.parts ≡ L.parts }
-    requires some { 0 < blank.parts }
-    requires stem { IsStem draft.now }
-    requires version { version ≤ length draft.now.changes.items }
-    ensures { IfOk result (λ folding.
-        IsMapOf folding (sizes_at (history_of draft.now) list version)) }
-{
-    let mut steps = Steps::<L>::new(blank);
-    folded(alloc, draft, list, version, &mut steps)
 }
 
 // Folds the changes between two versions, counted from zero.
@@ -236,5 +157,6 @@ pub(crate) fn folding_at(
     ensures { IfOk result (λ folding.
         IsMapOf folding (sizes_at (history_of draft.now) list version)) }
 {
-    folded_anew::<Brand>(Blank::new(1), alloc, draft, list, version)
+    let entries = entries_at(alloc, draft, list, version)?;
+    folding_of(alloc, entries.as_slice())
 }

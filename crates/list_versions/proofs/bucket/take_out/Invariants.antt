@@ -1,4 +1,5 @@
 use Rattle.std.proofs.Common.{◌≡◌, ◌+◌, ◌^◌, ◌<◌, ◌≤◌, length}
+use Rattle.list_versions.specs.Buckets.{added_of}
 use Rattle.list_versions.specs.Limits.{prefix_bytes}
 use Rattle.list_versions.proofs.TakingOut.{left_at}
 use Rattle.list_versions.proofs.bucket.take_out.Given as goal
@@ -9,7 +10,7 @@ invariant-back l = record {
   within : l.i ≤ length l.initial.entries.items;
   more : l.i ≤ length l.entries.items;
   hashes : length l.entries.items + l.hashes ≡ length l.initial.entries.items;
-  bytes : prefix_bytes l.initial.entries.items < 2 ^ 64 → prefix_bytes l.entries.items + l.bytes ≡ prefix_bytes l.initial.entries.items;
+  bytes : prefix_bytes (added_of l.initial.entries.items) < 2 ^ 64 → prefix_bytes (added_of l.entries.items) + l.bytes ≡ prefix_bytes (added_of l.initial.entries.items);
 }
 
 abbrev pub decreases-back : goal.decreases-back

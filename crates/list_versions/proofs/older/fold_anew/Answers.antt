@@ -6,7 +6,7 @@ use Rattle.sb_model.specs.History.{after_change, sizes_at}
 use Rattle.list_versions.specs.Draft.{history_of}
 use Rattle.list_versions.specs.HashSizes.{IsMapOf}
 use Rattle.list_versions.specs.Limits.{hash_lines}
-use Rattle.list_versions.proofs.Points.{folded_on, lines_between}
+use Rattle.list_versions.proofs.Between.{folded_on, lines_between}
 use Rattle.list_versions.proofs.older.fold_anew.Goals as goal
 
 -- the changes after a version, in the changes up to another

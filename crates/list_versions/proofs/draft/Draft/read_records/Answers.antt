@@ -7,7 +7,7 @@ use Rattle.list_versions.proofs.Records.{map_fault}
 use Rattle.list_versions.proofs.draft.Draft.read_records.Goals as goal
 
 pub loop-next-init : goal.loop-next-init
-loop-next-init c = record { draft = c.requires.draft; same = λ more. refl; back = ends_same c.args.bytes.now; front = keeps_same c.args.self.now }
+loop-next-init c = record { draft = c.requires.draft; same = λ more. refl; back = ends_same c.args.bytes.now; front = keeps_same c.args.self.now c.requires.draft }
 
 pub loop-next-preserved : goal.loop-next-preserved
 loop-next-preserved c =

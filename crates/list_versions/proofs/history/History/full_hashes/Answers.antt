@@ -1,4 +1,4 @@
-use Rattle.std.proofs.Common.{◌≡◌, ◌⊎◌, inl, inr, length, List, sym, subst, arith, true, false}
+use Rattle.std.proofs.Common.{◌≡◌, ◌∙◌, ◌⊎◌, inl, inr, length, List, sym, subst, arith, true, false}
 use Rattle.sb_model.specs.declared.history.Added.{Added}
 use Rattle.sb_model.specs.declared.names.ListName.{ListName}
 use Rattle.sb_model.specs.History.{sizes_at}
@@ -9,7 +9,6 @@ use Rattle.list_versions.specs.Live.{Holds}
 use Rattle.list_versions.specs.declared.draft.Draft.{Draft}
 use Rattle.list_versions.specs.declared.draft.Listed.{Listed}
 use Rattle.list_versions.proofs.Begun.{FoundIn, found_in_list}
-use Rattle.list_versions.proofs.Mapped.{found_in_map}
 use Rattle.list_versions.proofs.history.History.full_hashes.Goals as goal
 
 fresh_draft : (draft : Draft) (stale : Bool) → stale ≡ false → (stale ≡ true) ⊎ IsDraft draft → IsDraft draft
@@ -31,4 +30,4 @@ returns c =
 pub returns-2 : goal.returns-2
 returns-2 c =
     subst (λ (k : Kept). FoundIn c.hashes_begun.result c.args.prefix.now (sizes_at k.versions c.args.list c.args.version)) c.self.view_is
-    (found_in_map c.hashes_begun.result c.in_ok-folding.folding c.args.prefix.now (sizes_at (history_of c.self.inside.draft) c.args.list c.args.version) c.in_ok-folding.ensures c.hashes_begun.ensures)
+    (subst (λ (es : List Added). FoundIn c.hashes_begun.result c.args.prefix.now es) (c.as_slice-2.ensures.value ∙ c.in_ok-entries.ensures) c.hashes_begun.ensures)

@@ -1,8 +1,10 @@
-use Rattle.std.proofs.Common.{◌≡◌, ◌∙◌, ap, inr, take, subst, List, length, arith}
+use Rattle.std.proofs.Common.{◌≡◌, ◌∙◌, [], ap, inr, subst, List, length, arith}
 use Rattle.sb_model.specs.declared.history.Change.{Change}
+use Rattle.list_versions.specs.Draft.{IsDraft}
+use Rattle.list_versions.specs.Journal.{Kept}
 use Rattle.list_versions.specs.declared.renewing.Before.{Before}
 use Rattle.list_versions.proofs.Folds.{draft_stem}
-use Rattle.list_versions.proofs.Keeping.{cut_history, same_kept, loaded_cut}
+use Rattle.list_versions.proofs.Keeping.{cut_back, fresh_or_stale, loaded_cut, same_kept}
 use Rattle.list_versions.proofs.Renewed.{IsTaken, first_of, newest_longer, are_newest}
 use Rattle.list_versions.proofs.history.History.take_in.Goals as goal
 
@@ -32,20 +34,22 @@ invariant_of-self g c =
       short = c.in-Ok.ensures.few;
     }
 
+pub refresh-requires : goal.refresh-requires
+refresh-requires g c =
+    (cut_back c.self.inside.draft c.read_more.new.draft c.cut.new.self c.len-lists.result c.len-changes.result c.self.invariant.stem c.read_more.ensures.front
+    (omega (arith, c.len-lists.ensures, c.self.inside.draft.lists.ok)) (omega (arith, c.len-changes.ensures, c.self.inside.draft.changes.ok)) c.cut.ensures.epoch c.cut.ensures.lists c.cut.ensures.changes c.cut.ensures.hashes).stem
+
 pub invariant_of-self-in-Err : goal.invariant_of-self-in-Err
 invariant_of-self-in-Err g c =
-    let lists_are : c.len-lists.result ≡ length c.self.inside.draft.lists.items = omega (arith, c.len-lists.ensures, c.self.inside.draft.lists.ok) in
-    let changes_are : c.len-changes.result ≡ length c.self.inside.draft.changes.items = omega (arith, c.len-changes.ensures, c.self.inside.draft.changes.ok) in
-    let points_are : c.len-points.result ≡ length c.self.inside.draft.points.items = omega (arith, c.len-points.ensures, c.self.inside.draft.points.ok) in
-    let history = cut_history c.self.inside.draft c.read_more.new.draft c.cut.new.self c.read_more.ensures.front c.cut.ensures.epoch
-    (c.cut.ensures.lists ∙ ap (λ n. take n c.read_more.new.draft.lists.items) lists_are) (c.cut.ensures.changes ∙ ap (λ n. take n c.read_more.new.draft.changes.items) changes_are) in
-    loaded_cut c.self.inside.draft c.cut.new.self c.self.inside.newest.items c.self.inside.rest c.self.inside.stale c.self.invariant (c.cut.ensures.sized ∙ c.read_more.ensures.front.sized) history c.cut.ensures.hashes
-    (c.cut.ensures.points ∙ ap (λ n. take n c.read_more.new.draft.points.items) points_are ∙ c.read_more.ensures.front.points)
+    let cut = cut_back c.self.inside.draft c.read_more.new.draft c.cut.new.self c.len-lists.result c.len-changes.result c.self.invariant.stem c.read_more.ensures.front
+    (omega (arith, c.len-lists.ensures, c.self.inside.draft.lists.ok)) (omega (arith, c.len-changes.ensures, c.self.inside.draft.changes.ok)) c.cut.ensures.epoch c.cut.ensures.lists c.cut.ensures.changes c.cut.ensures.hashes in
+    loaded_cut c.self.inside.draft c.refresh.new.draft c.self.inside.newest.items c.self.inside.rest c.self.inside.stale c.is_err-self-inside.result c.self.invariant
+    (ap (λ (k : Kept). k.sized) (c.refresh.ensures.same []) ∙ c.cut.ensures.sized ∙ c.read_more.ensures.front.sized) (ap (λ (k : Kept). k.versions) (c.refresh.ensures.same []) ∙ cut.history)
+    c.refresh.ensures.stem (fresh_or_stale c.refresh.result (IsDraft c.refresh.new.draft) c.is_err-self-inside.result c.is_err-self-inside.ensures.value c.refresh.ensures.draft)
 
 pub returns-in-Err-clause-same : goal.returns-in-Err-clause-same
 returns-in-Err-clause-same g c =
-    let lists_are : c.len-lists.result ≡ length c.self.inside.draft.lists.items = omega (arith, c.len-lists.ensures, c.self.inside.draft.lists.ok) in
-    let changes_are : c.len-changes.result ≡ length c.self.inside.draft.changes.items = omega (arith, c.len-changes.ensures, c.self.inside.draft.changes.ok) in
-    let history = cut_history c.self.inside.draft c.read_more.new.draft c.cut.new.self c.read_more.ensures.front c.cut.ensures.epoch
-    (c.cut.ensures.lists ∙ ap (λ n. take n c.read_more.new.draft.lists.items) lists_are) (c.cut.ensures.changes ∙ ap (λ n. take n c.read_more.new.draft.changes.items) changes_are) in
-    same_kept c.self.inside.draft c.cut.new.self (c.cut.ensures.sized ∙ c.read_more.ensures.front.sized) history c.self.inside.rest ∙ c.self.view_is
+    let cut = cut_back c.self.inside.draft c.read_more.new.draft c.cut.new.self c.len-lists.result c.len-changes.result c.self.invariant.stem c.read_more.ensures.front
+    (omega (arith, c.len-lists.ensures, c.self.inside.draft.lists.ok)) (omega (arith, c.len-changes.ensures, c.self.inside.draft.changes.ok)) c.cut.ensures.epoch c.cut.ensures.lists c.cut.ensures.changes c.cut.ensures.hashes in
+    c.refresh.ensures.same c.self.inside.rest
+    ∙ same_kept c.self.inside.draft c.cut.new.self (c.cut.ensures.sized ∙ c.read_more.ensures.front.sized) cut.history c.self.inside.rest ∙ c.self.view_is

@@ -1,0 +1,8 @@
+use Rattle.std.proofs.Common.{◌≡◌, map, take}
+use Rattle.std.specs.Prelude.{filter}
+use Rattle.sb_model.specs.declared.history.Added.{Added}
+use Rattle.list_versions.specs.Lookup.{begins}
+use Rattle.list_versions.proofs.listing.begun_in.Given as goal
+
+abbrev pub invariant-loop-entry : goal.invariant-loop-entry
+invariant-loop-entry l = l.hashes.items ≡ filter (begins l.prefix) (map (λ (entry : Added). entry.hash) (take l.entry-index l.entries))
