@@ -1,5 +1,5 @@
 -- Lines, and the versions at which they end.
-use Rattle.std.proofs.Common.{◌≡◌, ◌⊎◌, ℕ, zero, suc, ◌+◌, ◌<◌, ◌≤◌, nat_lt, Bool, true, false, not, ◌&&◌, cond, List, [], ◌∷◌, ◌++◌, length, take, drop, map, get_or, set, fold, refl, sym, ap, subst, ◌∙◌, inl, inr, arith, length-append}
+use Rattle.std.proofs.Common.{◌≡◌, ◌⊎◌, ℕ, zero, suc, ◌+◌, ◌<◌, ◌≤◌, nat_lt, Bool, true, false, ◌&&◌, cond, List, [], ◌∷◌, ◌++◌, length, take, drop, map, get_or, set, fold, refl, sym, ap, ◌∙◌, inl, inr, arith, length-append}
 use Rattle.std.specs.Prelude.{All, ◌==◌}
 use Rattle.std.specs.List.{filter}
 use Rattle.std.specs.Str.{bytes_eq}
@@ -9,7 +9,7 @@ use Rattle.std.proofs.lemmas.List.{map-append, take-append-le, length-map}
 use Rattle.std.proofs.lemmas.List.Elements.{filter-append, All-head, All-tail, All-cons, All-nil, All-push}
 use Rattle.sb_model.specs.declared.history.Added.{Added}
 use Rattle.sb_model.specs.History.{without_hash, with_added}
-use Rattle.list_versions.specs.Ends.{Line, never, standing, ended, ended_line, lengthened, after_lines, restored, restored_end}
+use Rattle.list_versions.specs.Ends.{Line, never, standing, ended, ended_line, lengthened, after_lines, restored, restored_end, unended}
 
 lt_true : (m n : ℕ) → m < n → nat_lt m n ≡ true
 lt_true m n h = grind (arith, nat_tests)
@@ -131,9 +131,6 @@ front_after v version n lines removes adds lt small few =
 
 -- ---- those that have no end
 
-abbrev pub unended : List Line → List Added
-unended lines = map (λ (l : Line). l.0) (filter (λ (l : Line). l.1 == never) lines)
-
 unended_step : (version : ℕ) (hash : List ℕ) (line : Line) (xs ys : List Line) (a b : Bool) → (version == never) ≡ false → (line.1 == never) ≡ a → bytes_eq line.0.hash hash ≡ b
     → unended xs ≡ without_hash (unended ys) hash → unended (cond (a && b) (line.0, version) line ∷ xs) ≡ without_hash (unended (line ∷ ys)) hash
 unended_step version hash line xs ys true true ne e f more = rw (ne, e, f) more
@@ -145,7 +142,7 @@ unended_ended version [] hash small = refl
 unended_ended version (line ∷ lines) hash small =
     unended_step version hash line (ended version lines hash) lines (line.1 == never) (bytes_eq line.0.hash hash) (not_never version small) refl refl (unended_ended version lines hash small)
 
-unended_append : (xs ys : List Line) → unended (xs ++ ys) ≡ unended xs ++ unended ys
+pub unended_append : (xs ys : List Line) → unended (xs ++ ys) ≡ unended xs ++ unended ys
 unended_append xs ys = ap (map (λ (l : Line). l.0)) (filter-append (λ (l : Line). l.1 == never) xs ys) ∙ map-append {B = Added} (λ (l : Line). l.0) (filter (λ (l : Line). l.1 == never) xs) (filter (λ (l : Line). l.1 == never) ys)
 
 unended_lengthened : (version : ℕ) (lines : List Line) (added : Added) → version < never → unended (lengthened version lines added) ≡ with_added (unended lines) added

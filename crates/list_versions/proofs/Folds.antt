@@ -1,5 +1,5 @@
 -- Folding the changes of a history.
-use Rattle.std.proofs.Common.{◌≡◌, ◌≢◌, ℕ, zero, suc, inl, inr, ◌+◌, ◌^◌, ◌<◌, ◌≤◌, List, [], ◌∷◌, ◌++◌, length, take, get_or, refl, sym, ap, subst, ◌∙◌, arith, Bool, true, false, not, cond, fold, nat_le, get_or-set_other, get_or-set_same}
+use Rattle.std.proofs.Common.{◌≡◌, ◌≢◌, ℕ, zero, suc, inl, inr, ◌+◌, ◌^◌, ◌<◌, ◌≤◌, List, [], ◌∷◌, ◌++◌, length, take, get_or, refl, sym, ap, subst, ◌∙◌, arith, ◌⊎◌, Bool, true, false, not, cond, fold, nat_le, get_or-set_other, get_or-set_same}
 use Rattle.std.specs.Prelude.{All, OnOk, Result, Ok, Err}
 use Rattle.std.specs.Str.{bytes_eq}
 use Rattle.std.proofs.Math.ListN.{set}
@@ -172,6 +172,12 @@ draft_stem draft h = record {
   read = All-weaker (λ (list : Listed). HasPlaced list.name draft.changes.items list.live) (λ (list : Listed). HasRead list.name draft.changes.items list.live)
       (λ list k. read_placed list.name draft.changes.items list.live k) draft.lists.items h.placed;
 }
+
+-- tables that are not stale are those of the history
+pub fresh_draft : (draft : Draft) (stale : Bool) → stale ≡ false → (stale ≡ true) ⊎ IsDraft draft → IsDraft draft
+fresh_draft draft true h k = absurd (cc)
+fresh_draft draft false h (inl e) = absurd (cc)
+fresh_draft draft false h (inr d) = d
 
 -- ---- what is published of each version
 

@@ -188,7 +188,7 @@ cut_within : (version : ℕ) (lines : List Line) → All (IsEndBy version) (cut_
 cut_within version [] = All-nil (IsEndBy version)
 cut_within version (line ∷ lines) = All-cons (IsEndBy version) (cut_line version line) (cut_lines version lines) (end_by version line.1 (nat_lt version line.1) refl) (cut_within version lines)
 
-front_adds : (list : ListName) (changes : List Change) (version : ℕ) → take (length (adds_of list (take version changes))) (adds_of list changes) ≡ adds_of list (take version changes)
+pub front_adds : (list : ListName) (changes : List Change) (version : ℕ) → take (length (adds_of list (take version changes))) (adds_of list changes) ≡ adds_of list (take version changes)
 front_adds list changes version =
     ap (λ (cs : List Change). take (length (adds_of list (take version changes))) (adds_of list cs)) (sym (take-append-drop version changes))
     ∙ ap (take (length (adds_of list (take version changes)))) (adds_both list (take version changes) (drop version changes))

@@ -23,6 +23,7 @@ pub mod Keeping
 pub mod LineEnds
 pub mod LineFaults
 pub mod LineTexts
+pub mod Locating
 pub mod Mapped
 pub mod Membership
 pub mod NameCodes
@@ -34,6 +35,8 @@ pub mod Reading
 pub mod ReadBack
 pub mod Records
 pub mod Renewed
+pub mod Shiftings
+pub mod Shifts
 pub mod Shown
 pub mod Single
 pub mod Splitting

@@ -1,12 +1,12 @@
 -- The lines that are written are read back.
-use Rattle.std.proofs.Common.{rules, ◌≡◌, ℕ, zero, suc, ◌+◌, ◌*◌, ◌^◌, ◌<◌, ◌≤◌, ◌==◌, nat_lt, nat_eq, List, [], ◌∷◌, ◌++◌, Bool, true, false, ◌&&◌, ◌||◌, if◌then◌else◌, length, slice_index, refl, sym, ap, ◌∙◌, arith, eq-eqb, length-append, Option, Some, None, Result, Ok, Err, cond}
-use Rattle.std.specs.Prelude.{⊤, All, not, nat_le, decimal, codes}
+use Rattle.std.proofs.Common.{rules, ◌≡◌, ℕ, zero, suc, ◌*◌, ◌^◌, ◌<◌, ◌≤◌, ◌==◌, nat_lt, List, [], ◌∷◌, ◌++◌, Bool, true, false, ◌&&◌, ◌||◌, if◌then◌else◌, length, slice_index, refl, ap, ◌∙◌, arith, eq-eqb, length-append, Some, None, Result, Ok}
+use Rattle.std.specs.Prelude.{⊤, All, not, nat_le, decimal}
 use Rattle.std.specs.Char.{is_ascii_digit}
 use Rattle.std.specs.Int.{w64, byte_at, bytes_high_first, to_be_bytes, from_be_bytes}
 use Rattle.std.specs.List.{list_all, join_with_byte}
 use Rattle.std.specs.Option.{option_map}
 use Rattle.std.specs.Result.{result_ok}
-use Rattle.std.specs.Str.Parse.{AllDigits, digits_value}
+use Rattle.std.specs.Str.Parse.{digits_value}
 use Rattle.std.proofs.lemmas.Bool.{and_parts}
 use Rattle.std.proofs.lemmas.Bool.Decides.{nat_tests}
 use Rattle.std.proofs.lemmas.Fmt.{digits_decimal, digits_value-decimal, first_decimal, decimal_nonempty, decimal_digit, length-decimal-le}
@@ -26,7 +26,7 @@ use Rattle.sb_model.specs.declared.names.PlatformType.TheVariants as platform
 use Rattle.sb_model.specs.declared.names.EntryType.{EntryType}
 use Rattle.sb_model.specs.declared.names.EntryType.TheVariants as entry
 use Rattle.sb_model.specs.declared.names.ListName.{ListName}
-use Rattle.sb_model.specs.Names.{threat_word, threat_of, platform_word, platform_of, entry_word, entry_of, slash, parts_of, name_of_words, name_of_parts, name_of, text_of}
+use Rattle.sb_model.specs.Names.{threat_word, threat_of, platform_word, platform_of, entry_word, entry_of, slash, parts_of, name_of_parts, name_of, text_of}
 use Rattle.list_versions.specs.Lines.{is_space, is_newline, words_of, is_numeral, within, number_of, bytes_of, hash_of}
 use Rattle.list_versions.specs.Split.{IsOneLine}
 

@@ -1,6 +1,6 @@
 -- Maps from full hashes to sizes, and the full hashes that they stand for.
 use Rattle.std.proofs.Common.{◌≡◌, ◌⊎◌, ℕ, List, [], ◌∷◌, map, refl, sym, ap, subst, ◌∙◌, inl, inr, arith, Bool, true, false, not, cond, Option, Some, None, fold}
-use Rattle.std.specs.Prelude.{All, Contains, ◌↔◌, filter, Result, Ok, Err, IfOk}
+use Rattle.std.specs.Prelude.{All, Contains, ◌↔◌, filter}
 use Rattle.std.specs.Cmp.{eq_by_cmp_equiv}
 use Rattle.std.specs.Cmp.Lexicographic.{nat_list_cmp_total}
 use Rattle.std.specs.List.Sorted.{IsStrictlySortedBy}
@@ -13,7 +13,6 @@ use Rattle.std.proofs.lemmas.Map.Keys.{IsDistinct-from_sorted}
 use Rattle.std.proofs.lemmas.Map.Lookups.{exact_bytes}
 use Rattle.std.proofs.lemmas.Map.Text.{is_eq-slice_cmp}
 use Rattle.std.proofs.lemmas.Map.Views.{Contains-from_lookup, lookup-from_Contains, tells_apart}
-use Rattle.hash_prefixes.specs.declared.hashes.FullHash.{FullHash}
 use Rattle.sb_model.specs.declared.history.Added.{Added}
 use Rattle.sb_model.specs.declared.history.Change.{Change}
 use Rattle.sb_model.specs.declared.names.ListName.{ListName}
@@ -22,8 +21,6 @@ use Rattle.sb_model.specs.Names.{same_name}
 use Rattle.sb_model.specs.Prefixes.{bytes_cmp, IsRising, set_of}
 use Rattle.list_versions.specs.HashSizes.{HashSizes, size_in, Sets, IsMapOf, shown_entry}
 use Rattle.list_versions.specs.Live.{IsPublishable}
-use Rattle.list_versions.specs.Lookup.{begins}
-use Rattle.list_versions.proofs.Begun.{FoundIn}
 use Rattle.list_versions.proofs.Finding.{same_bytes, bytes_are_same}
 use Rattle.list_versions.proofs.Membership.{In, contains_in, in_contained, in_left, in_right, in_either, in_map, from_map, in_filter, from_filter}
 use Rattle.list_versions.proofs.Shown.{shown_is}

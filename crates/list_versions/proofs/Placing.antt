@@ -1,13 +1,13 @@
 -- The lines that have no end, in the buckets of a list.
-use Rattle.std.proofs.Common.{◌≡◌, ℕ, zero, suc, ◌+◌, ◌^◌, ◌<◌, ◌≤◌, Bool, true, false, not, ◌&&◌, cond, List, [], ◌∷◌, ◌++◌, length, take, map, fold, set, refl, sym, ap, subst, ◌∙◌, arith, append_assoc, length-append}
+use Rattle.std.proofs.Common.{◌≡◌, ℕ, zero, suc, ◌+◌, ◌<◌, Bool, true, false, not, ◌&&◌, cond, List, [], ◌∷◌, ◌++◌, length, take, map, set, refl, sym, ap, ◌∙◌, arith, length-append}
 use Rattle.std.specs.Prelude.{◌==◌}
 use Rattle.std.specs.List.{filter}
 use Rattle.std.specs.Str.{bytes_eq}
-use Rattle.std.proofs.lemmas.List.{map-append, append-nil, length-map}
+use Rattle.std.proofs.lemmas.List.{append-nil, length-map}
 use Rattle.std.proofs.lemmas.List.Elements.{filter-append}
 use Rattle.sb_model.specs.declared.history.Added.{Added}
 use Rattle.list_versions.specs.Buckets.{without, with_line}
-use Rattle.list_versions.specs.Ends.{Line, never, placed, ended, ended_line, lengthened, ended_at, is_of, restored}
+use Rattle.list_versions.specs.Ends.{Line, never, placed, ended, lengthened, ended_at, is_of, restored}
 use Rattle.list_versions.specs.Live.{Replaces, IsPlaced, KeepsEnds, has_line, lines_in}
 use Rattle.list_versions.specs.declared.bucket.Standing.{Standing}
 use Rattle.list_versions.specs.declared.live.Live.{Live}

@@ -1,14 +1,14 @@
 -- The newest sets of the lists of a history that grew.
 use Rattle.std.proofs.Common.{◌≡◌, ℕ, zero, suc, ◌+◌, ◌<◌, ◌≤◌, List, [], ◌∷◌, ◌++◌, length, take, drop, map, get_or, fold, refl, sym, ap, subst, ◌∙◌, arith, Bool, true, false, nat_lt, not, ◌&&◌, ◌||◌}
 use Rattle.std.specs.Prelude.{All}
-use Rattle.std.proofs.lemmas.List.{take_more, map-append, take-append-drop, take_all, get_or-take, length-map}
+use Rattle.std.proofs.lemmas.List.{take_more, map-append, take-append-drop, take_all, get_or-take, get_or_default, length-map}
 use Rattle.std.proofs.Math.ListN.{get_or-map}
 use Rattle.std.proofs.lemmas.Bool.Decides.{nat_tests}
 use borrow.Author.Count.{below_more}
 use Rattle.sb_model.specs.declared.history.Added.{Added}
 use Rattle.sb_model.specs.declared.history.Change.{Change}
 use Rattle.sb_model.specs.declared.names.ListName.{ListName}
-use Rattle.sb_model.specs.History.{after_change, sizes_at, prefix_of}
+use Rattle.sb_model.specs.History.{after_change, sizes_at, prefix_of, prefixes_at}
 use Rattle.sb_model.specs.Prefixes.{set_of}
 use Rattle.sb_model.specs.Names.{same_name}
 use Rattle.list_versions.specs.declared.draft.Draft.{Draft}
@@ -17,7 +17,7 @@ use Rattle.list_versions.specs.declared.newest.Newest.{Newest}
 use Rattle.list_versions.specs.declared.renewing.Before.{Before}
 use Rattle.list_versions.specs.Draft.{declared_of, history_of, KeepsFront}
 use Rattle.list_versions.specs.Loaded.{IsNewest}
-use Rattle.list_versions.specs.Renewing.{concerns, stays}
+use Rattle.list_versions.specs.Renewing.{WasNewest, concerns, stays}
 use Rattle.list_versions.proofs.Keeping.{keeps_longer, length_declared, names_front}
 
 pub names_more : (newest grown : List Newest) (lists : List Listed) (i : ℕ) (next : Newest) → i < length lists → grown ≡ newest ++ next ∷ [] → ((d : Listed) → next.name ≡ (get_or lists i d).name)
@@ -185,6 +185,24 @@ are_newest old new newest before taken keeps names_old names_new each made h =
     record {
       names = same_names taken newest long (λ k d lt. (good k d (omega arith)).0) ∙ names_new;
       each = λ k d lt. (good k d (omega arith)).1;
+    }
+
+-- the sets that were there are those of the version before
+pub was_newest : (old new : Draft) (newest : List Newest) → KeepsFront old new → All (IsNewest (history_of old)) newest → map (λ (n : Newest). n.name) newest ≡ map (λ (l : Listed). l.name) old.lists.items
+    → (k : ℕ) (l : Listed) (d : Newest) → k < length newest → WasNewest new (first_of old) (get_or new.lists.items k l) (get_or newest k d)
+was_newest old new newest keeps each names k l d lt =
+    let lt_old : k < length old.lists.items = omega (arith, lt, names_length newest old.lists.items names) in
+    let lt_new : k < length (map (λ (x : Listed). x.name) new.lists.items) = omega (arith, lt_old, keeps_longer old new keeps, length-map {B = ListName} new.lists.items (λ (x : Listed). x.name)) in
+    let name : (get_or newest k d).name ≡ (get_or new.lists.items k l).name =
+    sym (name_get newest k d) ∙ ap (λ ns. get_or ns k d.name) (names ∙ sym (names_front old new keeps))
+    ∙ get_or-take (length old.lists.items) (map (λ (x : Listed). x.name) new.lists.items) k d.name lt_old
+    ∙ get_or_default (map (λ (x : Listed). x.name) new.lists.items) k d.name l.name lt_new ∙ get_or-map (λ (x : Listed). x.name) new.lists.items k l in
+    let n = length old.changes.items in
+    let sizes : sizes_at (history_of old) (get_or newest k d).name n ≡ sizes_at (history_of new) (get_or newest k d).name n =
+    ap (fold (after_change (get_or newest k d).name) []) (take_all n old.changes.items (omega arith) ∙ sym keeps.changes) in
+    record {
+      name = name;
+      set = (each k d lt).set ∙ ap (λ es. set_of (map prefix_of es)) sizes ∙ ap (λ (nm : ListName). prefixes_at (history_of new) nm n) name;
     }
 
 -- ---- where there were no lists

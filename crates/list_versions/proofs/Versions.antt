@@ -1,5 +1,5 @@
 -- The lines of a list with their ends, while changes come.
-use Rattle.std.proofs.Common.{◌≡◌, ◌⊎◌, ℕ, ◌+◌, ◌<◌, ◌≤◌, Bool, true, false, cond, List, [], ◌∷◌, ◌++◌, length, take, drop, map, get_or, fold, refl, sym, ap, subst, ◌∙◌, inl, inr, arith, append_assoc, length-append}
+use Rattle.std.proofs.Common.{◌≡◌, ℕ, ◌+◌, ◌<◌, ◌≤◌, Bool, true, false, List, [], ◌∷◌, ◌++◌, length, take, drop, map, get_or, fold, refl, sym, ap, subst, ◌∙◌, inl, inr, arith, append_assoc, length-append}
 use Rattle.std.specs.Prelude.{All, if◌then◌else◌}
 use Rattle.std.proofs.Math.Nat.{eq-or-lt_of_le}
 use Rattle.std.proofs.lemmas.List.{take_all, take_more, take-append-le, take-append-drop, append-nil, length-map}
@@ -10,9 +10,9 @@ use Rattle.sb_model.specs.declared.names.ListName.{ListName}
 use Rattle.sb_model.specs.History.{after_change, with_added, without_hash}
 use Rattle.sb_model.specs.Names.{same_name}
 use Rattle.list_versions.specs.Draft.{lines_after}
-use Rattle.list_versions.specs.Ends.{Line, HasEnds, adds_if, adds_of, after_lines, never, standing}
+use Rattle.list_versions.specs.Ends.{Line, HasEnds, adds_if, adds_of, after_lines, never, standing, unended}
 use Rattle.list_versions.specs.Folding.{after_changes}
-use Rattle.list_versions.proofs.Ended.{IsEndBy, after_adds, by_after, by_more, front_after, newest_stand, unended, unended_after}
+use Rattle.list_versions.proofs.Ended.{IsEndBy, after_adds, by_after, by_more, front_after, newest_stand, unended_after}
 
 pub adds_both : (list : ListName) (first second : List Change) → adds_of list (first ++ second) ≡ adds_of list first ++ adds_of list second
 adds_both list [] second = refl
@@ -25,8 +25,12 @@ adds_more list changes change = adds_both list changes (change ∷ []) ∙ ap (�
 
 pub adds_front : (list : ListName) (changes : List Change) (v : ℕ) → length (adds_of list (take v changes)) ≤ length (adds_of list changes)
 adds_front list changes v =
-    omega (arith, ap (λ (cs : List Change). length (adds_of list cs)) (take-append-drop v changes), ap length (adds_both list (take v changes) (drop v changes)),
-    length-append (adds_of list (take v changes)) (adds_of list (drop v changes)))
+    omega (
+      arith,
+      ap (λ (cs : List Change). length (adds_of list cs)) (take-append-drop v changes),
+      ap length (adds_both list (take v changes) (drop v changes)),
+      length-append (adds_of list (take v changes)) (adds_of list (drop v changes)),
+    )
 
 pub count_step : (list : ListName) (changes : List Change) (i : ℕ) (item : Change) (b : Bool) → i < length changes → item ≡ get_or changes i item → same_name item.list list ≡ b
     → length (adds_of list (take (i + 1) changes)) ≡ length (adds_of list (take i changes)) + length (adds_if b item.adds)

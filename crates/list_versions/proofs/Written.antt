@@ -1,5 +1,5 @@
 -- A journal that is written is read as its history.
-use Rattle.std.proofs.Common.{◌≡◌, ℕ, zero, suc, ◌+◌, ◌^◌, ◌<◌, ◌≤◌, nat_lt, nat_eq, ◌==◌, List, [], ◌∷◌, ◌++◌, Bool, true, false, ◌&&◌, ◌||◌, cond, if◌then◌else◌, length, take, fold, refl, sym, ap, ◌∙◌, subst, arith, eq-eqb, length-append, append_assoc, Option, Some, None, Result, Ok, Err}
+use Rattle.std.proofs.Common.{◌≡◌, ℕ, zero, suc, ◌+◌, ◌^◌, ◌<◌, ◌≤◌, nat_lt, nat_eq, List, [], ◌∷◌, ◌++◌, Bool, true, false, ◌&&◌, ◌||◌, cond, if◌then◌else◌, length, take, fold, refl, sym, ap, ◌∙◌, subst, arith, eq-eqb, length-append, append_assoc, Option, Some, None, Ok}
 use Rattle.std.specs.Prelude.{⊤, All, nat_le, codes, decimal, find, option_and_then}
 use Rattle.std.specs.Int.{w64, to_be_bytes, from_be_bytes}
 use Rattle.std.specs.List.{flat_map, join_with_byte, list_any, slice_split}
@@ -16,15 +16,15 @@ use Rattle.hex.specs.Hex.{IsBytes, encode_lower}
 use Rattle.sb_model.specs.declared.history.Added.{Added}
 use Rattle.sb_model.specs.declared.history.Change.{Change}
 use Rattle.sb_model.specs.declared.names.ListName.{ListName}
-use Rattle.sb_model.specs.Names.{same_name, name_of, text_of}
+use Rattle.sb_model.specs.Names.{same_name, text_of}
 use Rattle.sb_model.specs.History.{History, IsPrefixSize, after_change, declares, sizes_at, version_count}
 use Rattle.list_versions.specs.declared.heads.Head.{Head}
 use Rattle.list_versions.specs.declared.heads.Head.TheVariants as head
 use Rattle.list_versions.specs.declared.heads.Header.{Header}
 use Rattle.list_versions.specs.declared.fault.JournalFault.{JournalFault}
-use Rattle.list_versions.specs.Journal.{Kept, Begun, Reading, ◌>>=◌, after_bytes, after_change_line, after_first, after_front, after_head, after_header, after_line, after_list, after_parts, at_record, change_of, counted, declared_size_of, empty_history, if_short, if_within_limits, is_complete, kept_of, lines_begun, next_line, settled, with_bytes, with_change, with_remove, with_add}
-use Rattle.list_versions.specs.Limits.{IsWithin, hash_lines, has_head, is_crowded, limit_fault, most_alike, most_changes, most_hash_lines, most_hashes, most_lists, most_prefix_bytes, prefix_bytes}
-use Rattle.list_versions.specs.Lines.{bytes_of, form_of, added_of, added_of_words, change_head, hash_of, head_of, head_of_words, header_of, header_of_words, is_change_size, is_newline, list_head, newline, number_of, removed_of, size_of}
+use Rattle.list_versions.specs.Journal.{Kept, Begun, Reading, ◌>>=◌, after_bytes, after_change_line, after_first, after_head, after_header, after_line, declared_size_of, empty_history, if_short, if_within_limits, is_complete, kept_of, lines_begun, next_line, settled, with_change, with_remove, with_add}
+use Rattle.list_versions.specs.Limits.{IsWithin, hash_lines, is_crowded, limit_fault, most_alike, most_changes, most_hashes, most_lists, most_prefix_bytes, prefix_bytes}
+use Rattle.list_versions.specs.Lines.{bytes_of, form_of, added_of, added_of_words, change_head, head_of, head_of_words, header_of, header_of_words, is_change_size, is_newline, list_head, newline, number_of, removed_of, size_of}
 use Rattle.list_versions.specs.Split.{IsLine, IsOneLine}
 use Rattle.list_versions.specs.Written.{AreApart, HasDeclaredSizes, HasJournal, HasLines, add_line, add_words, form_word, change_line, change_text, header_line, journal_text, list_line, remove_line, wholly}
 use Rattle.list_versions.proofs.LineEnds.{parts_line}

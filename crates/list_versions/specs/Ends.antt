@@ -1,13 +1,12 @@
 -- The ends of the lines of a list that add. A line's end is the version at which another line, of the same list and full
 -- hash, takes the hash out or puts it in anew. So the full hashes at a version are those of the lines up to it whose end is
 -- above it.
-use Rattle.std.specs.Prelude.{◌≡◌, ◌⊎◌, ℕ, ◌<◌, ◌≤◌, ◌==◌, ◌+◌, ◌&&◌, Bool, nat_lt, if◌then◌else◌, List, [], ◌∷◌, ◌++◌, length, take, map, filter, fold, slice_set, All}
+use Rattle.std.specs.Prelude.{◌≡◌, ◌⊎◌, ℕ, ◌≤◌, ◌==◌, ◌+◌, ◌&&◌, ◌||◌, not, Bool, nat_lt, if◌then◌else◌, List, [], ◌∷◌, ◌++◌, length, take, map, filter, fold, slice_set, All}
 use Rattle.std.specs.List.{flat_map}
 use Rattle.std.specs.Str.{bytes_eq}
 use Rattle.sb_model.specs.declared.history.Added.{Added}
 use Rattle.sb_model.specs.declared.history.Change.{Change}
 use Rattle.sb_model.specs.declared.names.ListName.{ListName}
-use Rattle.sb_model.specs.History.{after_change}
 use Rattle.sb_model.specs.Names.{same_name}
 use Rattle.list_versions.specs.declared.bucket.Standing.{Standing}
 use Rattle.list_versions.specs.Folding.{after_changes}
@@ -23,6 +22,17 @@ Line = Added × ℕ
 -- the hashes of the lines whose end is above a version
 abbrev pub standing : ℕ → List Line → List Added
 standing version lines = map (λ line. line.0) (filter (λ line. nat_lt version line.1) lines)
+
+-- the hashes of the lines that have no end
+abbrev pub unended : List Line → List Added
+unended lines = map (λ line. line.0) (filter (λ line. line.1 == never) lines)
+
+-- the hashes of the lines whose end is above a version, those that have none with them or without them
+abbrev pub lasts : ℕ → Bool → Line → Bool
+lasts version endless line = nat_lt version line.1 && (endless || not (line.1 == never))
+
+abbrev pub lasting : ℕ → Bool → List Line → List Added
+lasting version endless lines = map (λ line. line.0) (filter (lasts version endless) lines)
 
 -- what the changes of a list add, one line after the other
 abbrev pub adds_if : Bool → List Added → List Added

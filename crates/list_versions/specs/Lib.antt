@@ -13,5 +13,6 @@ pub mod Lookup
 pub mod Pieces
 pub mod Printed
 pub mod Renewing
+pub mod Shifting
 pub mod Split
 pub mod Written

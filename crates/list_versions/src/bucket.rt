@@ -66,8 +66,8 @@ impl Tally {
     }
 }
 
-// The bytes that are published of a full hash.
-fn published(entry: &Added) -> &[u8]
+/// The bytes that are published of a full hash.
+pub(crate) fn published(entry: &Added) -> &[u8]
     ensures value { result.now ≡ prefix_of entry.now }
     ensures short { length (prefix_of entry.now) ≤ 32 }
 {

@@ -1,4 +1,4 @@
-ghost use Rattle.std.specs.Prelude.{◌≡◌, ◌≢◌, ◌⊎◌, true, false, ℕ, ◌<◌, ◌≤◌, List, [], ◌++◌, length, map, Ok, Err, IfOk, OnOk, IfErr, IsErrOf, slice_index_or};
+ghost use Rattle.std.specs.Prelude.{◌≡◌, ◌≢◌, ◌⊎◌, true, false, ℕ, ◌<◌, ◌≤◌, List, [], ◌++◌, length, map, All, Ok, Err, IfOk, OnOk, IfErr, IsErrOf, slice_index_or};
 ghost use Rattle.sb_outside.specs.Outside.{Rose};
 ghost use Rattle.list_versions.specs.Draft.{history_of, kept_of_draft, IsDraft, before_record, KeepsFront};
 ghost use Rattle.list_versions.specs.Loaded.{IsStem, IsNewest};
@@ -24,18 +24,22 @@ pub(crate) struct More {
     pub newest: Vec<Newest>,
 }
 
-/// Reads the records of a text, and then further records to the end of the input.
+/// Reads the records of a text, and then further records to the end of the input. The newest sets
+/// are those of the history before.
 pub(crate) fn read_more<S: Source>(
     alloc: Global,
     source: &mut S,
     buffer: &mut [u8],
     draft: &mut Draft,
+    newest: &[Newest],
     stale: bool,
     text: Bytes,
 ) -> Result<More, JournalFault>
     requires buffer { 0 < length buffer.old }
     requires stem { IsStem draft.old }
     requires fresh { (stale ≡ true) ⊎ IsDraft draft.old }
+    requires each { All (IsNewest (history_of draft.old)) newest.now }
+    requires known { map (λ newest. newest.name) newest.now ≡ map (λ listed. listed.name) draft.old.lists.items }
     ensures draft { OnOk result (IsDraft draft.new) }
     ensures ok { IfOk result (λ more. ReadsAll (λ bytes. before_record draft.old [] (text ++ bytes))
         (kept_of_draft draft.new more.rest) (S.left source.old) (S.left source.new)) }
@@ -68,7 +72,7 @@ pub(crate) fn read_more<S: Source>(
         Ok(rest) => rest,
         Err(fault) => return Err(fault),
     };
-    match renew(alloc, draft, before) {
+    match renew(alloc, draft, before, newest) {
         Ok(newest) => Ok(More { rest, newest }),
         Err(_) => Err(JournalFault::OutOfMemory),
     }

@@ -27,6 +27,7 @@ use crate::pieces::{FIRST_PIECE, PIECE, buffer_of, read_first};
 use crate::published::published_of;
 use crate::refreshing::refresh;
 use crate::renewing::{Before, take_kept};
+use crate::shifting::{is_near, older_set};
 use crate::standing::entries_at;
 use hash_prefixes::{FullHash, Prefix};
 use prefix_set::PrefixSet;
@@ -107,6 +108,7 @@ impl History {
             source,
             buffer.as_mut_slice(),
             &mut draft,
+            &[],
             false,
             text,
         ) {
@@ -202,7 +204,15 @@ impl History {
         let lists = self.draft.lists.len();
         let changes = self.draft.changes.len();
         let hashes = self.draft.hashes;
-        match read_more(alloc, source, buffer, &mut self.draft, self.stale, text) {
+        match read_more(
+            alloc,
+            source,
+            buffer,
+            &mut self.draft,
+            self.newest.as_slice(),
+            self.stale,
+            text,
+        ) {
             Ok(mut more) => {
                 let before = Before { lists, changes };
                 let newest = &mut more.newest;
@@ -318,6 +328,13 @@ impl History {
         let version = version as usize;
         if version == self.draft.changes.len() {
             return Ok(Some(newest.set.copy(alloc)?));
+        }
+        if !self.stale
+            && is_near(self.draft.changes.as_slice(), version)
+            && let Some(live) = live_of(self.draft.lists.as_slice(), list)
+        {
+            let set = older_set(alloc, &self.draft, list, live, &newest.set, version)?;
+            return Ok(Some(set));
         }
         let entries = entries_at(alloc, &self.draft, list, version)?;
         Ok(Some(published_of(alloc, entries.as_slice())?))

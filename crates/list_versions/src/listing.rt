@@ -80,11 +80,7 @@ fn push_begun(
 }
 
 // The hashes that begin with a prefix.
-fn begun_in(
-    alloc: Global,
-    entries: &[Added],
-    prefix: &Prefix,
-) -> Result<Vec<[u8; 32]>, OutOfMemory>
+fn begun_in(alloc: Global, entries: &[Added], prefix: &Prefix) -> Result<Vec<[u8; 32]>, OutOfMemory>
     ensures { IfOk result (λ hashes.
         hashes.items ≡ filter (begins prefix.now) (map (λ entry. entry.hash) entries.now)) }
 {

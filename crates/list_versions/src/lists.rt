@@ -108,8 +108,8 @@ pub(crate) fn limit_of(lists: &[Listed], change: &Change, line: u64) -> Option<J
     None
 }
 
-// How many lines the changes of a list add.
-fn adds_count(changes: &[Change], list: ListName) -> usize
+/// How many lines the changes of a list have that add.
+pub(crate) fn adds_count(changes: &[Change], list: ListName) -> usize
     ensures { result ≡ min (length (adds_of list changes.now)) most_lines }
 {
     let mut count = 0usize;

@@ -108,12 +108,7 @@ impl Live {
         ensures ends { self.new.ends.items ≡ ended_at version self.old.ends.items
             (filter (is_of hash.now) (lines_in self.old.buckets.entries head.now)) }
     {
-        end_each(
-            &mut self.ends,
-            lines_at(&self.buckets, head),
-            hash,
-            version,
-        );
+        end_each(&mut self.ends, lines_at(&self.buckets, head), hash, version);
     }
 
     // Takes a hash out at a version.

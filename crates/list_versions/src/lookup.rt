@@ -7,7 +7,7 @@ ghost use Rattle.sb_model.specs.declared.history.Added.{Added as Entry};
 ghost use Rattle.sb_model.specs.declared.names.ListName.{ListName as Name};
 ghost use Rattle.sb_model.specs.declared.history.Change.{Change as Changed};
 ghost use Rattle.list_versions.specs.Buckets.{added_of};
-ghost use Rattle.list_versions.specs.Live.{Holds, HasRead};
+ghost use Rattle.list_versions.specs.Live.{Holds, HasPlaced, HasRead};
 ghost use Rattle.list_versions.specs.Lookup.{begins};
 
 use crate::bucket::Standing;
@@ -24,6 +24,8 @@ use std::alloc::Global;
 pub(crate) fn live_of(lists: &[Listed], name: ListName) -> Option<&Live>
     ensures found { (sizes : Name → List Entry) → All (λ list. Holds list.live (sizes list.name)) lists.now
         → IfSome result (λ live. Holds live.now (sizes name)) }
+    ensures placed { (changes : List Changed) → All (λ list. HasPlaced list.name changes list.live) lists.now
+        → IfSome result (λ live. HasPlaced name changes live.now) }
     ensures read { (changes : List Changed) → All (λ list. HasRead list.name changes list.live) lists.now
         → IfSome result (λ live. HasRead name changes live.now) }
     ensures none { IfNone result (list_any (λ list. same_name list.name name) lists.now ≡ false) }
@@ -36,8 +38,8 @@ pub(crate) fn live_of(lists: &[Listed], name: ListName) -> Option<&Live>
     None
 }
 
-// The first four bytes of a prefix.
-fn head_of(prefix: &Prefix) -> HashHead
+/// The first four bytes of a prefix.
+pub(crate) fn head_of(prefix: &Prefix) -> HashHead
     ensures value { result ≡ take 4 prefix.now }
     ensures long { 4 ≤ length prefix.now }
 {

@@ -57,8 +57,8 @@ pub(crate) fn published_set(alloc: Global, live: &Live) -> Result<PrefixSet, Out
     }
 }
 
-// The prefixes of some full hashes.
-fn prefixes_in(alloc: Global, entries: &[Added]) -> Result<Vec<Prefix>, OutOfMemory>
+/// The prefixes of some full hashes.
+pub(crate) fn prefixes_in(alloc: Global, entries: &[Added]) -> Result<Vec<Prefix>, OutOfMemory>
     ensures { IfOk result (λ prefixes. prefixes.items ≡ map shown entries.now) }
 {
     let mut prefixes = Vec::with_capacity(alloc, entries.len())?;

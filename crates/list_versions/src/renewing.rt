@@ -2,7 +2,8 @@ ghost use Rattle.std.specs.Prelude.{◌≡◌, ◌≢◌, ℕ, ◌<◌, ◌≤�
 ghost use Rattle.sb_model.specs.declared.names.ListName.{ListName as Name};
 ghost use Rattle.list_versions.specs.Draft.{history_of, IsDraft};
 ghost use Rattle.list_versions.specs.Loaded.{IsNewest};
-ghost use Rattle.list_versions.specs.Renewing.{concerns, stays};
+ghost use Rattle.list_versions.specs.Renewing.{WasNewest, concerns, stays};
+ghost use Rattle.sb_model.specs.History.{prefixes_at};
 ghost use Rattle.list_versions.specs.declared.draft.Listed.{Listed as List'};
 ghost use Rattle.list_versions.specs.declared.newest.Newest.{Newest as Ready};
 
@@ -10,6 +11,7 @@ use crate::draft::{Draft, Listed};
 use crate::lists::same;
 use crate::newest::Newest;
 use crate::published::published_set;
+use crate::shifting::{is_near, newer_set};
 use prefix_set::PrefixSet;
 use sb_model::{Change, ListName, OutOfMemory};
 use std::alloc::Global;
@@ -37,28 +39,46 @@ fn is_kept(changes: &[Change], before: Before, i: usize, list: ListName) -> bool
     i < before.lists && !is_concerned(&changes[before.changes..], list)
 }
 
-// The newest set of a list.
-fn newest_of(alloc: Global, draft: &Draft, i: usize) -> Result<Newest, OutOfMemory>
-    requires draft { IsDraft draft.now }
-    requires within { i < length draft.now.lists.items }
-    ensures name { IfOk result (λ newest. (list : List') → newest.name ≡ (slice_index_or draft.now.lists.items i list).name) }
-    ensures newest { IfOk result (IsNewest (history_of draft.now)) }
-{
-    let listed = &draft.lists[i];
-    let set = published_set(alloc, &listed.live)?;
-    let digest = set.digest();
-    Ok(Newest {
-        name: listed.name,
-        set,
-        digest,
-    })
-}
-
-// The newest set of a list that is made anew, and else an empty set.
-fn renewed(alloc: Global, draft: &Draft, before: Before, i: usize) -> Result<Newest, OutOfMemory>
+// The newest prefixes of a list: those that it had before, changed by what came, or else all anew.
+fn newest_set(
+    alloc: Global,
+    draft: &Draft,
+    before: Before,
+    old: &[Newest],
+    i: usize,
+) -> Result<PrefixSet, OutOfMemory>
     requires draft { IsDraft draft.now }
     requires within { i < length draft.now.lists.items }
     requires before { before.changes ≤ length draft.now.changes.items }
+    requires old { (k : ℕ) (list : List') (d : Ready) → k < length old.now → WasNewest draft.now before (slice_index_or draft.now.lists.items k list) (slice_index_or old.now k d) }
+    ensures { IfOk result (λ set. (list : List') → set ≡ prefixes_at (history_of draft.now) (slice_index_or draft.now.lists.items i list).name (length draft.now.changes.items)) }
+{
+    let listed = &draft.lists[i];
+    if i < old.len() && is_near(draft.changes.as_slice(), before.changes) {
+        return newer_set(
+            alloc,
+            draft,
+            listed.name,
+            &listed.live,
+            &old[i].set,
+            before.changes,
+        );
+    }
+    published_set(alloc, &listed.live)
+}
+
+// The newest set of a list that is made anew, and else an empty set.
+fn renewed(
+    alloc: Global,
+    draft: &Draft,
+    before: Before,
+    old: &[Newest],
+    i: usize,
+) -> Result<Newest, OutOfMemory>
+    requires draft { IsDraft draft.now }
+    requires within { i < length draft.now.lists.items }
+    requires before { before.changes ≤ length draft.now.changes.items }
+    requires old { (k : ℕ) (list : List') (d : Ready) → k < length old.now → WasNewest draft.now before (slice_index_or draft.now.lists.items k list) (slice_index_or old.now k d) }
     ensures name { IfOk result (λ newest. (list : List') → newest.name ≡ (slice_index_or draft.now.lists.items i list).name) }
     ensures newest { IfOk result (λ newest. (stays draft.now.changes.items before i newest.name ≡ false) → IsNewest (history_of draft.now) newest) }
 {
@@ -70,17 +90,21 @@ fn renewed(alloc: Global, draft: &Draft, before: Before, i: usize) -> Result<New
             digest: [0; 32],
         });
     }
-    newest_of(alloc, draft, i)
+    let set = newest_set(alloc, draft, before, old, i)?;
+    let digest = set.digest();
+    Ok(Newest { name, set, digest })
 }
 
-/// The newest sets of all lists. Those that stay are empty here.
+/// The newest sets of all lists, by those that they had before. Those that stay are empty here.
 pub(crate) fn renew(
     alloc: Global,
     draft: &Draft,
     before: Before,
+    old: &[Newest],
 ) -> Result<Vec<Newest>, OutOfMemory>
     requires draft { IsDraft draft.now }
     requires before { before.changes ≤ length draft.now.changes.items }
+    requires old { (k : ℕ) (list : List') (d : Ready) → k < length old.now → WasNewest draft.now before (slice_index_or draft.now.lists.items k list) (slice_index_or old.now k d) }
     ensures names { IfOk result (λ newest. map (λ newest. newest.name) newest.items ≡ map (λ listed. listed.name) draft.now.lists.items) }
     ensures newest { IfOk result (λ newest. (k : ℕ) (d : Ready) → k < length newest.items
         → stays draft.now.changes.items before k (slice_index_or newest.items k d).name ≡ false
@@ -88,7 +112,7 @@ pub(crate) fn renew(
 {
     let mut newest = Vec::with_capacity(alloc, draft.lists.len())?;
     for i in 0..draft.lists.len() {
-        newest.push(renewed(alloc, draft, before, i)?)?;
+        newest.push(renewed(alloc, draft, before, old, i)?)?;
     }
     Ok(newest)
 }

@@ -1,55 +1,63 @@
-ghost use Rattle.std.specs.Prelude.{◌≡◌, ℕ, ◌≤◌, List, ◌++◌, length, map, take, IfOk, OnOk};
+ghost use Rattle.std.specs.Prelude.{◌≡◌, ◌==◌, ◌&&◌, ◌||◌, not, nat_lt, ℕ, ◌≤◌, List, ◌++◌, length, map, IfOk, OnOk};
 ghost use Rattle.sb_model.specs.History.{sizes_at};
 ghost use Rattle.list_versions.specs.Draft.{history_of};
-ghost use Rattle.list_versions.specs.Ends.{Line, adds_of, standing};
+ghost use Rattle.list_versions.specs.Ends.{Line, adds_of, lasting, never};
 ghost use Rattle.list_versions.specs.Loaded.{IsStem};
 
 use crate::draft::Draft;
-use crate::lists::same;
+use crate::ends::NEVER;
+use crate::lists::{adds_count, same};
 use crate::lookup::live_of;
 use sb_model::{Added, Change, ListName, OutOfMemory};
 use std::alloc::Global;
 
+// Whether an end is above a version. It may be that of a line that has none, if these are endless.
+fn is_above(end: u32, version: usize, endless: bool) -> bool
+    ensures { result ≡ (nat_lt version end && (endless || not (end == never))) }
+{
+    end as usize > version && (endless || end != NEVER)
+}
+
 // Appends what those of some lines add whose end is above a version.
-fn push_standing(
+fn push_lasting(
     found: &mut Vec<Added>,
     adds: &[Added],
     ends: &[u32],
     version: usize,
+    endless: bool,
 ) -> Result<(), OutOfMemory>
     requires { length ends.now ≡ length adds.now }
     ensures { OnOk result ((lines : List Line) → map (λ line. line.0) lines ≡ adds.now → map (λ line. line.1) lines ≡ ends.now
-        → found.new.items ≡ found.old.items ++ standing version lines) }
+        → found.new.items ≡ found.old.items ++ lasting version endless lines) }
 {
     for (i, added) in adds.iter().enumerate() {
-        if ends[i] as usize > version {
+        if is_above(ends[i], version, endless) {
             found.push(*added)?;
         }
     }
     Ok(())
 }
 
-// What the lines of a list up to a version add whose end is above it. The ends are those of all its
-// lines.
-fn standing_in(
+/// What those lines of a list add, of these changes, whose end is above a version: those that have
+/// no end with them, or without them. The ends are those of its lines.
+pub(crate) fn lasting_in(
     alloc: Global,
     changes: &[Change],
     list: ListName,
     ends: &[u32],
     version: usize,
+    endless: bool,
 ) -> Result<Vec<Added>, OutOfMemory>
-    requires version { version ≤ length changes.now }
-    requires ends { length ends.now ≡ length (adds_of list changes.now) }
+    requires { length ends.now ≡ length (adds_of list changes.now) }
     ensures { IfOk result (λ found. (lines : List Line) → map (λ line. line.0) lines ≡ adds_of list changes.now
-        → map (λ line. line.1) lines ≡ ends.now
-        → found.items ≡ standing version (take (length (adds_of list (take version changes.now))) lines)) }
+        → map (λ line. line.1) lines ≡ ends.now → found.items ≡ lasting version endless lines) }
 {
     let mut found = Vec::new(alloc);
     let mut rest = ends;
-    for change in &changes[..version] {
+    for change in changes {
         if same(change.list, list) {
             let (own, later) = rest.split_at(change.adds.len());
-            push_standing(&mut found, change.adds.as_slice(), own, version)?;
+            push_lasting(&mut found, change.adds.as_slice(), own, version, endless)?;
             rest = later;
         }
     }
@@ -67,14 +75,11 @@ pub(crate) fn entries_at(
     requires version { version ≤ length draft.now.changes.items }
     ensures { IfOk result (λ found. found.items ≡ sizes_at (history_of draft.now) list version) }
 {
-    match live_of(draft.lists.as_slice(), list) {
-        Some(live) => standing_in(
-            alloc,
-            draft.changes.as_slice(),
-            list,
-            live.ends.as_slice(),
-            version,
-        ),
-        None => Ok(Vec::new(alloc)),
-    }
+    let Some(live) = live_of(draft.lists.as_slice(), list) else {
+        return Ok(Vec::new(alloc));
+    };
+    let front = &draft.changes.as_slice()[..version];
+    let count = adds_count(front, list);
+    let found = lasting_in(alloc, front, list, &live.ends[..count], version, true)?;
+    Ok(found)
 }

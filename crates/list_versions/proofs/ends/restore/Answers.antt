@@ -1,4 +1,4 @@
-use Rattle.std.proofs.Common.{◌∙◌, ◌++◌, ℕ, List, add-one, ap, drop, get_or, map, set, take}
+use Rattle.std.proofs.Common.{◌∙◌, ℕ, List, add-one, ap, get_or, set}
 use Rattle.list_versions.specs.Ends.{restored_end}
 use Rattle.list_versions.proofs.Ended.{set_next, get_next}
 use Rattle.list_versions.proofs.ends.restore.Goals as goal

@@ -1,4 +1,4 @@
-use Rattle.std.proofs.Common.{◌≡◌, ◌≢◌, ◌∙◌, ℕ, ◌<◌, min, length, get_or, ap, arith, get_or-set_other}
+use Rattle.std.proofs.Common.{◌≡◌, ◌≢◌, ◌∙◌, ◌<◌, min, length, get_or, ap, arith, get_or-set_other}
 use Rattle.std.proofs.lemmas.Grind.{common_steps}
 use Rattle.list_versions.specs.Ends.{adds_of, most_lines, restored}
 use Rattle.list_versions.specs.declared.draft.Listed.{Listed}

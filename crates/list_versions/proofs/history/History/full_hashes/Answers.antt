@@ -1,20 +1,15 @@
-use Rattle.std.proofs.Common.{◌≡◌, ◌∙◌, ◌⊎◌, inl, inr, length, List, sym, subst, arith, true, false}
+use Rattle.std.proofs.Common.{◌≡◌, ◌∙◌, length, List, sym, subst, arith}
 use Rattle.sb_model.specs.declared.history.Added.{Added}
 use Rattle.sb_model.specs.declared.names.ListName.{ListName}
 use Rattle.sb_model.specs.History.{sizes_at}
-use Rattle.std.specs.Prelude.{All, Bool}
-use Rattle.list_versions.specs.Draft.{history_of, IsDraft}
+use Rattle.std.specs.Prelude.{All}
+use Rattle.list_versions.specs.Draft.{history_of}
 use Rattle.list_versions.specs.Journal.{Kept}
 use Rattle.list_versions.specs.Live.{Holds}
-use Rattle.list_versions.specs.declared.draft.Draft.{Draft}
 use Rattle.list_versions.specs.declared.draft.Listed.{Listed}
 use Rattle.list_versions.proofs.Begun.{FoundIn, found_in_list}
+use Rattle.list_versions.proofs.Folds.{fresh_draft}
 use Rattle.list_versions.proofs.history.History.full_hashes.Goals as goal
-
-fresh_draft : (draft : Draft) (stale : Bool) → stale ≡ false → (stale ≡ true) ⊎ IsDraft draft → IsDraft draft
-fresh_draft draft true h k = absurd (cc)
-fresh_draft draft false h (inl e) = absurd (cc)
-fresh_draft draft false h (inr d) = d
 
 pub returns : goal.returns
 returns c =

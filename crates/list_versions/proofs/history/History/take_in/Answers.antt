@@ -19,10 +19,10 @@ invariant_of-self g c =
     let new = c.read_more.new.draft in
     let before : Before = record { lists = c.len-lists.result; changes = c.len-changes.result } in
     let same : before ≡ first_of c.self.inside.draft = λ i. record { lists = lists_are i; changes = changes_are i } in
-    let taken : IsTaken c.as_slice.result.now before c.in-Ok.more.newest.items c.self.inside.newest.items c.take_kept.new.newest.items =
+    let taken : IsTaken c.as_slice-in-Ok.result.now before c.in-Ok.more.newest.items c.self.inside.newest.items c.take_kept.new.newest.items =
     record { long = c.take_kept.ensures.long; others = c.take_kept.ensures.others; kept = c.take_kept.ensures.kept; renewed = c.take_kept.ensures.renewed } in
-    let taken_at = subst (λ (at : Before). IsTaken c.as_slice.result.now at c.in-Ok.more.newest.items c.self.inside.newest.items c.take_kept.new.newest.items) same taken in
-    let taken_of = subst (λ (cs : List Change). IsTaken cs (first_of c.self.inside.draft) c.in-Ok.more.newest.items c.self.inside.newest.items c.take_kept.new.newest.items) c.as_slice.ensures.value taken_at in
+    let taken_at = subst (λ (at : Before). IsTaken c.as_slice-in-Ok.result.now at c.in-Ok.more.newest.items c.self.inside.newest.items c.take_kept.new.newest.items) same taken in
+    let taken_of = subst (λ (cs : List Change). IsTaken cs (first_of c.self.inside.draft) c.in-Ok.more.newest.items c.self.inside.newest.items c.take_kept.new.newest.items) c.as_slice-in-Ok.ensures.value taken_at in
     let newest = are_newest c.self.inside.draft new c.in-Ok.more.newest.items c.self.inside.newest.items c.take_kept.new.newest.items c.read_more.ensures.front c.self.invariant.names c.in-Ok.ensures.names
     c.self.invariant.each c.in-Ok.ensures.newest taken_of in
     record {

@@ -1,10 +1,10 @@
-use Rattle.std.proofs.Common.{◌≡◌, ℕ, List, length, map, take, drop}
-use Rattle.list_versions.specs.Ends.{Line, adds_of, standing}
-use Rattle.list_versions.proofs.standing.standing_in.Given as goal
+use Rattle.std.proofs.Common.{◌≡◌, List, length, map, take, drop}
+use Rattle.list_versions.specs.Ends.{Line, adds_of, lasting}
+use Rattle.list_versions.proofs.standing.lasting_in.Given as goal
 
 abbrev pub invariant-loop-change : goal.invariant-loop-change
 invariant-loop-change l = record {
   rest : l.rest ≡ drop (length (adds_of l.list (take l.change-index l.changes))) l.ends;
   found : (lines : List Line) → map (λ (line : Line). line.0) lines ≡ adds_of l.list l.changes → map (λ (line : Line). line.1) lines ≡ l.ends
-      → l.found.items ≡ standing l.version (take (length (adds_of l.list (take l.change-index l.changes))) lines);
+      → l.found.items ≡ lasting l.version l.endless (take (length (adds_of l.list (take l.change-index l.changes))) lines);
 }
