@@ -82,7 +82,7 @@ complete_of history times how (Some pieces) before after is = λ text good.
 
 -- ---- the steps to a response
 
-response_of_message : (history : History) (times : Settings) (request : HttpRequest) (message : Request) (status : Status) (allow : Allow) (body : List ℕ)
+pub response_of_message : (history : History) (times : Settings) (request : HttpRequest) (message : Request) (status : Status) (allow : Allow) (body : List ℕ)
     → IsTextOf ReadsMessage request.body message → ((other : Request) → IsTextOf ReadsMessage request.body other → message ≡ other)
     → IsResponseToMessage history times message status body → IsResponseAt history times 0 request status allow body
 response_of_message history times request message Success allow body reads only is = (message, record { reads = reads; declared = is.0 }, is.1)
@@ -95,16 +95,6 @@ response_of_message history times request message ContentTooLarge allow body rea
 response_of_message history times request message FieldsTooLarge allow body reads only is = absurd is
 response_of_message history times request message BadGateway allow body reads only is = absurd is
 response_of_message history times request message ServiceUnavailable allow body reads only is = absurd is
-
-pub body_answered : (history : History) (times : Settings) (request : HttpRequest) (text : List ℕ) (message : Request) (result : Result Response OutOfMemory)
-    → text ≡ request.body → IsTextOf ReadsMessage text message → ((other : Request) → IsTextOf ReadsMessage text other → message ≡ other)
-    → IfOk result (λ r. IsResponseToMessage history times message r.status r.body)
-    → IfOk result (λ r. IsResponseAt history times 0 request r.status r.allow r.body)
-body_answered history times request text message (Ok r) same reads only is =
-    response_of_message history times request message r.status r.allow r.body
-    (subst (λ (t : List ℕ). IsTextOf ReadsMessage t message) same reads)
-    (λ other tells. only other (subst (λ (t : List ℕ). IsTextOf ReadsMessage t other) (sym same) tells)) is
-body_answered history times request text message (Err refused) same reads only is = tt
 
 -- a body that was refused reads as no message, unless memory was refused
 pub body_refused : (history : History) (times : Settings) (request : HttpRequest) (text : List ℕ) (refusal : MessageFault) (result : Result Response OutOfMemory)

@@ -3,6 +3,7 @@ pub mod Made
 pub mod Printed
 pub mod Answer
 pub mod Connection
+pub mod Wish
 pub mod Kept
 pub mod ConnectionLaws
 pub mod ConnectionSteps

@@ -10,10 +10,13 @@ ghost use Rattle.http_serving.specs.Written.{IsRightAnswer};
 ghost use Rattle.delta_server.specs.declared.answering.Settings.{Settings as Times};
 ghost use Rattle.sb_service.specs.Connection.{list_routes, ListServed, matches_text, IsResponseAt, IsResponseTo, HasGoodRequest};
 ghost use Rattle.sb_service.specs.ConnectionLaws.{HasOneResponse, IsAnsweredAsRead};
-ghost use Rattle.sb_service.specs.ConnectionSteps.{IsResponseToMessage, IsBareRefusal};
+ghost use Rattle.sb_service.specs.ConnectionSteps.{IsResponseToMessage, IsBareRefusal, IsSentAs, MayBeKept};
+ghost use Rattle.update_messages.specs.Messages.{Request};
+ghost use Rattle.update_messages.specs.Reading.{ReadsRequest, IsTextOf};
 ghost use Rattle.sb_service.specs.Kept.{AreKeptOf};
 
-use crate::kept::{KeptAnswers, MOST_BYTES};
+use crate::kept::KeptAnswers;
+use crate::wish::{Wish, wishes_of};
 use delta_server::{ServeFault, Settings, answer_fetch, answer_find};
 use hash_messages::{FindRequest, find_values_read_one_way, read_find, write_matches};
 use http_edge::{Allow, HttpRequest, Status, path_of};
@@ -23,13 +26,16 @@ use http_serving::{
 };
 use list_versions::History;
 use sb_json::MessageFault;
-use sb_model::OutOfMemory;
+use sb_model::{OutOfMemory, Row, names_go_by_their_codes};
 use sb_outside::{Kind, Wire};
 use std::alloc::Global;
 use std::marker::Model;
 use update_messages::{
     FetchRequest, read_request as read_message, values_read_one_way, write_response as write_answer,
 };
+
+/// The most bytes that the body of a kept answer has: 16 MiB.
+const MOST_KEPT: usize = 16_777_216;
 
 /// The response to a message that asks for updates.
 fn answer_message(
@@ -80,22 +86,6 @@ fn answer_hashes(
     })
 }
 
-/// The response to a request for updates.
-fn answer_updates_body(
-    alloc: Global,
-    history: &History,
-    settings: &Settings,
-    request: &HttpRequest,
-) -> Result<Response, OutOfMemory>
-    ensures { IfOk result (λ response. IsResponseAt history.now.versions settings.now 0 request.now
-        response.status response.allow response.body) }
-{
-    match read_message(alloc, request.body.as_slice()) {
-        Ok(message) => answer_message(alloc, history, settings, &message),
-        Err(fault) => refuse_body(alloc, fault),
-    }
-}
-
 /// The response to a request for full hashes.
 fn answer_hashes_body(
     alloc: Global,
@@ -112,8 +102,65 @@ fn answer_hashes_body(
     }
 }
 
-/// The answer to a request for updates: the text that is kept of an answer to the same body, or a new one. A new one with the
-/// status 200 is written out and kept. Where it is too long for that or memory is refused, it is sent all the same.
+/// The answer that a response is. One with the status 200 is written out and may be kept. If it is too long for that or memory
+/// is refused, it is sent all the same.
+fn keep_made(
+    alloc: Global,
+    kept: &mut KeptAnswers,
+    asked: &[u8],
+    wishes: Option<Row<Wish>>,
+    response: Response,
+) -> Answer
+    ensures answer { IsSentAs response result }
+    ensures kept { MayBeKept asked.now wishes response kept.old kept.new }
+{
+    let Status::Success = response.status else {
+        return Answer::Made(response);
+    };
+    if response.body.len() > MOST_KEPT {
+        return Answer::Made(response);
+    }
+    match write_out(alloc, &response) {
+        Ok(written) => {
+            kept.keep(asked, wishes, written.text.as_slice());
+            Answer::Written(written)
+        }
+        Err(OutOfMemory) => Answer::Made(response),
+    }
+}
+
+/// The answer to a message that asks for updates: the text that is kept of an answer to the same wishes, or a new one.
+fn answer_wishes(
+    alloc: Global,
+    history: &History,
+    settings: &Settings,
+    kept: &mut KeptAnswers,
+    request: &HttpRequest,
+    message: &FetchRequest,
+) -> Result<Answer, OutOfMemory>
+    requires reads { IsTextOf ReadsRequest request.now.body message.now }
+    requires only { (other : Request) → IsTextOf ReadsRequest request.now.body other → message.now ≡ other }
+    requires kept { AreKeptOf history.now.versions settings.now kept.old }
+    ensures right { IfOk result (λ answer. IsRightAnswer (IsResponseAt history.now.versions settings.now 0 request.now) answer) }
+    ensures kept { AreKeptOf history.now.versions settings.now kept.new }
+{
+    names_go_by_their_codes();
+    // looked at for the prover: what holds of each history that was read
+    let _ = history.len();
+    let wishes = wishes_of(alloc, history, message.items.as_slice())?;
+    let found = kept.text_by_wishes(&wishes)?;
+    if let Some(text) = found {
+        return Ok(Answer::Written(WrittenResponse {
+            status: Status::Success,
+            text,
+        }));
+    }
+    let response = answer_message(alloc, history, settings, message)?;
+    let asked = request.body.as_slice();
+    Ok(keep_made(alloc, kept, asked, wishes, response))
+}
+
+/// The answer to a request for updates: the text that is kept of an answer to the same body, or what its message is answered.
 fn answer_updates(
     alloc: Global,
     history: &History,
@@ -126,25 +173,16 @@ fn answer_updates(
     ensures kept { AreKeptOf history.now.versions settings.now kept.new }
 {
     let asked = request.body.as_slice();
-    if let Some(text) = kept.text_for(asked) {
+    let found = kept.text_by_body(asked)?;
+    if let Some(text) = found {
         return Ok(Answer::Written(WrittenResponse {
             status: Status::Success,
-            text: text.copy()?,
+            text,
         }));
     }
-    let response = answer_updates_body(alloc, history, settings, request)?;
-    let Status::Success = response.status else {
-        return Ok(Answer::Made(response));
-    };
-    if response.body.len() > MOST_BYTES {
-        return Ok(Answer::Made(response));
-    }
-    match write_out(alloc, &response) {
-        Ok(written) => {
-            kept.keep(asked, written.text.as_slice());
-            Ok(Answer::Written(written))
-        }
-        Err(OutOfMemory) => Ok(Answer::Made(response)),
+    match read_message(alloc, asked) {
+        Ok(message) => answer_wishes(alloc, history, settings, kept, request, &message),
+        Err(fault) => Ok(Answer::Made(refuse_body(alloc, fault)?)),
     }
 }
 

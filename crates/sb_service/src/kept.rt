@@ -1,129 +1,309 @@
-ghost use Rattle.std.specs.Prelude.{◌≡◌, ◌+◌, ◌^◌, ◌≤◌, ◌<◌, ℕ, List, [], false, drop, length, if◌then◌else◌, option_map, sum_by, IfOk};
-ghost use Rattle.sb_service.specs.Kept.{kept_size, kept_text, HasKept};
+ghost use Rattle.std.specs.Prelude.{◌≡◌, ◌+◌, ◌^◌, ◌≤◌, ◌<◌, ℕ, [], false, drop, length, if◌then◌else◌, sum_by, IfOk, OnOk, OnErr, Some};
+ghost use Rattle.sb_service.specs.Kept.{after_asking, after_body, after_wishes, has_wishes, is_for_whole, kept_size, nothing_kept, place_by_body, place_by_wishes, text_at, text_by_body, text_by_wishes, HasKept, HasKeptIn};
 
-use sb_model::{Bytes, OutOfMemory};
+use crate::wish::{Wish, are_same, are_whole};
+use sb_model::{Bytes, OutOfMemory, Row};
 use std::alloc::Global;
-use std::collections::VecDeque;
 use std::marker::Model;
 
-/// How many answers are kept at most.
-const MOST_ANSWERS: usize = 8;
+/// How many answers a part keeps at most, and how many bytes they have in all.
+#[derive(Clone, Copy, Debug)]
+pub(crate) struct Room {
+    pub answers: usize,
+    pub bytes: usize,
+}
 
-/// How many bytes the kept answers have at most in all, with the bodies of their requests: 16 MiB.
-pub(crate) const MOST_BYTES: usize = 16_777_216;
+/// The room for answers whose every item is a whole list: 48 MiB.
+const WHOLE: Room = Room {
+    answers: 16,
+    bytes: 50_331_648,
+};
 
-/// An answer that is kept: the body of a request for updates, and the whole text of the response to it.
+/// The room for other answers: 16 MiB.
+const OTHERS: Room = Room {
+    answers: 48,
+    bytes: 16_777_216,
+};
+
+/// The fewest bytes of an answer that is kept if its request has wishes. A smaller one would take the place of one that costs
+/// more to write.
+const LEAST_KEPT: usize = 4096;
+
+/// The bytes that are counted for the wishes of a request, of which there are at most 8.
+const WISHES_SIZE: usize = 256;
+
+/// An answer that is kept: the body of a request for updates, what it wishes if it wishes something, and the whole text of the
+/// response to it.
 #[derive(Drop)]
 pub(crate) struct KeptAnswer {
     pub asked: Bytes,
+    pub wishes: Option<Row<Wish>>,
     pub text: Bytes,
 }
 
-/// An answer with its request, both copied.
-fn copied(alloc: Global, asked: &[u8], text: &[u8]) -> Result<KeptAnswer, OutOfMemory>
-    ensures { IfOk result (λ kept. kept ≡ record { asked = asked.now; text = text.now }) }
+impl KeptAnswer {
+    /// How many bytes are counted for it, or some number that is too great.
+    fn size(&self) -> usize
+        ensures exact { result < 2 ^ 32 → result ≡ kept_size self.now }
+        ensures most { result ≤ kept_size self.now }
+    {
+        self.asked
+            .len()
+            .saturating_add(self.text.len())
+            .saturating_add(WISHES_SIZE)
+    }
+
+    /// Whether it has these wishes.
+    fn has_wishes(&self, wishes: &[Wish]) -> bool
+        ensures { result ≡ has_wishes wishes.now self.now.wishes }
+    {
+        match &self.wishes {
+            Some(others) => are_same(others.as_slice(), wishes),
+            None => false,
+        }
+    }
+
+    /// Whether each of its items wishes a whole list.
+    fn is_for_whole(&self) -> bool
+        ensures { result ≡ is_for_whole self.now.wishes }
+    {
+        match &self.wishes {
+            Some(wishes) => are_whole(wishes.as_slice()),
+            None => false,
+        }
+    }
+}
+
+/// An answer, with its request and its text copied.
+fn copied(
+    alloc: Global,
+    asked: &[u8],
+    wishes: Option<Row<Wish>>,
+    text: &[u8],
+) -> Result<KeptAnswer, OutOfMemory>
+    ensures { IfOk result (λ kept. kept ≡ record { asked = asked.now; wishes = wishes; text = text.now }) }
 {
     Ok(KeptAnswer {
         asked: Bytes::from_slice(alloc, asked)?,
+        wishes,
         text: Bytes::from_slice(alloc, text)?,
     })
 }
 
-/// The last answers that a server made, the oldest first: at most 8, of at most 16 MiB in all, with the bodies of their
-/// requests.
+/// Puts the answer at a place behind all others.
+fn put_last(answers: &mut [KeptAnswer], place: usize)
+    requires { place < length answers.old }
+    ensures order { answers.new ≡ after_asking answers.old (Some place) }
+    ensures count { length answers.new ≡ length answers.old }
+    ensures size { sum_by kept_size answers.new ≡ sum_by kept_size answers.old }
+{
+    answers[place..].rotate_left(1);
+}
+
+/// Answers in the order in which they were asked for, the one asked for least lately first.
+#[derive(Drop)]
+struct KeptPart {
+    answers: Vec<KeptAnswer>,
+    // the bytes of all
+    bytes: usize,
+    room: Room,
+}
+
+impl Model for KeptPart {
+    ghost use Rattle.sb_service.specs.Kept.{AreFew, KeptPart as Seen};
+
+    ghost Value = { Seen };
+
+    ghost view = { λ p. record { answers = p.answers.items; room = p.room } };
+
+    ghost invariant = { λ p. AreFew p.answers.items p.bytes p.room };
+}
+
+impl KeptPart {
+    /// None yet. It takes no memory.
+    fn new(alloc: Global, room: Room) -> Self
+        requires { room.bytes < 2 ^ 32 }
+        ensures { result ≡ record { answers = []; room = room } }
+    {
+        KeptPart {
+            answers: Vec::new(alloc),
+            bytes: 0,
+            room,
+        }
+    }
+
+    /// The place of the first answer to a request with this body.
+    fn place_by_body(&self, asked: &[u8]) -> Option<usize>
+        ensures { result ≡ place_by_body asked.now self.now.answers }
+    {
+        self.answers
+            .iter()
+            .position(|kept| kept.asked.as_slice() == asked)
+    }
+
+    /// The place of the first answer with these wishes.
+    fn place_by_wishes(&self, wishes: &[Wish]) -> Option<usize>
+        ensures { result ≡ place_by_wishes wishes.now self.now.answers }
+    {
+        self.answers.iter().position(|kept| kept.has_wishes(wishes))
+    }
+
+    /// A copy of the text of the answer at a place, which is then the one asked for last.
+    fn ask(&mut self, place: Option<usize>) -> Result<Option<Bytes>, OutOfMemory>
+        ensures text { IfOk result (λ text. text ≡ text_at self.old.answers place) }
+        ensures order { OnOk result (self.new ≡ record self.old { answers = after_asking self.old.answers place }) }
+        ensures err { OnErr result (self.new ≡ self.old) }
+    {
+        let Some(place) = place else {
+            return Ok(None);
+        };
+        let Some(kept) = self.answers.get(place) else {
+            return Ok(None);
+        };
+        let text = kept.text.copy()?;
+        put_last(self.answers.as_mut_slice(), place);
+        Ok(Some(text))
+    }
+
+    /// Whether there is no room for an answer of so many bytes.
+    fn is_full(&self, size: usize) -> bool
+        ensures { result ≡ false → (length self.now.answers < self.now.room.answers) × (sum_by kept_size self.now.answers + size ≤ self.now.room.bytes) }
+    {
+        self.answers.len() >= self.room.answers || size > self.room.bytes - self.bytes
+    }
+
+    /// Lets those go that were asked for least lately, until there is room for so many bytes or none is left.
+    fn make_room(&mut self, size: usize)
+        ensures { (gone : ℕ) × (self.new ≡ record self.old { answers = drop gone self.old.answers }) }
+    {
+        'kept: while self.is_full(size) {
+            if self.answers.is_empty() {
+                return;
+            }
+            let oldest = self.answers.remove(0);
+            self.bytes -= oldest.size();
+        }
+    }
+
+    /// Keeps an answer, and lets those go that were asked for least lately if there is no room. One for which the part has no
+    /// room at all is not kept, and none is if memory is refused.
+    fn keep(&mut self, answer: KeptAnswer)
+        ensures kept { HasKept answer self.old.answers self.new.answers }
+        ensures room { self.new.room ≡ self.old.room }
+    {
+        let size = answer.size();
+        if size > self.room.bytes {
+            return;
+        }
+        self.make_room(size);
+        if self.is_full(size) {
+            return;
+        }
+        if self.answers.push(answer).is_ok() {
+            self.bytes += size;
+        }
+    }
+
+    /// Lets all go.
+    fn forget(&mut self)
+        ensures { self.new ≡ record self.old { answers = [] } }
+    {
+        self.answers.clear();
+        self.bytes = 0;
+    }
+}
+
+/// Answers that a server made, by the bodies of their requests and by what these wish. Those whose every item is a whole list
+/// have a part of their own: at most 16, of at most 48 MiB. Of the others there are at most 48, of at most 16 MiB. In each part
+/// the one asked for least lately goes first.
 #[derive(Drop)]
 pub(crate) struct KeptAnswers {
     alloc: Global,
-    answers: VecDeque<KeptAnswer>,
-    // the bytes of all, with those of their requests
-    bytes: usize,
+    whole: KeptPart,
+    others: KeptPart,
 }
 
 impl Model for KeptAnswers {
-    ghost use Rattle.std.specs.Prelude.{List};
-    ghost use Rattle.sb_service.specs.declared.kept.KeptAnswer.{KeptAnswer};
-    ghost use Rattle.sb_service.specs.Kept.{AreFew};
+    ghost use Rattle.std.specs.Prelude.{◌≡◌};
+    ghost use Rattle.sb_service.specs.Kept.{KeptLists, others_room, whole_room};
 
-    ghost Value = { List KeptAnswer };
+    ghost Value = { KeptLists };
 
-    ghost view = { λ k. k.answers.items };
+    ghost view = { λ k. record { whole = k.whole.answers; others = k.others.answers } };
 
-    ghost invariant = { λ k. AreFew k.answers.items k.bytes };
+    ghost invariant = { λ k. (k.whole.room ≡ whole_room) × (k.others.room ≡ others_room) };
 }
 
 impl KeptAnswers {
     /// None yet. It takes no memory.
     pub fn new(alloc: Global) -> Self
-        ensures { result ≡ [] }
+        ensures { result ≡ nothing_kept }
     {
         KeptAnswers {
             alloc,
-            answers: VecDeque::new(alloc),
-            bytes: 0,
+            whole: KeptPart::new(alloc, WHOLE),
+            others: KeptPart::new(alloc, OTHERS),
         }
     }
 
     /// The text that is kept of an answer to a request with this body.
-    pub fn text_for(&self, asked: &[u8]) -> Option<&Bytes>
-        ensures { option_map (λ text. text.now) result ≡ kept_text self.now asked.now }
+    pub fn text_by_body(&mut self, asked: &[u8]) -> Result<Option<Bytes>, OutOfMemory>
+        ensures text { IfOk result (λ text. text ≡ text_by_body asked.now self.old) }
+        ensures order { OnOk result (self.new ≡ after_body asked.now self.old) }
+        ensures err { OnErr result (self.new ≡ self.old) }
     {
-        match self
-            .answers
-            .iter()
-            .find(|kept| kept.asked.as_slice() == asked)
-        {
-            Some(kept) => Some(&kept.text),
-            None => None,
+        let place = self.whole.place_by_body(asked);
+        if place.is_some() {
+            return self.whole.ask(place);
         }
+        let place = self.others.place_by_body(asked);
+        self.others.ask(place)
     }
 
-    /// Whether there is no room for an answer of so many bytes, with those of its request.
-    fn is_full(&self, size: usize) -> bool
-        ensures { result ≡ false → (length self.now < 8) × (sum_by kept_size self.now + size ≤ 2 ^ 24) }
+    /// The text that is kept of an answer to a request with these wishes, if it has some.
+    pub fn text_by_wishes(
+        &mut self,
+        wishes: &Option<Row<Wish>>,
+    ) -> Result<Option<Bytes>, OutOfMemory>
+        ensures text { IfOk result (λ text. text ≡ text_by_wishes wishes.now self.old) }
+        ensures order { OnOk result (self.new ≡ after_wishes wishes.now self.old) }
+        ensures err { OnErr result (self.new ≡ self.old) }
     {
-        self.answers.len() >= MOST_ANSWERS || size > MOST_BYTES - self.bytes
-    }
-
-    /// Lets the oldest go until there is room for so many bytes, or none is left.
-    fn make_room(&mut self, size: usize)
-        ensures { (gone : ℕ) × (self.new ≡ drop gone self.old) }
-    {
-        'kept: while self.is_full(size) {
-            match self.answers.pop_front() {
-                Some(oldest) => self.bytes -= oldest.asked.len() + oldest.text.len(),
-                None => return,
-            }
+        let Some(wishes) = wishes else {
+            return Ok(None);
+        };
+        if are_whole(wishes.as_slice()) {
+            let place = self.whole.place_by_wishes(wishes.as_slice());
+            return self.whole.ask(place);
         }
+        let place = self.others.place_by_wishes(wishes.as_slice());
+        self.others.ask(place)
     }
 
-    /// Keeps an answer, and lets the oldest go where there is no room. One that has more than 16 MiB with its request is not
-    /// kept, and none is where memory is refused.
-    pub fn keep(&mut self, asked: &[u8], text: &[u8])
-        ensures { HasKept (record { asked = asked.now; text = text.now }) self.old self.new }
+    /// Keeps an answer in its part, unless its request has wishes and it is small. None is kept if memory is refused.
+    pub fn keep(&mut self, asked: &[u8], wishes: Option<Row<Wish>>, text: &[u8])
+        ensures { HasKeptIn (record { asked = asked.now; wishes = wishes; text = text.now }) (is_for_whole wishes) self.old self.new }
     {
-        let size = asked.len().saturating_add(text.len());
-        if size > MOST_BYTES {
+        if wishes.is_some() && text.len() < LEAST_KEPT {
             return;
         }
-        let Ok(answer) = copied(self.alloc, asked, text) else {
+        let Ok(answer) = copied(self.alloc, asked, wishes, text) else {
             return;
         };
-        self.make_room(size);
-        if self.is_full(size) {
-            return;
-        }
-        if self.answers.push_back(answer).is_ok() {
-            self.bytes += size;
+        if answer.is_for_whole() {
+            self.whole.keep(answer);
+        } else {
+            self.others.keep(answer);
         }
     }
 
-    /// Lets all go where they are no answers any more.
+    /// Lets all go if they are no answers any more.
     pub fn forget_if(&mut self, is_past: bool)
-        ensures { self.new ≡ (if is_past then [] else self.old) }
+        ensures { self.new ≡ (if is_past then nothing_kept else self.old) }
     {
         if is_past {
-            self.answers.clear();
-            self.bytes = 0;
+            self.whole.forget();
+            self.others.forget();
         }
     }
 }

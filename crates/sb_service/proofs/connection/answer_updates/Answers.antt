@@ -1,15 +1,37 @@
-use Rattle.std.proofs.Common.{◌∙◌}
-use Rattle.sb_service.proofs.Keeping.{one_more_kept, said_again}
+use Rattle.std.proofs.Common.{◌≡◌, ℕ, List, Some, Ok, subst, sym}
+use Rattle.update_messages.specs.Reading.{ReadsRequest, IsTextOf}
+use Rattle.sb_service.specs.Kept.{text_by_body}
+use Rattle.sb_service.proofs.ConnectionFacts.{body_refused}
+use Rattle.sb_service.proofs.Keeping.{kept_by_body, said_by_body}
 use Rattle.sb_service.proofs.connection.answer_updates.Goals as goal
 
 pub returns-in-Some-clause-right : goal.returns-in-Some-clause-right
 returns-in-Some-clause-right c =
-    said_again c.args.history.now.versions c.args.settings.now c.args.request.now c.args.kept.now c.as_slice-asked.result.now c.in-Some.text.now c.in_ok-copy.field-0
-    c.requires c.as_slice-asked.ensures c.in-Some.ensures c.in_ok-copy.ensures
+    let says : text_by_body c.as_slice-asked.result.now c.args.kept.now ≡ Some c.in-Some.text = cc (c.in_ok-found.ensures.text, c.in-Some.is) in
+    said_by_body c.args.history.now.versions c.args.settings.now c.args.request.now c.args.kept.now c.as_slice-asked.result.now c.in-Some.text
+    c.as_slice-asked.ensures c.requires says
 
-pub returns-in-Ok-clause-kept : goal.returns-in-Ok-clause-kept
-returns-in-Ok-clause-kept c =
-    let response = c.in_ok-response.response in
-    one_more_kept c.args.history.now.versions c.args.settings.now c.args.request.now response.status response.allow response.body
-    c.as_slice-asked.result.now c.as_slice.result.now c.args.kept.now c.keep.new.self
-    c.requires c.in-Success.is c.as_slice-asked.ensures (c.as_slice.ensures ∙ c.in-Ok.ensures.text) c.in_ok-response.ensures c.keep.ensures
+pub returns-in-Some-clause-kept : goal.returns-in-Some-clause-kept
+returns-in-Some-clause-kept c =
+    kept_by_body c.args.history.now.versions c.args.settings.now c.args.kept.now c.text_by_body.new.self c.as_slice-asked.result.now c.in_ok-found.ensures.order c.requires
+
+pub answer_wishes-requires-clause-only : goal.answer_wishes-requires-clause-only
+answer_wishes-requires-clause-only c = λ other tells.
+    c.in-Ok.ensures.only other (subst (λ (text : List ℕ). IsTextOf ReadsRequest text other) (sym c.as_slice-asked.ensures) tells)
+
+pub answer_wishes-requires-clause-kept : goal.answer_wishes-requires-clause-kept
+answer_wishes-requires-clause-kept c =
+    kept_by_body c.args.history.now.versions c.args.settings.now c.args.kept.now c.text_by_body.new.self c.as_slice-asked.result.now c.in_ok-found.ensures.order c.requires
+
+pub returns-in_err-refuse_body-in-Err-clause-kept : goal.returns-in_err-refuse_body-in-Err-clause-kept
+returns-in_err-refuse_body-in-Err-clause-kept c =
+    kept_by_body c.args.history.now.versions c.args.settings.now c.args.kept.now c.text_by_body.new.self c.as_slice-asked.result.now c.in_ok-found.ensures.order c.requires
+
+pub returns-in_ok-refuse_body-in-Err-clause-right : goal.returns-in_ok-refuse_body-in-Err-clause-right
+returns-in_ok-refuse_body-in-Err-clause-right c =
+    body_refused c.args.history.now.versions c.args.settings.now c.args.request.now c.as_slice-asked.result.now c.in-Err.fault
+    (Ok c.in_ok-refuse_body-in-Err.field-0) c.as_slice-asked.ensures c.in-Err.ensures.only c.in_ok-refuse_body-in-Err.ensures
+
+pub returns-in_ok-refuse_body-in-Err-clause-kept : goal.returns-in_ok-refuse_body-in-Err-clause-kept
+returns-in_ok-refuse_body-in-Err-clause-kept c =
+    kept_by_body c.args.history.now.versions c.args.settings.now c.args.kept.now c.text_by_body.new.self c.as_slice-asked.result.now c.in_ok-found.ensures.order c.requires
