@@ -25,8 +25,8 @@ const OTHERS: Room = Room {
     bytes: 16_777_216,
 };
 
-/// The fewest bytes of an answer that is kept if its request has wishes. A smaller one would take the place of one that costs
-/// more to write.
+/// The fewest bytes of an answer that is kept if each of its items is a whole list. A smaller one would take the place of one
+/// that costs more to write.
 const LEAST_KEPT: usize = 4096;
 
 /// The bytes that are counted for the wishes of a request, of which there are at most 8.
@@ -62,15 +62,15 @@ impl KeptAnswer {
             None => false,
         }
     }
+}
 
-    /// Whether each of its items wishes a whole list.
-    fn is_for_whole(&self) -> bool
-        ensures { result ≡ is_for_whole self.now.wishes }
-    {
-        match &self.wishes {
-            Some(wishes) => are_whole(wishes.as_slice()),
-            None => false,
-        }
+/// Whether an answer with these wishes has whole lists alone.
+fn is_for_whole(wishes: &Option<Row<Wish>>) -> bool
+    ensures { result ≡ is_for_whole wishes.now }
+{
+    match wishes {
+        Some(wishes) => are_whole(wishes.as_slice()),
+        None => false,
     }
 }
 
@@ -280,17 +280,18 @@ impl KeptAnswers {
         self.others.ask(place)
     }
 
-    /// Keeps an answer in its part, unless its request has wishes and it is small. None is kept if memory is refused.
+    /// Keeps an answer in its part, unless it is small and has whole lists alone. None is kept if memory is refused.
     pub fn keep(&mut self, asked: &[u8], wishes: Option<Row<Wish>>, text: &[u8])
         ensures { HasKeptIn (record { asked = asked.now; wishes = wishes; text = text.now }) (is_for_whole wishes) self.old self.new }
     {
-        if wishes.is_some() && text.len() < LEAST_KEPT {
+        let is_whole = is_for_whole(&wishes);
+        if is_whole && text.len() < LEAST_KEPT {
             return;
         }
         let Ok(answer) = copied(self.alloc, asked, wishes, text) else {
             return;
         };
-        if answer.is_for_whole() {
+        if is_whole {
             self.whole.keep(answer);
         } else {
             self.others.keep(answer);
