@@ -85,6 +85,11 @@ both_true true true a b = refl
 both_true true false a b = absurd (cc)
 both_true false b a c = absurd (cc)
 
+-- Limits that do not bind, told by the prefixes in which two sets differ.
+pub told_takes : (held newer : List (List ℕ)) (max_update max_database : ℕ) → is_within max_update (difference_count held newer) ≡ true
+    → is_within max_database (length newer) ≡ true → may_take held max_update max_database newer ≡ true
+told_takes held newer max_update max_database update database = both_true _ _ update database
+
 -- Two sets differ in no more prefixes than they have together.
 pub surely_takes : (held newer : List (List ℕ)) (max_update max_database most : ℕ) → length (removed_places held newer) ≤ length held → most ≡ length held + length newer
     → is_within max_update most ≡ true → is_within max_database (length newer) ≡ true → may_take held max_update max_database newer ≡ true

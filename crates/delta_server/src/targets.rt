@@ -2,6 +2,7 @@ ghost use Rattle.std.specs.Prelude.{◌≡◌, ℕ, ◌≤◌, true, Option, Som
 ghost use Rattle.std.specs.Option.{unwrap_or};
 ghost use Rattle.sb_model.specs.declared.names.ListName.{ListName as Name};
 ghost use Rattle.sb_model.specs.History.{History as Versions, declares, version_count, sizes_at, prefixes_at};
+ghost use Rattle.sb_model.specs.Difference.{difference_count};
 ghost use Rattle.sb_model.specs.Target.{target_version};
 ghost use Rattle.list_versions.specs.HashSizes.{IsMapOf};
 ghost use Rattle.delta_server.specs.Served.{IsOlder, IsServed};
@@ -46,6 +47,44 @@ fn surely_takes_newest(held: &PrefixSet, newest: &PrefixSet, limits: Limits) -> 
     targets_are_the_greatest();
     let most = u64::from(held.len()) + u64::from(newest.len());
     is_within(limits.update, most) && is_within(limits.database, u64::from(newest.len()))
+}
+
+// How many prefixes are in exactly one of two sets.
+fn count_apart(alloc: Global, old: &PrefixSet, newer: &PrefixSet) -> Result<u64, OutOfMemory>
+    ensures { IfOk result (λ count. count ≡ difference_count old.now newer.now) }
+{
+    // looked at for the prover: what each set keeps
+    let _ = old.len();
+    let _ = newer.len();
+    sent_numbers_rise();
+    let delta = old.difference(alloc, newer)?;
+    Ok(delta.removals.len() as u64 + delta.additions.len() as u64)
+}
+
+// Whether one who holds a set is brought to the newest, told by the sizes of the two, or by the
+// prefixes in which they differ. The walk tells of one who holds nothing and is not surely brought
+// there.
+fn takes_newest(
+    alloc: Global,
+    held: &PrefixSet,
+    newest: &PrefixSet,
+    limits: Limits,
+) -> Result<bool, OutOfMemory>
+    ensures { IfOk result (λ takes. IsTrue takes → (versions : Versions) (list : Name) (from : Option ℕ)
+        → IfSome from (λ version. version ≤ version_count versions)
+        → held.now ≡ prefixes_at versions list (unwrap_or from 0)
+        → newest.now ≡ prefixes_at versions list (version_count versions)
+        → target_version versions list from limits.update limits.database ≡ version_count versions) }
+{
+    targets_are_the_greatest();
+    if surely_takes_newest(held, newest, limits) {
+        return Ok(true);
+    }
+    if held.is_empty() || !is_within(limits.database, u64::from(newest.len())) {
+        return Ok(false);
+    }
+    let count = count_apart(alloc, held, newest)?;
+    Ok(is_within(limits.update, count))
 }
 
 // The version of a list that a client is brought to, told by a walk through the changes after the
@@ -104,7 +143,7 @@ pub(crate) fn target_from(
         ≡ target_version history.now.versions list from limits.update limits.database) }
     ensures within { IfOk result (λ version. version ≤ version_count history.now.versions) }
 {
-    if surely_takes_newest(held, served.set, limits) {
+    if takes_newest(alloc, held, served.set, limits)? {
         return Ok(history.len());
     }
     let folding = history.folding(alloc, list, from.unwrap_or(0))?;
@@ -130,7 +169,7 @@ pub(crate) fn reached_from(
     ensures older { IfOk result (λ reached.
         IsOlder history.now.versions list reached.version reached.older) }
 {
-    if surely_takes_newest(held, served.set, limits) {
+    if takes_newest(alloc, held, served.set, limits)? {
         return Ok(Reached {
             version: history.len(),
             older: None,
