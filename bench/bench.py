@@ -25,6 +25,8 @@ import sys
 import tempfile
 import time
 
+import answers
+
 REPOSITORY = os.path.dirname(os.path.dirname(os.path.abspath(__file__)))
 SBUPDATE = os.path.join(REPOSITORY, "bin", "sbupdate")
 SBCHECK = os.path.join(REPOSITORY, "bin", "sbcheck")
@@ -531,6 +533,7 @@ def main():
         bench_messages(folder, words.part_runs)
         bench_urls(folder, "URLs such as pages have", usual_url, USUAL_URLS, words.part_runs)
         bench_urls(folder, f"hostile URLs of {HOSTILE_BYTES:,} bytes", hostile_url, HOSTILE_URLS, words.part_runs)
+        answers.measure(folder, answers.Sizes())
 
 
 if __name__ == "__main__":
