@@ -1,10 +1,9 @@
 //! Where the fields of a case stand.
-use crate::CaseFault;
+use crate::book::Reader;
 use crate::pieces::{is_blank, is_piece};
 use crate::sheet::{Scope, Sheet, Span, word_of};
 use crate::words::numbers_of;
-use sb_model::{OutOfMemory, Row};
-use std::alloc::Global;
+use sb_model::Row;
 
 /// The names of all fields.
 const FIELDS: [&[u8]; 29] = [
@@ -75,19 +74,15 @@ pub fn lasting_field(sheet: &Sheet, scope: &Scope, name: &[u8]) -> Option<usize>
 }
 
 /// The lines of a span that begin with one of these words, in order.
-fn all_in(
-    alloc: Global,
-    sheet: &Sheet,
-    span: Span,
-    names: &[&[u8]],
-) -> Result<Row<usize>, OutOfMemory> {
-    let mut lines = Row::new(alloc);
+fn all_in(reader: &mut Reader, sheet: &Sheet, span: Span, names: &[&[u8]]) -> Row<usize> {
+    let mut lines = Row::new(reader.alloc);
     for line in span.from..span.to {
         if is_one_of(word_of(sheet.line(line)), names) {
-            lines.push(line)?;
+            let done = lines.push(line);
+            reader.faults.note(done);
         }
     }
-    Ok(lines)
+    lines
 }
 
 fn is_one_of(word: &[u8], names: &[&[u8]]) -> bool {
@@ -99,35 +94,33 @@ fn is_one_of(word: &[u8], names: &[&[u8]]) -> bool {
     false
 }
 
-/// The lines of fields that may stand several times, in order: the run's own, or those of its group where it has none.
-pub fn fields(
-    alloc: Global,
-    sheet: &Sheet,
-    scope: &Scope,
-    names: &[&[u8]],
-) -> Result<Row<usize>, OutOfMemory> {
-    let own = all_in(alloc, sheet, scope.own, names)?;
+/// The lines of fields that may stand several times, in order: the run's own, or those of its group if it has none.
+pub fn fields(reader: &mut Reader, sheet: &Sheet, scope: &Scope, names: &[&[u8]]) -> Row<usize> {
+    let own = all_in(reader, sheet, scope.own, names);
     if own.is_empty() {
-        return all_in(alloc, sheet, scope.group, names);
+        return all_in(reader, sheet, scope.group, names);
     }
-    Ok(own)
+    own
 }
 
 /// The numbers of a field, or none where it is not given.
-pub fn numbers(alloc: Global, sheet: &Sheet, line: Option<usize>) -> Result<Row<u64>, CaseFault> {
+pub fn numbers(reader: &mut Reader, sheet: &Sheet, line: Option<usize>) -> Row<u64> {
     match line {
-        Some(line) => numbers_of(alloc, sheet.rest(line), line),
-        None => Ok(Row::new(alloc)),
+        Some(line) => numbers_of(reader, sheet.rest(line), line),
+        None => Row::new(reader.alloc),
     }
 }
 
 /// Sees that each line of a span is a field, a piece, or blank.
-pub fn check(sheet: &Sheet, span: Span) -> Result<(), CaseFault> {
+pub fn check(reader: &mut Reader, sheet: &Sheet, span: Span) {
     for number in span.from..span.to {
-        let line = sheet.line(number);
-        if !(is_piece(line) || is_blank(line) || is_one_of(word_of(line), &FIELDS)) {
-            return Err(CaseFault::Line(number));
+        if !has_form(sheet.line(number)) {
+            reader.faults.line(number);
         }
     }
-    Ok(())
+}
+
+/// Whether a line is a field, a piece, or blank.
+fn has_form(line: &[u8]) -> bool {
+    is_piece(line) || is_blank(line) || is_one_of(word_of(line), &FIELDS)
 }

@@ -1,9 +1,8 @@
 //! What is done with the bytes between brackets.
-use crate::CaseFault;
+use crate::page::Page;
 use crate::sheet::{between, rest_of, word_of};
-use crate::words::{number_of, size_of_number};
+use crate::words::{found_in, number_of, size_of_number};
 use base64::engine::general_purpose::STANDARD;
-use sb_model::{Bytes, OutOfMemory};
 use sha2::{Digest, Sha256};
 use std::alloc::Global;
 
@@ -29,77 +28,70 @@ pub enum Work {
     EachRest,
 }
 
-/// The work of an opening bracket whose text stands in a line.
-pub fn work_of(text: &[u8], line: usize) -> Result<Work, CaseFault> {
-    let number = number_of(rest_of(text));
-    let work = match (word_of(text), number) {
-        (b"repeat", Some(count)) if count > 0 => Work::Repeat {
-            more: count.saturating_sub(1),
-            line: line.saturating_add(1),
-        },
-        (b"front", Some(count)) => Work::Front(size_of_number(count)),
-        (b"without", Some(count)) => Work::Without(size_of_number(count)),
-        _ => return plain_work_of(text, line),
-    };
-    Ok(work)
-}
+/// The brackets that have no number.
+const PLAIN: [(&[u8], Work); 7] = [
+    (b"base64", Work::Base64),
+    (b"hex", Work::Hex),
+    (b"sha256", Work::Digest),
+    (b"sealed", Work::Sealed),
+    (b"response", Work::Response),
+    (b"each-front", Work::EachFront),
+    (b"each-rest", Work::EachRest),
+];
 
-/// The work of a bracket that has no number.
-fn plain_work_of(text: &[u8], line: usize) -> Result<Work, CaseFault> {
-    match text {
-        b"base64" => Ok(Work::Base64),
-        b"hex" => Ok(Work::Hex),
-        b"sha256" => Ok(Work::Digest),
-        b"sealed" => Ok(Work::Sealed),
-        b"response" => Ok(Work::Response),
-        b"each-front" => Ok(Work::EachFront),
-        b"each-rest" => Ok(Work::EachRest),
-        _ => Err(CaseFault::Line(line)),
+/// The work of an opening bracket whose text stands in a line, if there is one.
+pub fn work_of(text: &[u8], line: usize) -> Option<Work> {
+    match number_of(rest_of(text)) {
+        Some(number) => counted_work_of(word_of(text), number, line),
+        None => found_in(&PLAIN, text),
     }
 }
 
-/// Appends bytes in hexadecimal.
-pub fn push_hex(alloc: Global, text: &mut Bytes, bytes: &[u8]) -> Result<(), OutOfMemory> {
-    text.append(hex::encode(alloc, bytes)?.as_bytes())
-}
-
-fn push_base64(alloc: Global, text: &mut Bytes, bytes: &[u8]) -> Result<(), OutOfMemory> {
-    text.append(STANDARD.encode(alloc, bytes)?.as_bytes())
+/// The work of a bracket that has a number.
+fn counted_work_of(word: &[u8], number: u64, line: usize) -> Option<Work> {
+    if word == b"front".as_slice() {
+        return Some(Work::Front(size_of_number(number)));
+    }
+    if word == b"without".as_slice() {
+        return Some(Work::Without(size_of_number(number)));
+    }
+    if word == b"repeat".as_slice() && number > 0 {
+        return Some(Work::Repeat {
+            more: number.saturating_sub(1),
+            line: line.saturating_add(1),
+        });
+    }
+    None
 }
 
 /// Appends the response of a server with this body.
-fn push_response(alloc: Global, text: &mut Bytes, body: &[u8]) -> Result<(), OutOfMemory> {
-    text.append(b"HTTP/1.1 200 OK\r\nContent-Type: application/json\r\nContent-Length: ")?;
-    text.append_decimal(body.len() as u64)?;
-    text.append(b"\r\nContent-Digest: sha-256=:")?;
-    push_base64(alloc, text, &Sha256::digest(body))?;
-    text.append(b":\r\nConnection: close\r\n\r\n")?;
-    text.append(body)
+fn put_response(alloc: Global, page: &mut Page, body: &[u8]) {
+    page.put(b"HTTP/1.1 200 OK\r\nContent-Type: application/json\r\nContent-Length: ");
+    page.put_number(body.len() as u64);
+    page.put(b"\r\nContent-Digest: sha-256=:");
+    page.put_text(STANDARD.encode(alloc, &Sha256::digest(body)));
+    page.put(b":\r\nConnection: close\r\n\r\n");
+    page.put(body);
+}
+
+/// Appends bytes, and their SHA-256 after them.
+fn put_sealed(page: &mut Page, inner: &[u8]) {
+    page.put(inner);
+    page.put(&Sha256::digest(inner));
 }
 
 /// Appends what is made of the bytes that stood in a bracket.
-pub fn push_work(
-    alloc: Global,
-    text: &mut Bytes,
-    work: Work,
-    inner: &[u8],
-    cut: usize,
-) -> Result<(), OutOfMemory> {
+pub fn put_work(alloc: Global, page: &mut Page, work: Work, inner: &[u8], cut: usize) {
     match work {
-        Work::Repeat { .. } => text.append(inner),
-        Work::Base64 => push_base64(alloc, text, inner),
-        Work::Hex => push_hex(alloc, text, inner),
-        Work::Digest => text.append(&Sha256::digest(inner)),
-        Work::Sealed => {
-            text.append(inner)?;
-            text.append(&Sha256::digest(inner))
-        }
-        Work::Response => push_response(alloc, text, inner),
-        Work::Front(count) => text.append(between(inner, 0, count)),
-        Work::Without(count) => {
-            text.append(between(inner, 0, inner.len().saturating_sub(count)))
-        }
-        Work::EachFront => text.append(between(inner, 0, cut)),
-        Work::EachRest => text.append(between(inner, cut, inner.len())),
+        Work::Repeat { .. } => page.put(inner),
+        Work::Base64 => page.put_text(STANDARD.encode(alloc, inner)),
+        Work::Hex => page.put_text(hex::encode(alloc, inner)),
+        Work::Digest => page.put(&Sha256::digest(inner)),
+        Work::Sealed => put_sealed(page, inner),
+        Work::Response => put_response(alloc, page, inner),
+        Work::Front(count) => page.put(between(inner, 0, count)),
+        Work::Without(count) => page.put(between(inner, 0, inner.len().saturating_sub(count))),
+        Work::EachFront => page.put(between(inner, 0, cut)),
+        Work::EachRest => page.put(between(inner, cut, inner.len())),
     }
 }

@@ -4,10 +4,11 @@
 
 pub use book::{Book, Reader};
 pub use comparing::{Left, compare};
-pub use fault::CaseFault;
+pub use fault::{CaseFault, FirstFault};
 pub use fields::{check, field, lasting_field, numbers};
 pub use names::Names;
-pub use objects::{Objects, Place, objects_of};
+pub use objects::{Objects, Place, Scripts, objects_of, push_text};
+pub use page::Page;
 pub use plays::{Coming, Harm, Play, has_server, sessions};
 pub use report::Differences;
 pub use sheet::{Scope, Sheet, Span, between};
@@ -20,6 +21,7 @@ mod fields;
 mod frames;
 mod names;
 mod objects;
+mod page;
 mod pieces;
 mod plays;
 mod report;

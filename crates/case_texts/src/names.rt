@@ -1,5 +1,6 @@
 //! Texts that have a name.
-use sb_model::{Bytes, OutOfMemory, Row};
+use crate::book::Reader;
+use sb_model::{Bytes, Row};
 use std::alloc::Global;
 
 /// A text with its name.
@@ -12,22 +13,20 @@ struct Named {
 /// The texts that were named so far.
 #[derive(Drop)]
 pub struct Names {
-    alloc: Global,
     named: Row<Named>,
 }
 
 impl Names {
     pub fn new(alloc: Global) -> Self {
         Names {
-            alloc,
             named: Row::new(alloc),
         }
     }
 
     /// Names a text. Where several have the name, the last counts.
-    pub fn put(&mut self, name: &[u8], text: Bytes) -> Result<(), OutOfMemory> {
-        let name = Bytes::from_slice(self.alloc, name)?;
-        self.named.push(Named { name, text })
+    pub fn put(&mut self, reader: &mut Reader, name: Bytes, text: Bytes) {
+        let done = self.named.push(Named { name, text });
+        reader.faults.note(done);
     }
 
     /// The text of this name.

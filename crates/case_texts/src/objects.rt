@@ -1,20 +1,23 @@
 //! The objects of a run.
-use crate::CaseFault;
 use crate::book::{Book, Reader};
 use crate::fields::{field, fields, lasting_field, numbers, own_field};
 use crate::sheet::{Scope, rest_of, word_of};
-use crate::words::{low_word, number_of, size_of_number};
+use crate::words::{found_in, low_word, number_of, size_of_number};
 use memory_objects::{
     KeepFailure, MemoryDoor, MemoryKeeper, MemorySink, MemorySource, MemoryWire, Remains,
     ScriptClock, ScriptDice,
 };
 use sb_model::{Bytes, Moment, OutOfMemory, Row};
+use std::mem;
 
 /// How many bytes an output or a connection takes.
 const ROOM: usize = 4_194_304;
 
 /// How many answers a clock and how many words dice list.
 const ENTRIES: usize = 4_096;
+
+/// What a failing call of a keeper leaves, but for a front of the new text.
+const REMAINS: [(&[u8], Remains); 2] = [(b"old", Remains::Old), (b"new", Remains::New)];
 
 /// What a run is given.
 #[derive(Drop)]
@@ -23,6 +26,12 @@ pub struct Objects {
     pub journal: MemorySource,
     pub out: MemorySink,
     pub keep: MemoryKeeper,
+    pub scripts: Scripts,
+}
+
+/// Those of its objects that answer from a list.
+#[derive(Drop)]
+pub struct Scripts {
     pub clock: ScriptClock,
     pub dice: ScriptDice,
     pub door: MemoryDoor,
@@ -52,142 +61,238 @@ impl<'a> Place<'a> {
     }
 
     /// The lines of fields that may stand several times.
-    pub fn fields(&self, reader: &Reader, names: &[&[u8]]) -> Result<Row<usize>, OutOfMemory> {
-        fields(reader.alloc, &self.book.sheet, &self.scope, names)
+    pub fn fields(&self, reader: &mut Reader, names: &[&[u8]]) -> Row<usize> {
+        fields(reader, &self.book.sheet, &self.scope, names)
     }
 
     /// The numbers of a field.
-    pub fn numbers(&self, reader: &Reader, name: &[u8]) -> Result<Row<u64>, CaseFault> {
-        numbers(reader.alloc, &self.book.sheet, self.field(name))
+    pub fn numbers(&self, reader: &mut Reader, name: &[u8]) -> Row<u64> {
+        numbers(reader, &self.book.sheet, self.field(name))
     }
 
     /// The numbers of a field that lasts from run to run.
-    pub fn lasting_numbers(&self, reader: &Reader, name: &[u8]) -> Result<Row<u64>, CaseFault> {
+    pub fn lasting_numbers(&self, reader: &mut Reader, name: &[u8]) -> Row<u64> {
         let line = lasting_field(&self.book.sheet, &self.scope, name);
-        numbers(reader.alloc, &self.book.sheet, line)
+        numbers(reader, &self.book.sheet, line)
     }
 }
 
-/// The objects of a run. This is what the keeper kept at the end of the run before, if it kept anything.
+/// The objects of a run, if memory lasts for them. After a fault of a field they lack something. The store is what the keeper
+/// kept at the end of the run before, if it kept anything.
 pub fn objects_of(
     reader: &mut Reader,
     place: &Place<'_>,
     store: Option<Bytes>,
-) -> Result<Objects, CaseFault> {
+) -> Result<Objects, OutOfMemory> {
+    let out = out_of(reader, place)?;
+    let scripts = scripts_of(reader, place)?;
     Ok(Objects {
-        input: input_of(reader, place)?,
-        journal: journal_of(reader, place)?,
-        out: out_of(reader, place)?,
-        keep: keeper_of(reader, place, store)?,
-        clock: clock_of(reader, place)?,
-        dice: dice_of(reader, place)?,
-        door: door_of(reader, place)?,
+        input: input_of(reader, place),
+        journal: journal_of(reader, place),
+        out,
+        keep: keeper_of(reader, place, store),
+        scripts,
     })
 }
 
-fn input_of(reader: &mut Reader, place: &Place<'_>) -> Result<MemorySource, CaseFault> {
+fn scripts_of(reader: &mut Reader, place: &Place<'_>) -> Result<Scripts, OutOfMemory> {
+    let clock = clock_of(reader, place)?;
+    let dice = dice_of(reader, place)?;
+    let door = door_of(reader, place)?;
+    Ok(Scripts { clock, dice, door })
+}
+
+fn input_of(reader: &mut Reader, place: &Place<'_>) -> MemorySource {
     let mut pieces = Row::new(reader.alloc);
-    pieces.push(reader.text_or_nothing(place.book, place.field(b"input"))?)?;
-    let failing = place.numbers(reader, b"input-fails")?;
-    Ok(MemorySource::new(pieces, failing).with_step(place.step.max(1)))
+    let text = reader.text_or_nothing(place.book, place.field(b"input"));
+    push_text(reader, &mut pieces, text);
+    let failing = place.numbers(reader, b"input-fails");
+    MemorySource::new(pieces, failing).with_step(place.step.max(1))
+}
+
+/// Appends a text to others.
+pub fn push_text(reader: &mut Reader, texts: &mut Row<Bytes>, text: Bytes) {
+    let done = texts.push(text);
+    reader.faults.note(done);
+}
+
+/// What a journal has at first and gains before each connection, and what it gains before the next.
+#[derive(Drop)]
+struct Growth {
+    pieces: Row<Bytes>,
+    gains: Bytes,
 }
 
 /// The journal of a server: what it has at first, and what it gains before each connection.
-fn journal_of(reader: &mut Reader, place: &Place<'_>) -> Result<MemorySource, CaseFault> {
-    let mut pieces = Row::new(reader.alloc);
-    pieces.push(reader.text_or_nothing(place.book, place.field(b"journal"))?)?;
-    let mut gains = Bytes::new(reader.alloc);
-    for line in place.fields(reader, &[b"connection", b"append"])?.iter() {
-        if word_of(place.book.sheet.line(*line)) == b"append".as_slice() {
-            gains.append(reader.text(place.book, *line)?.as_slice())?;
-        } else {
-            pieces.push(gains)?;
-            gains = Bytes::new(reader.alloc);
-        }
-    }
-    pieces.push(gains)?;
-    let failing = place.numbers(reader, b"journal-fails")?;
-    Ok(MemorySource::new(pieces, failing).with_step(place.step.max(1)))
+fn journal_of(reader: &mut Reader, place: &Place<'_>) -> MemorySource {
+    let pieces = journal_pieces(reader, place);
+    let failing = place.numbers(reader, b"journal-fails");
+    MemorySource::new(pieces, failing).with_step(place.step.max(1))
 }
 
-fn out_of(reader: &Reader, place: &Place<'_>) -> Result<MemorySink, CaseFault> {
-    let failing = place.numbers(reader, b"out-fails")?;
+fn journal_pieces(reader: &mut Reader, place: &Place<'_>) -> Row<Bytes> {
+    let mut growth = Growth {
+        pieces: Row::new(reader.alloc),
+        gains: reader.text_or_nothing(place.book, place.field(b"journal")),
+    };
+    growth.end_piece(reader);
+    for line in place.fields(reader, &[b"connection", b"append"]).iter() {
+        growth.take(reader, place, *line);
+    }
+    growth.end_piece(reader);
+    growth.into_pieces()
+}
+
+impl Growth {
+    /// Takes a line, of a connection or of what is gained.
+    fn take(&mut self, reader: &mut Reader, place: &Place<'_>, line: usize) {
+        if word_of(place.book.sheet.line(line)) == b"append".as_slice() {
+            append_text(reader, place, &mut self.gains, line);
+        } else {
+            self.end_piece(reader);
+        }
+    }
+
+    fn end_piece(&mut self, reader: &mut Reader) {
+        let ended = mem::replace(&mut self.gains, Bytes::new(reader.alloc));
+        push_text(reader, &mut self.pieces, ended);
+    }
+
+    fn into_pieces(self) -> Row<Bytes> {
+        let Self { pieces, .. } = self;
+        pieces
+    }
+}
+
+/// Appends the text of the field in a line.
+pub fn append_text(reader: &mut Reader, place: &Place<'_>, text: &mut Bytes, line: usize) {
+    let more = reader.text(place.book, line);
+    let done = text.append(more.as_slice());
+    reader.faults.note(done);
+}
+
+fn out_of(reader: &mut Reader, place: &Place<'_>) -> Result<MemorySink, OutOfMemory> {
+    let failing = place.numbers(reader, b"out-fails");
     let sink = MemorySink::new(reader.alloc, ROOM, failing)?;
     Ok(sink.with_step(place.step.max(1)))
 }
 
-fn keeper_of(
-    reader: &mut Reader,
-    place: &Place<'_>,
-    store: Option<Bytes>,
-) -> Result<MemoryKeeper, CaseFault> {
-    let mut failing = Row::new(reader.alloc);
-    for line in place.fields(reader, &[b"keeper-fails"])?.iter() {
-        failing.push(failure_of(place.book.sheet.rest(*line), *line)?)?;
-    }
+fn keeper_of(reader: &mut Reader, place: &Place<'_>, store: Option<Bytes>) -> MemoryKeeper {
+    let failing = keeper_failures(reader, place);
     let kept = match place.store_field() {
-        Some(line) => Some(reader.text(place.book, line)?),
+        Some(line) => Some(reader.text(place.book, line)),
         None => store,
     };
-    Ok(MemoryKeeper::new(reader.alloc, kept, failing))
+    MemoryKeeper::new(reader.alloc, kept, failing)
 }
 
-/// A failing call of a keeper: its number, and what is kept afterwards.
-fn failure_of(text: &[u8], line: usize) -> Result<KeepFailure, CaseFault> {
-    let remains = rest_of(text);
-    let remains = match (word_of(remains), number_of(rest_of(remains))) {
-        (b"old", None) => Remains::Old,
-        (b"new", None) => Remains::New,
-        (b"front", Some(count)) => Remains::Front(size_of_number(count)),
-        _ => return Err(CaseFault::Line(line)),
-    };
-    match number_of(word_of(text)) {
-        Some(call) => Ok(KeepFailure { call, remains }),
-        None => Err(CaseFault::Line(line)),
+fn keeper_failures(reader: &mut Reader, place: &Place<'_>) -> Row<KeepFailure> {
+    let mut failing = Row::new(reader.alloc);
+    for line in place.fields(reader, &[b"keeper-fails"]).iter() {
+        push_failure(reader, &mut failing, place.book.sheet.rest(*line), *line);
+    }
+    failing
+}
+
+fn push_failure(reader: &mut Reader, failing: &mut Row<KeepFailure>, text: &[u8], line: usize) {
+    match failure_of(text) {
+        Some(failure) => {
+            let done = failing.push(failure);
+            reader.faults.note(done);
+        }
+        None => reader.faults.line(line),
     }
 }
 
-fn clock_of(reader: &Reader, place: &Place<'_>) -> Result<ScriptClock, CaseFault> {
+/// A failing call of a keeper, if there is one: its number, and what is kept afterwards.
+fn failure_of(text: &[u8]) -> Option<KeepFailure> {
+    let remains = remains_of(rest_of(text))?;
+    let call = number_of(word_of(text))?;
+    Some(KeepFailure { call, remains })
+}
+
+/// What a failing call leaves.
+fn remains_of(text: &[u8]) -> Option<Remains> {
+    match number_of(rest_of(text)) {
+        Some(count) if word_of(text) == b"front".as_slice() => {
+            Some(Remains::Front(size_of_number(count)))
+        }
+        Some(_) => None,
+        None => found_in(&REMAINS, word_of(text)),
+    }
+}
+
+fn clock_of(reader: &mut Reader, place: &Place<'_>) -> Result<ScriptClock, OutOfMemory> {
     let mut readings = Row::new(reader.alloc);
-    for number in place.lasting_numbers(reader, b"clock")?.iter() {
-        readings.push(Moment(*number))?;
+    for number in place.lasting_numbers(reader, b"clock").iter() {
+        let done = readings.push(Moment(*number));
+        reader.faults.note(done);
     }
-    Ok(ScriptClock::new(reader.alloc, readings, ENTRIES)?)
+    ScriptClock::new(reader.alloc, readings, ENTRIES)
 }
 
-fn dice_of(reader: &Reader, place: &Place<'_>) -> Result<ScriptDice, CaseFault> {
+fn dice_of(reader: &mut Reader, place: &Place<'_>) -> Result<ScriptDice, OutOfMemory> {
     let mut words = Row::new(reader.alloc);
-    for number in place.lasting_numbers(reader, b"dice")?.iter() {
-        words.push(low_word(*number))?;
+    for number in place.lasting_numbers(reader, b"dice").iter() {
+        let done = words.push(low_word(*number));
+        reader.faults.note(done);
     }
-    Ok(ScriptDice::new(reader.alloc, words, ENTRIES)?)
+    ScriptDice::new(reader.alloc, words, ENTRIES)
 }
 
 /// The connections of a door, each with the calls that fail.
-fn door_of(reader: &mut Reader, place: &Place<'_>) -> Result<MemoryDoor, CaseFault> {
-    let lines = place.fields(reader, &[b"connection", b"read-fails", b"write-fails"])?;
-    let mut wires = Row::new(reader.alloc);
-    for (at, line) in lines.iter().enumerate() {
-        if word_of(place.book.sheet.line(*line)) == b"connection".as_slice() {
-            wires.push(wire_of(reader, place, lines.as_slice(), at, *line)?)?;
-        }
-    }
+fn door_of(reader: &mut Reader, place: &Place<'_>) -> Result<MemoryDoor, OutOfMemory> {
+    let wires = wires_of(reader, place);
     let count = wires.len();
-    let failing = place.numbers(reader, b"door-fails")?;
-    Ok(MemoryDoor::new(reader.alloc, wires, count, failing)?)
+    let failing = place.numbers(reader, b"door-fails");
+    MemoryDoor::new(reader.alloc, wires, count, failing)
 }
 
-/// The connection of a line, and the failing calls that the lines after it name.
+fn wires_of(reader: &mut Reader, place: &Place<'_>) -> Row<MemoryWire> {
+    let mut wires = Row::new(reader.alloc);
+    let lines = place.fields(reader, &[b"connection", b"read-fails", b"write-fails"]);
+    for at in 0..lines.len() {
+        take_wire(reader, place, lines.as_slice(), at, &mut wires);
+    }
+    wires
+}
+
+/// Takes a line of a list: a connection, or failing calls of the one above.
+fn take_wire(
+    reader: &mut Reader,
+    place: &Place<'_>,
+    lines: &[usize],
+    at: usize,
+    wires: &mut Row<MemoryWire>,
+) {
+    if word_of(place.book.sheet.line(line_at(lines, at))) != b"connection".as_slice() {
+        return;
+    }
+    let done = match wire_of(reader, place, lines, at) {
+        Ok(wire) => wires.push(wire),
+        Err(OutOfMemory) => Err(OutOfMemory),
+    };
+    reader.faults.note(done);
+}
+
+/// The line at a place of a list, or the first line of all if the list has no such place.
+pub fn line_at(lines: &[usize], at: usize) -> usize {
+    match lines.get(at) {
+        Some(line) => *line,
+        None => 0,
+    }
+}
+
+/// The connection of a line of a list, and the failing calls that the lines after it name.
 fn wire_of(
     reader: &mut Reader,
     place: &Place<'_>,
     lines: &[usize],
     at: usize,
-    line: usize,
-) -> Result<MemoryWire, CaseFault> {
-    let sends = reader.text(place.book, line)?;
-    let reads = numbers_after(reader, place, lines, at, b"read-fails")?;
-    let writes = numbers_after(reader, place, lines, at, b"write-fails")?;
+) -> Result<MemoryWire, OutOfMemory> {
+    let sends = reader.text(place.book, line_at(lines, at));
+    let reads = numbers_after(reader, place, lines, at, b"read-fails");
+    let writes = numbers_after(reader, place, lines, at, b"write-fails");
     let wire = MemoryWire::new(reader.alloc, sends, ROOM, reads, writes)?;
     Ok(wire.with_step(place.step.max(1)))
 }
@@ -195,21 +300,30 @@ fn wire_of(
 /// The numbers of the field of this name that stands after a line of a list, before the next field of another name than
 /// those of failing calls.
 pub fn numbers_after(
-    reader: &Reader,
+    reader: &mut Reader,
     place: &Place<'_>,
     lines: &[usize],
     at: usize,
     name: &[u8],
-) -> Result<Row<u64>, CaseFault> {
-    let sheet = &place.book.sheet;
-    for line in lines.iter().skip(at.saturating_add(1)) {
-        let word = word_of(sheet.line(*line));
+) -> Row<u64> {
+    let line = line_after(place, lines, at, name);
+    numbers(reader, &place.book.sheet, line)
+}
+
+fn line_after(place: &Place<'_>, lines: &[usize], at: usize, name: &[u8]) -> Option<usize> {
+    for line in rest_after(lines, at) {
+        let word = word_of(place.book.sheet.line(*line));
         if word == name {
-            return numbers(reader.alloc, sheet, Some(*line));
+            return Some(*line);
         }
         if !word.ends_with(b"-fails") {
-            break;
+            return None;
         }
     }
-    Ok(Row::new(reader.alloc))
+    None
+}
+
+/// What stands after a place of a list.
+fn rest_after(lines: &[usize], at: usize) -> &[usize] {
+    &lines[at.saturating_add(1).min(lines.len())..]
 }

@@ -1,10 +1,10 @@
 //! The sessions of a link.
-use crate::CaseFault;
 use crate::book::Reader;
-use crate::objects::{Place, numbers_after};
+use crate::objects::{Place, append_text, line_at, numbers_after};
 use crate::sheet::{rest_of, word_of};
-use crate::words::{number_of, size_of_number};
-use sb_model::{Bytes, OutOfMemory, Row};
+use crate::words::{found_in, number_of, size_of_number};
+use sb_model::{Bytes, Row};
+use std::mem;
 
 /// What becomes of a response on its way.
 #[derive(Clone, Copy)]
@@ -39,67 +39,124 @@ pub struct Coming {
     pub gains: Bytes,
 }
 
+/// What a `serve` says of its response.
+#[derive(Clone, Copy)]
+enum HarmWord {
+    Nothing,
+    Lost,
+    Front,
+    Without,
+    Byte,
+    Again,
+}
+
+const HARMS: [(&[u8], HarmWord); 6] = [
+    (b"", HarmWord::Nothing),
+    (b"lost", HarmWord::Lost),
+    (b"front", HarmWord::Front),
+    (b"without", HarmWord::Without),
+    (b"byte", HarmWord::Byte),
+    (b"again", HarmWord::Again),
+];
+
 /// Whether the list server answers a session.
-pub fn has_server(reader: &Reader, place: &Place<'_>) -> Result<bool, OutOfMemory> {
-    let lines = place.fields(reader, &[b"session", b"serve"])?;
-    for line in lines.iter() {
-        if word_of(place.book.sheet.line(*line)) == b"serve".as_slice() {
-            return Ok(true);
+pub fn has_server(reader: &mut Reader, place: &Place<'_>) -> bool {
+    let mut is_served = false;
+    for line in place.fields(reader, &[b"session", b"serve"]).iter() {
+        is_served = is_served || is_serve(place.book.sheet.line(*line));
+    }
+    is_served
+}
+
+fn is_serve(line: &[u8]) -> bool {
+    word_of(line) == b"serve".as_slice()
+}
+
+/// Sessions, and what the journal gains before the next one.
+#[derive(Drop)]
+struct Gathered {
+    coming: Row<Coming>,
+    gains: Bytes,
+}
+
+impl Gathered {
+    /// Takes a line of a list, of a session or of what the journal gains.
+    fn take(&mut self, reader: &mut Reader, place: &Place<'_>, lines: &[usize], at: usize) {
+        let line = line_at(lines, at);
+        let word = word_of(place.book.sheet.line(line));
+        if word == b"append".as_slice() {
+            append_text(reader, place, &mut self.gains, line);
+        } else if word != b"session-fails".as_slice() {
+            self.push(reader, place, lines, at);
         }
     }
-    Ok(false)
+
+    /// Appends the session of a line of a list.
+    fn push(&mut self, reader: &mut Reader, place: &Place<'_>, lines: &[usize], at: usize) {
+        let play = play_of(reader, place, line_at(lines, at));
+        let failing = numbers_after(reader, place, lines, at, b"session-fails");
+        let gains = mem::replace(&mut self.gains, Bytes::new(reader.alloc));
+        let done = self.coming.push(Coming {
+            play,
+            failing,
+            gains,
+        });
+        reader.faults.note(done);
+    }
+
+    fn into_coming(self) -> Row<Coming> {
+        let Self { coming, .. } = self;
+        coming
+    }
 }
 
 /// The sessions, each with its failing calls and with what the journal gains before it.
-pub fn sessions(reader: &mut Reader, place: &Place<'_>) -> Result<Row<Coming>, CaseFault> {
-    let lines = place.fields(reader, &[b"session", b"serve", b"append", b"session-fails"])?;
-    let mut coming = Row::new(reader.alloc);
-    let mut gains = Bytes::new(reader.alloc);
-    for (at, line) in lines.iter().enumerate() {
-        match word_of(place.book.sheet.line(*line)) {
-            b"append" => gains.append(reader.text(place.book, *line)?.as_slice())?,
-            b"session-fails" => {}
-            _ => {
-                let play = play_of(reader, place, *line)?;
-                let failing = numbers_after(reader, place, lines.as_slice(), at, b"session-fails")?;
-                coming.push(Coming {
-                    play,
-                    failing,
-                    gains,
-                })?;
-                gains = Bytes::new(reader.alloc);
-            }
-        }
+pub fn sessions(reader: &mut Reader, place: &Place<'_>) -> Row<Coming> {
+    let mut gathered = Gathered {
+        coming: Row::new(reader.alloc),
+        gains: Bytes::new(reader.alloc),
+    };
+    let lines = place.fields(reader, &[b"session", b"serve", b"append", b"session-fails"]);
+    for at in 0..lines.len() {
+        gathered.take(reader, place, lines.as_slice(), at);
     }
-    Ok(coming)
+    gathered.into_coming()
 }
 
 /// What the other side does in the session of a line.
-fn play_of(reader: &mut Reader, place: &Place<'_>, line: usize) -> Result<Play, CaseFault> {
+fn play_of(reader: &mut Reader, place: &Place<'_>, line: usize) -> Play {
     let text = place.book.sheet.line(line);
-    if word_of(text) == b"serve".as_slice() {
-        return Ok(Play::Serves(harm_of(rest_of(text), line)?));
+    if !is_serve(text) {
+        return Play::Gives(reader.text(place.book, line));
     }
-    Ok(Play::Gives(reader.text(place.book, line)?))
+    match harm_of(rest_of(text)) {
+        Some(harm) => Play::Serves(harm),
+        None => {
+            reader.faults.line(line);
+            Play::Serves(Harm::Nothing)
+        }
+    }
 }
 
 /// What becomes of a served response.
-fn harm_of(text: &[u8], line: usize) -> Result<Harm, CaseFault> {
-    let rest = rest_of(text);
-    let number = match number_of(word_of(rest)) {
+fn harm_of(text: &[u8]) -> Option<Harm> {
+    let numbers = rest_of(text);
+    let number = match number_of(word_of(numbers)) {
         Some(number) => size_of_number(number),
         None => 0,
     };
-    match word_of(text) {
-        b"" => Ok(Harm::Nothing),
-        b"lost" => Ok(Harm::Front(0)),
-        b"again" => Ok(Harm::Again),
-        b"front" => Ok(Harm::Front(number)),
-        b"without" => Ok(Harm::Without(number)),
-        b"byte" => match number_of(rest_of(rest)) {
-            Some(byte) => Ok(Harm::Byte(number.saturating_sub(1), (byte & 0xff) as u8)),
-            None => Err(CaseFault::Line(line)),
-        },
-        _ => Err(CaseFault::Line(line)),
+    match found_in(&HARMS, word_of(text))? {
+        HarmWord::Nothing => Some(Harm::Nothing),
+        HarmWord::Lost => Some(Harm::Front(0)),
+        HarmWord::Front => Some(Harm::Front(number)),
+        HarmWord::Without => Some(Harm::Without(number)),
+        HarmWord::Byte => other_byte(number, rest_of(numbers)),
+        HarmWord::Again => Some(Harm::Again),
     }
+}
+
+/// That the last byte but so many is another one.
+fn other_byte(number: usize, text: &[u8]) -> Option<Harm> {
+    let byte = number_of(text)?;
+    Some(Harm::Byte(number.saturating_sub(1), (byte & 0xff) as u8))
 }

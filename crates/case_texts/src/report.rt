@@ -1,6 +1,6 @@
 //! What is printed of cases that differ.
+use crate::page::Page;
 use crate::sheet::between;
-use sb_model::{Bytes, OutOfMemory};
 use std::alloc::Global;
 
 /// How many bytes are shown of a text.
@@ -9,7 +9,7 @@ const SHOWN: usize = 400;
 /// The differences of a case, as lines.
 #[derive(Drop)]
 pub struct Differences {
-    pub page: Bytes,
+    pub page: Page,
     /// The first line of the run that is compared, counted from 1.
     pub line: u64,
 }
@@ -17,79 +17,80 @@ pub struct Differences {
 impl Differences {
     pub fn new(alloc: Global) -> Self {
         Differences {
-            page: Bytes::new(alloc),
+            page: Page::new(alloc),
             line: 0,
         }
     }
 
+    /// Whether there is a difference, or a fault on the way.
+    pub fn is_decided(&self) -> bool {
+        !self.page.bytes.is_empty() || !self.page.faults.is_none()
+    }
+
     /// Begins a line about the run and something that it left.
-    fn begin(&mut self, name: &[u8]) -> Result<(), OutOfMemory> {
-        self.page.append(b"  line ")?;
-        self.page.append_decimal(self.line)?;
-        self.page.append(b": ")?;
-        self.page.append(name)?;
-        self.page.append(b": ")
+    fn begin(&mut self, name: &[u8]) {
+        self.page.put(b"  line ");
+        self.page.put_number(self.line);
+        self.page.put(b": ");
+        self.page.put(name);
+        self.page.put(b": ");
     }
 
     /// Tells of a number that is not the one that was to come.
-    pub fn number(&mut self, name: &[u8], came: u64, wanted: u64) -> Result<(), OutOfMemory> {
+    pub fn number(&mut self, name: &[u8], came: u64, wanted: u64) {
         if came == wanted {
-            return Ok(());
+            return;
         }
-        self.begin(name)?;
-        self.page.append_decimal(came)?;
-        self.page.append(b" came, ")?;
-        self.page.append_decimal(wanted)?;
-        self.page.append(b" was to come\n")
+        self.begin(name);
+        self.page.put_number(came);
+        self.page.put(b" came, ");
+        self.page.put_number(wanted);
+        self.page.put(b" was to come\n");
     }
 
     /// Tells of bytes that are not those that were to come, from the line in which they differ on.
-    pub fn bytes(&mut self, name: &[u8], came: &[u8], wanted: &[u8]) -> Result<(), OutOfMemory> {
+    pub fn bytes(&mut self, name: &[u8], came: &[u8], wanted: &[u8]) {
         if came == wanted {
-            return Ok(());
+            return;
         }
         let at = first_difference(came, wanted);
         let from = line_start(came, at);
-        self.begin(name)?;
-        self.page.append(b"byte ")?;
-        self.page.append_decimal(at as u64)?;
-        self.page.append(b" of ")?;
-        self.page.append_decimal(came.len() as u64)?;
-        self.page.append(b" differs, ")?;
-        self.page.append_decimal(wanted.len() as u64)?;
-        self.page.append(b" were to come\n    came       ")?;
-        push_shown(
-            &mut self.page,
-            between(came, from, from.saturating_add(SHOWN)),
-        )?;
-        self.page.append(b"\n    was to come ")?;
-        push_shown(
-            &mut self.page,
-            between(wanted, from, from.saturating_add(SHOWN)),
-        )?;
-        self.page.push(b'\n')
+        self.begin(name);
+        self.put_lengths(at, came.len(), wanted.len());
+        self.page.put(b"\n    came       ");
+        put_shown(&mut self.page, came, from);
+        self.page.put(b"\n    was to come ");
+        put_shown(&mut self.page, wanted, from);
+        self.page.put(b"\n");
+    }
+
+    /// Tells where bytes differ, and how many there are.
+    fn put_lengths(&mut self, at: usize, came: usize, wanted: usize) {
+        self.page.put(b"byte ");
+        self.page.put_number(at as u64);
+        self.page.put(b" of ");
+        self.page.put_number(came as u64);
+        self.page.put(b" differs, ");
+        self.page.put_number(wanted as u64);
+        self.page.put(b" were to come");
     }
 }
 
 /// How many bytes two texts have in common at their beginning.
 fn first_difference(came: &[u8], wanted: &[u8]) -> usize {
-    let differs = came
-        .iter()
-        .zip(wanted)
-        .position(|(byte, other)| byte != other);
-    match differs {
-        Some(at) => at,
-        None => came.len().min(wanted.len()),
+    for (at, byte) in came.iter().enumerate() {
+        match wanted.get(at) {
+            Some(other) if *other == *byte => {}
+            _ => return at,
+        }
     }
+    came.len()
 }
 
 /// Where the line of a place begins.
 fn line_start(text: &[u8], at: usize) -> usize {
     let mut start = 0;
-    for (place, byte) in text.iter().enumerate() {
-        if place >= at {
-            break;
-        }
+    for (place, byte) in between(text, 0, at).iter().enumerate() {
         if *byte == b'\n' {
             start = place.saturating_add(1);
         }
@@ -97,21 +98,21 @@ fn line_start(text: &[u8], at: usize) -> usize {
     start
 }
 
-/// Appends bytes, of which those that are not printed in ASCII stand in hexadecimal.
-fn push_shown(page: &mut Bytes, bytes: &[u8]) -> Result<(), OutOfMemory> {
-    for byte in bytes {
-        match *byte {
-            b'\n' => page.append(b"\\n")?,
-            b'\r' => page.append(b"\\r")?,
-            32..=126 => page.push(*byte)?,
-            other => {
-                page.append(b"\\x")?;
-                page.push(hex_digit(other / 16))?;
-                page.push(hex_digit(other % 16))?;
-            }
-        }
+/// Appends so many bytes of a text from a place on.
+fn put_shown(page: &mut Page, text: &[u8], from: usize) {
+    for byte in between(text, from, from.saturating_add(SHOWN)) {
+        put_byte(page, *byte);
     }
-    Ok(())
+}
+
+/// Appends a byte, in hexadecimal if it is not printed in ASCII.
+fn put_byte(page: &mut Page, byte: u8) {
+    match byte {
+        b'\n' => page.put(b"\\n"),
+        b'\r' => page.put(b"\\r"),
+        32..=126 => page.put(&[byte]),
+        _ => page.put(&[b'\\', b'x', hex_digit(byte / 16), hex_digit(byte % 16)]),
+    }
 }
 
 fn hex_digit(number: u8) -> u8 {

@@ -1,19 +1,19 @@
 //! The text of all cases, and which of its lines belong together.
-use sb_model::{Bytes, OutOfMemory};
-use std::alloc::Global;
+use crate::book::Reader;
+use sb_model::{Bytes, Row};
 
-/// Where a line begins, and where it ends.
+/// Where a line or a word begins, and where it ends.
 #[derive(Clone, Copy)]
-struct Place {
-    from: usize,
-    to: usize,
+pub struct Part {
+    pub from: usize,
+    pub to: usize,
 }
 
 /// A text, cut into lines. Lines are counted from 0.
 #[derive(Drop)]
 pub struct Sheet {
     text: Bytes,
-    places: Vec<Place>,
+    lines: Row<Part>,
 }
 
 /// Lines that stand together: from the first on, up to the one that is none of them.
@@ -33,20 +33,20 @@ pub struct Scope {
 }
 
 impl Sheet {
-    pub fn new(alloc: Global, text: Bytes) -> Result<Self, OutOfMemory> {
-        let places = places_of(alloc, text.as_slice())?;
-        Ok(Sheet { text, places })
+    pub fn new(reader: &mut Reader, text: Bytes) -> Self {
+        let lines = parts_of(reader, text.as_slice(), b'\n');
+        Sheet { text, lines }
     }
 
     /// How many lines there are.
     pub fn len(&self) -> usize {
-        self.places.len()
+        self.lines.len()
     }
 
     /// The line with this number, without its newline. It is empty where there is none.
     pub fn line(&self, number: usize) -> &[u8] {
-        match self.places.get(number) {
-            Some(place) => between(self.text.as_slice(), place.from, place.to),
+        match self.lines.as_slice().get(number) {
+            Some(part) => between(self.text.as_slice(), part.from, part.to),
             None => &[],
         }
     }
@@ -57,20 +57,23 @@ impl Sheet {
     }
 }
 
-fn places_of(alloc: Global, text: &[u8]) -> Result<Vec<Place>, OutOfMemory> {
-    let mut places = Vec::new(alloc);
+/// The parts of a text, which are parted by single bytes of this kind.
+pub fn parts_of(reader: &mut Reader, text: &[u8], mark: u8) -> Row<Part> {
+    let mut parts = Row::new(reader.alloc);
     let mut from = 0;
     for (at, byte) in text.iter().enumerate() {
-        if *byte == b'\n' {
-            places.push(Place { from, to: at })?;
+        if *byte == mark {
+            push_part(reader, &mut parts, from, at);
             from = at.saturating_add(1);
         }
     }
-    places.push(Place {
-        from,
-        to: text.len(),
-    })?;
-    Ok(places)
+    push_part(reader, &mut parts, from, text.len());
+    parts
+}
+
+fn push_part(reader: &mut Reader, parts: &mut Row<Part>, from: usize, to: usize) {
+    let done = parts.push(Part { from, to });
+    reader.faults.note(done);
 }
 
 /// The bytes from one place to another, as far as there are such.
@@ -82,10 +85,12 @@ pub fn between(bytes: &[u8], from: usize, to: usize) -> &[u8] {
 
 /// How many bytes stand before the first space.
 fn word_len(line: &[u8]) -> usize {
-    match line.iter().position(|byte| *byte == b' ') {
-        Some(at) => at,
-        None => line.len(),
+    for (at, byte) in line.iter().enumerate() {
+        if *byte == b' ' {
+            return at;
+        }
     }
+    line.len()
 }
 
 /// The first word of a line.

@@ -1,18 +1,18 @@
 //! Cases one after the other.
 use crate::running::run;
 use case_texts::{
-    Book, CaseFault, Differences, Place, Reader, Scope, Sheet, Span, between, check, compare,
-    field, numbers, size_of_number,
+    Book, CaseFault, Differences, Left, Page, Place, Reader, Scope, Sheet, Span, between, check,
+    compare, field, numbers, size_of_number,
 };
-use sb_model::{Bytes, OutOfMemory};
+use sb_model::{Bytes, Row};
 use std::alloc::Global;
 use std::sync::Wait;
 use std::thread::Threads;
 
 /// How many cases there were, and what is printed.
 #[derive(Drop)]
-pub struct Summary {
-    pub page: Bytes,
+struct Summary {
+    page: Page,
     cases: u64,
     differing: u64,
 }
@@ -24,31 +24,48 @@ struct Open {
     case: Option<Span>,
 }
 
-/// Runs all cases of a book.
+/// A case: its lines, and those under the heading of its group. Its objects give and take at most so many bytes at once.
+#[derive(Clone, Copy)]
+struct Case<'a> {
+    book: &'a Book,
+    group: Span,
+    span: Span,
+    step: usize,
+}
+
+/// Runs all cases of a book, and says what is printed.
 pub fn run_book<R: Threads + Wait + Sync>(
     rt: &R,
     alloc: Global,
     book: &Book,
-) -> Result<Summary, CaseFault> {
+) -> Result<Bytes, CaseFault> {
     let mut summary = Summary {
-        page: Bytes::new(alloc),
+        page: Page::new(alloc),
         cases: 0,
         differing: 0,
     };
+    run_cases(rt, alloc, book, &mut summary);
+    summary.end();
+    summary.into_page().into_bytes()
+}
+
+fn run_cases<R: Threads + Wait + Sync>(rt: &R, alloc: Global, book: &Book, summary: &mut Summary) {
     let mut open = Open {
         group: Span { from: 0, to: 0 },
         case: None,
     };
     for number in 0..book.sheet.len() {
-        let line = book.sheet.line(number);
-        if line.starts_with(b"# ") || line.starts_with(b"## ") {
-            end_case(rt, alloc, book, open, number, &mut summary)?;
-            open = next_open(open, line.starts_with(b"## "), number);
+        if is_heading(book.sheet.line(number)) {
+            end_case(rt, alloc, book, open, number, summary);
+            open = next_open(open, book.sheet.line(number).starts_with(b"## "), number);
         }
     }
-    end_case(rt, alloc, book, open, book.sheet.len(), &mut summary)?;
-    summary.end()?;
-    Ok(summary)
+    end_case(rt, alloc, book, open, book.sheet.len(), summary);
+}
+
+/// Whether a line begins a group or a case.
+fn is_heading(line: &[u8]) -> bool {
+    line.starts_with(b"# ") || line.starts_with(b"## ")
 }
 
 /// What is open after the heading of a case or of a group.
@@ -76,7 +93,7 @@ fn next_open(open: Open, is_case: bool, number: usize) -> Open {
     }
 }
 
-/// Runs the case that is open, and tells how it differs.
+/// Runs the case that is open, and tells how it differs. After a fault nothing is run.
 fn end_case<R: Threads + Wait + Sync>(
     rt: &R,
     alloc: Global,
@@ -84,41 +101,58 @@ fn end_case<R: Threads + Wait + Sync>(
     open: Open,
     end: usize,
     summary: &mut Summary,
-) -> Result<(), CaseFault> {
-    let Some(case) = open.case else {
-        return Ok(());
+) {
+    let Some(begun) = open.case else {
+        return;
     };
-    let span = Span {
-        from: case.from,
-        to: end,
-    };
-    check(&book.sheet, open.group)?;
-    let differences = run_case(rt, alloc, book, open.group, span)?;
-    summary.cases = summary.cases.saturating_add(1);
-    if !differences.page.is_empty() {
-        summary.tell(book.sheet.line(span.from.saturating_sub(1)), &differences)?;
+    if !summary.page.faults.is_none() {
+        return;
     }
-    Ok(())
+    let from = begun.from;
+    let case = Case {
+        book,
+        group: open.group,
+        span: Span { from, to: end },
+        step: usize::MAX,
+    };
+    let mut differences = Differences::new(alloc);
+    run_case(rt, alloc, case, &mut differences);
+    summary.add(book.sheet.line(from.saturating_sub(1)), &differences);
 }
 
 impl Summary {
+    /// Adds a case with this heading.
+    fn add(&mut self, heading: &[u8], differences: &Differences) {
+        self.cases = self.cases.saturating_add(1);
+        self.page.faults.join(&differences.page.faults);
+        if !differences.page.bytes.is_empty() {
+            self.tell(heading, differences);
+        }
+    }
+
     /// Tells of a case with this heading, and of its differences.
-    fn tell(&mut self, heading: &[u8], differences: &Differences) -> Result<(), OutOfMemory> {
+    fn tell(&mut self, heading: &[u8], differences: &Differences) {
         self.differing = self.differing.saturating_add(1);
-        self.page.append(between(heading, 3, heading.len()))?;
-        self.page.push(b'\n')?;
-        self.page.append(differences.page.as_slice())
+        self.page.put(between(heading, 3, heading.len()));
+        self.page.put(b"\n");
+        self.page.put(differences.page.bytes.as_slice());
     }
 
     /// Tells how many cases there were.
-    fn end(&mut self) -> Result<(), OutOfMemory> {
-        self.page.append_decimal(self.cases)?;
-        self.page.append(b" cases, ")?;
-        self.page.append_decimal(self.differing)?;
+    fn end(&mut self) {
+        self.page.put_number(self.cases);
+        self.page.put(b" cases, ");
+        self.page.put_number(self.differing);
         if self.differing == 1 {
-            return self.page.append(b" differs\n");
+            self.page.put(b" differs\n");
+        } else {
+            self.page.put(b" differ\n");
         }
-        self.page.append(b" differ\n")
+    }
+
+    fn into_page(self) -> Page {
+        let Self { page, .. } = self;
+        page
     }
 }
 
@@ -136,94 +170,131 @@ fn run_end(sheet: &Sheet, from: usize, end: usize) -> usize {
 fn run_case<R: Threads + Wait + Sync>(
     rt: &R,
     alloc: Global,
-    book: &Book,
-    group: Span,
-    span: Span,
-) -> Result<Differences, CaseFault> {
-    let scope = Scope {
-        own: span,
-        before: Span {
-            from: span.from,
-            to: span.from,
-        },
-        group,
-    };
-    let line = field(&book.sheet, &scope, b"steps");
-    let mut steps = numbers(alloc, &book.sheet, line)?;
-    if steps.is_empty() {
-        steps.push(u64::MAX)?;
-    }
+    case: Case<'_>,
+    differences: &mut Differences,
+) {
+    let mut reader = Reader::new(alloc, 0);
+    let steps = case.steps(&mut reader);
+    differences.page.faults.join(&reader.faults);
     for step in steps.iter() {
-        let differences = run_cuts(rt, alloc, book, group, span, size_of_number(*step))?;
-        if !differences.page.is_empty() {
-            return Ok(differences);
+        if differences.is_decided() {
+            break;
+        }
+        run_cuts(rt, alloc, case.with_step(*step), differences);
+    }
+}
+
+impl<'a> Case<'a> {
+    /// The steps of its objects, of which the greatest number is all at once. The lines of its group are looked at, too.
+    fn steps(&self, reader: &mut Reader) -> Row<u64> {
+        check(reader, &self.book.sheet, self.group);
+        let scope = self.scope(self.span.from, self.span.to);
+        let line = field(&self.book.sheet, &scope, b"steps");
+        let mut steps = numbers(reader, &self.book.sheet, line);
+        if steps.is_empty() {
+            let done = steps.push(u64::MAX);
+            reader.faults.note(done);
+        }
+        steps
+    }
+
+    fn with_step(self, step: u64) -> Self {
+        Case {
+            book: self.book,
+            group: self.group,
+            span: self.span,
+            step: size_of_number(step),
         }
     }
-    Ok(Differences::new(alloc))
+
+    /// The lines of a run of it.
+    fn scope(&self, from: usize, to: usize) -> Scope {
+        Scope {
+            own: Span { from, to },
+            before: Span {
+                from: self.span.from,
+                to: from,
+            },
+            group: self.group,
+        }
+    }
 }
 
 /// The first differences of a case at a step, over each cut.
 fn run_cuts<R: Threads + Wait + Sync>(
     rt: &R,
     alloc: Global,
-    book: &Book,
-    group: Span,
-    span: Span,
-    step: usize,
-) -> Result<Differences, CaseFault> {
+    case: Case<'_>,
+    differences: &mut Differences,
+) {
     let mut cut = 0;
     for _ in 0..u64::MAX {
-        let mut reader = Reader {
-            alloc,
-            cut,
-            fronts: 0,
-        };
-        let differences = run_runs(rt, &mut reader, book, group, span, step)?;
+        let mut reader = Reader::new(alloc, cut);
+        run_runs(rt, &mut reader, case, differences);
+        differences.page.faults.join(&reader.faults);
         cut = cut.saturating_add(1);
-        if !differences.page.is_empty() || cut >= reader.fronts {
-            return Ok(differences);
+        if differences.is_decided() || cut >= reader.fronts {
+            break;
         }
     }
-    Ok(Differences::new(alloc))
 }
 
 /// The differences of the runs of a case. Each but the first begins with what the keeper kept in the one before.
 fn run_runs<R: Threads + Wait + Sync>(
     rt: &R,
     reader: &mut Reader,
-    book: &Book,
-    group: Span,
-    span: Span,
-    step: usize,
-) -> Result<Differences, CaseFault> {
-    let mut differences = Differences::new(reader.alloc);
+    case: Case<'_>,
+    differences: &mut Differences,
+) {
     let mut store: Option<Bytes> = None;
-    let mut from = span.from;
+    let mut from = case.span.from;
     for _ in 0..u64::MAX {
-        let to = run_end(&book.sheet, from, span.to);
-        let own = Span { from, to };
-        check(&book.sheet, own)?;
-        let before = Span {
-            from: span.from,
-            to: from,
+        let to = run_end(&case.book.sheet, from, case.span.to);
+        let place = Place {
+            book: case.book,
+            scope: case.scope(from, to),
+            step: case.step,
         };
-        let scope = Scope { own, before, group };
-        let place = Place { book, scope, step };
-        differences.line = (from as u64).saturating_add(1);
-        let left = run(rt, reader, &place, store)?;
-        compare(reader, &place, &left, &mut differences)?;
-        if to >= span.to {
+        run_one(rt, reader, &place, &mut store, differences);
+        from = to.saturating_add(1);
+        if to >= case.span.to || !reader.faults.is_none() {
             break;
         }
-        store = copy_of(left.keep.kept())?;
-        from = to.saturating_add(1);
     }
-    Ok(differences)
 }
 
-fn copy_of(text: Option<&Bytes>) -> Result<Option<Bytes>, OutOfMemory> {
+/// Makes a run, which begins with this store and leaves another, and compares what it left.
+fn run_one<R: Threads + Wait + Sync>(
+    rt: &R,
+    reader: &mut Reader,
+    place: &Place<'_>,
+    store: &mut Option<Bytes>,
+    differences: &mut Differences,
+) {
+    check(reader, &place.book.sheet, place.scope.own);
+    differences.line = (place.scope.own.from as u64).saturating_add(1);
+    if let Some(left) = run(rt, reader, place, store.take()) {
+        take_left(reader, place, left, store, differences);
+    }
+}
+
+/// Compares what a run left, and says what the next one begins with.
+fn take_left(
+    reader: &mut Reader,
+    place: &Place<'_>,
+    left: Left,
+    store: &mut Option<Bytes>,
+    differences: &mut Differences,
+) {
+    if reader.faults.is_none() {
+        compare(reader, place, &left, differences);
+        *store = copy_of(reader, left.objects.keep.kept());
+    }
+}
+
+fn copy_of(reader: &mut Reader, text: Option<&Bytes>) -> Option<Bytes> {
     match text {
-        Some(text) => Ok(Some(text.copy()?)),
-        None => Ok(None),
+        Some(text) => Some(reader.copy_of(text.as_slice())),
+        None => None,
     }
 }

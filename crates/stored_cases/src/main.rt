@@ -2,7 +2,7 @@
 //! comes to something else than the case says.
 #![tactic(auto)]
 
-use case_texts::{Book, CaseFault, Sheet};
+use case_texts::{Book, CaseFault, Reader, Sheet};
 use cases::run_book;
 use real_objects::{StdSink, StdSource};
 use sb_model::Bytes;
@@ -16,6 +16,7 @@ mod case_link;
 mod cases;
 mod linking;
 mod running;
+mod server;
 
 /// How many bytes all cases may have.
 const LIMIT: usize = 67_108_864;
@@ -26,10 +27,13 @@ fn page_of<R: Threads + Wait + Sync>(
     alloc: Global,
     text: Bytes,
 ) -> Result<Bytes, CaseFault> {
-    let sheet = Sheet::new(alloc, text)?;
-    let book = Book::new(alloc, sheet)?;
-    let summary = run_book(rt, alloc, &book)?;
-    Ok(summary.page)
+    let mut reader = Reader::new(alloc, 0);
+    let sheet = Sheet::new(&mut reader, text);
+    let book = Book::new(&mut reader, sheet);
+    match reader.faults.get() {
+        Some(fault) => Err(fault),
+        None => run_book(rt, alloc, &book),
+    }
 }
 
 /// What is printed where the cases could not be run.
