@@ -118,12 +118,6 @@ module _ (history : History) (list : ListName) (held max_update max_database : �
 
 -- ---- the target of one who holds a version, or none
 
--- nobody is brought back
-pub goes_on : (history : History) (list : ListName) (from : Option ℕ) (max_update max_database : ℕ)
-    → IfSome from (λ version. version ≤ version_count history) → IfSome from (λ held. held ≤ target_version history list from max_update max_database)
-goes_on history list None max_update max_database within = tt
-goes_on history list (Some held) max_update max_database within = omega (arith, target_some history list held max_update max_database within)
-
 pub target_is : (history : History) (list : ListName) (from : Option ℕ) (max_update max_database first taken : ℕ) (held : List (List ℕ))
     → IfSome from (λ version. version ≤ version_count history) → first ≡ unwrap_or from 0 → held ≡ held_set list from history.changes
     → taken ≡ changes_taken list held (entries_after list [] history.changes first) (drop first history.changes) max_update max_database

@@ -8,7 +8,7 @@ ghost use Rattle.delta_server.specs.Served.{IsOlder, IsServed};
 ghost use Rattle.delta_server.specs.Tokens.{server_naming, server_token};
 
 use crate::served::{Served, older_prefixes, served_list, set_at};
-use crate::targets::{Limits, reached_from, target_from};
+use crate::targets::{Limits, target_from};
 use crate::tokens::{held_version, state_token};
 use crate::updates::{Sent, full_update, partial_update, unchanged_update};
 use list_versions::History;
@@ -114,22 +114,23 @@ fn partial_answer(
         return unchanged_update(alloc, asked, served.digest, token);
     }
     let before = set_at(alloc, history, list, held)?;
-    let reached = reached_from(
+    let version = target_from(
         alloc,
         history,
         list,
         served,
-        held,
+        Some(held),
         &before,
         limits_of(asked),
     )?;
+    let older = older_prefixes(alloc, history, list, version)?;
     let sent = sent_of(
         history,
         list,
-        reached.version,
+        version,
         served.set,
         served.digest,
-        reached.older.as_ref(),
+        older.as_ref(),
     );
     partial_update(alloc, asked, served.size, &before, &sent)
 }

@@ -1,9 +1,8 @@
 ghost use Rattle.std.specs.Prelude.{◌≡◌, ◌≤◌, true, false, IfOk, IfSome, IfNone};
-ghost use Rattle.sb_model.specs.History.{declares, version_count, sizes_at, prefixes_at};
-ghost use Rattle.list_versions.specs.HashSizes.{IsMapOf};
+ghost use Rattle.sb_model.specs.History.{declares, version_count, prefixes_at};
 ghost use Rattle.delta_server.specs.Served.{IsOlder, IsServed};
 
-use list_versions::{Folding, History};
+use list_versions::History;
 use prefix_set::PrefixSet;
 use sb_model::{ListName, OutOfMemory};
 use std::alloc::Global;
@@ -66,28 +65,5 @@ pub(crate) fn older_prefixes(
         return Ok(None);
     }
     let set = set_at(alloc, history, list, version)?;
-    Ok(Some(set))
-}
-
-/// The prefixes of a list at a version, where its full hashes at an earlier one were folded; `None`
-/// where it is the newest, whose set is served.
-pub(crate) fn later_prefixes(
-    alloc: Global,
-    history: &History,
-    list: ListName,
-    folding: Folding,
-    from: u64,
-    to: u64,
-) -> Result<Option<PrefixSet>, OutOfMemory>
-    requires folding { IsMapOf folding (sizes_at history.now.versions list from) }
-    requires order { from ≤ to }
-    requires within { to ≤ version_count history.now.versions }
-    ensures { IfOk result (IsOlder history.now.versions list to) }
-{
-    if to == history.len() {
-        return Ok(None);
-    }
-    let later = history.fold_on(folding, list, from, to)?;
-    let set = later.prefixes(alloc)?;
     Ok(Some(set))
 }

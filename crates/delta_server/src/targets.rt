@@ -4,15 +4,16 @@ ghost use Rattle.sb_model.specs.declared.names.ListName.{ListName as Name};
 ghost use Rattle.sb_model.specs.History.{History as Versions, declares, version_count, sizes_at, prefixes_at};
 ghost use Rattle.sb_model.specs.Difference.{difference_count};
 ghost use Rattle.sb_model.specs.Target.{target_version};
-ghost use Rattle.list_versions.specs.HashSizes.{IsMapOf};
-ghost use Rattle.delta_server.specs.Served.{IsOlder, IsServed};
+ghost use Rattle.delta_server.specs.Counts.{AreApart};
+ghost use Rattle.delta_server.specs.Served.{IsServed};
+ghost use Rattle.delta_server.specs.Walk.{HaveSame};
 
-use crate::served::{Served, later_prefixes, served_list, set_at};
+use crate::served::{Served, served_list, set_at};
 use crate::version::is_within;
 use crate::walk::target_of;
-use list_versions::{Folding, History};
+use list_versions::History;
 use prefix_set::{PrefixSet, sets_go_by_members};
-use sb_model::{ListName, OutOfMemory, targets_are_the_greatest};
+use sb_model::{Added, ListName, OutOfMemory, targets_are_the_greatest};
 use std::alloc::Global;
 use update_messages::sent_numbers_rise;
 
@@ -23,14 +24,6 @@ pub(crate) struct Limits {
     pub(crate) update: u32,
     /// In a set.
     pub(crate) database: u32,
-}
-
-/// The version of a list that a client is brought to, and its prefixes; `None` if it is the newest,
-/// whose set is served.
-#[derive(Drop)]
-pub(crate) struct Reached {
-    pub(crate) version: u64,
-    pub(crate) older: Option<PrefixSet>,
 }
 
 // Whether one who holds a set is surely brought to the newest, told by the sizes of the two alone:
@@ -87,31 +80,43 @@ fn takes_newest(
     Ok(is_within(limits.update, count))
 }
 
+// The full hashes of a list at a version with their sizes, in no order. The map that they are read
+// from is let go.
+fn entries_at(
+    alloc: Global,
+    history: &History,
+    list: ListName,
+    version: u64,
+) -> Result<Vec<Added>, OutOfMemory>
+    requires { version ≤ version_count history.now.versions }
+    ensures same { IfOk result (λ entries. HaveSame entries.items (sizes_at history.now.versions list version)) }
+    ensures apart { IfOk result (λ entries. AreApart entries.items) }
+{
+    let folding = history.folding(alloc, list, version)?;
+    folding.entries(alloc)
+}
+
 // The version of a list that a client is brought to, told by a walk through the changes after the
-// version that it holds, or after version 0. `held` is the set of that version, and its full hashes
-// were folded.
+// version that it holds, or after version 0. `held` is the set of that version.
 fn walked_target(
     alloc: Global,
     history: &History,
     list: ListName,
     from: Option<u64>,
     held: &PrefixSet,
-    folding: &Folding,
     limits: Limits,
 ) -> Result<u64, OutOfMemory>
     requires within { IfSome from (λ version. version ≤ version_count history.now.versions) }
-    requires folding { IsMapOf folding.now (sizes_at history.now.versions list (unwrap_or from 0)) }
     requires held { held.now ≡ prefixes_at history.now.versions list (unwrap_or from 0) }
     ensures target { IfOk result (λ version. version
         ≡ target_version history.now.versions list from limits.update limits.database) }
     ensures within { IfOk result (λ version. version ≤ version_count history.now.versions) }
-    ensures onward { IfOk result (λ version. IfSome from (λ held. held ≤ version)) }
 {
     sets_go_by_members();
     targets_are_the_greatest();
     // looked at for the prover: what holds of each history that was read
     let _ = history.len();
-    let entries = folding.entries(alloc)?;
+    let entries = entries_at(alloc, history, list, from.unwrap_or(0))?;
     target_of(
         alloc,
         list,
@@ -146,39 +151,7 @@ pub(crate) fn target_from(
     if takes_newest(alloc, held, served.set, limits)? {
         return Ok(history.len());
     }
-    let folding = history.folding(alloc, list, from.unwrap_or(0))?;
-    walked_target(alloc, history, list, from, held, &folding, limits)
-}
-
-/// As `target_from`, for one who holds a version, with the set of the version that it is brought
-/// to. If full hashes are folded, that set is made of the same map.
-pub(crate) fn reached_from(
-    alloc: Global,
-    history: &History,
-    list: ListName,
-    served: &Served<'_>,
-    from: u64,
-    held: &PrefixSet,
-    limits: Limits,
-) -> Result<Reached, OutOfMemory>
-    requires served { IsServed served.now history.now.versions list }
-    requires within { from ≤ version_count history.now.versions }
-    requires held { held.now ≡ prefixes_at history.now.versions list from }
-    ensures target { IfOk result (λ reached. reached.version
-        ≡ target_version history.now.versions list (Some from) limits.update limits.database) }
-    ensures older { IfOk result (λ reached.
-        IsOlder history.now.versions list reached.version reached.older) }
-{
-    if takes_newest(alloc, held, served.set, limits)? {
-        return Ok(Reached {
-            version: history.len(),
-            older: None,
-        });
-    }
-    let folding = history.folding(alloc, list, from)?;
-    let version = walked_target(alloc, history, list, Some(from), held, &folding, limits)?;
-    let older = later_prefixes(alloc, history, list, folding, from, version)?;
-    Ok(Reached { version, older })
+    walked_target(alloc, history, list, from, held, limits)
 }
 
 // The set of a declared list that a client holds, who holds a version of it or none.

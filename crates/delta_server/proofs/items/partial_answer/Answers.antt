@@ -52,11 +52,11 @@ returns c =
     let asked : AskedList = c.args.asked.now in
     let name : c.asked.inside.name ≡ asked.name = ap (λ (a : AskedList). a.name) c.asked.view_is in
     IfOk-weaker c.partial_update.result
-    (Made versions asked c.args.held c.args.served.now.size c.in_ok-before.before c.sent_of-sent.result.set.now c.sent_of-sent.result.token c.in_ok-reached.reached.version)
-    (Wanted versions asked c.args.held c.args.served.now.size c.in_ok-before.before c.sent_of-sent.result.set.now c.sent_of-sent.result.token c.in_ok-reached.reached.version)
-    (wanted versions asked c.args.held c.args.served.now.size c.in_ok-before.before c.sent_of-sent.result.set.now c.sent_of-sent.result.token c.in_ok-reached.reached.version
+    (Made versions asked c.args.held c.args.served.now.size c.in_ok-before.before c.sent_of-sent.result.set.now c.sent_of-sent.result.token c.in_ok-version.version)
+    (Wanted versions asked c.args.held c.args.served.now.size c.in_ok-before.before c.sent_of-sent.result.set.now c.sent_of-sent.result.token c.in_ok-version.version)
+    (wanted versions asked c.args.held c.args.served.now.size c.in_ok-before.before c.sent_of-sent.result.set.now c.sent_of-sent.result.token c.in_ok-version.version
     c.requires.served.size (c.in_ok-before.ensures ∙ ap (λ (n : ListName). prefixes_at versions n c.args.held) name)
-    (c.sent_of-sent.ensures.set ∙ ap (λ (n : ListName). prefixes_at versions n c.in_ok-reached.reached.version) name)
-    (c.sent_of-sent.ensures.token ∙ ap (λ (n : ListName). server_token versions.epoch n c.in_ok-reached.reached.version) name)
-    (c.in_ok-reached.ensures.target ∙ target_same versions (Some c.args.held) c.asked.inside.name asked.name _ _ _ _ name c.limits_of.ensures.update c.limits_of.ensures.database))
+    (c.sent_of-sent.ensures.set ∙ ap (λ (n : ListName). prefixes_at versions n c.in_ok-version.version) name)
+    (c.sent_of-sent.ensures.token ∙ ap (λ (n : ListName). server_token versions.epoch n c.in_ok-version.version) name)
+    (c.in_ok-version.ensures.target ∙ target_same versions (Some c.args.held) c.asked.inside.name asked.name _ _ _ _ name c.limits_of.ensures.update c.limits_of.ensures.database))
     c.partial_update.ensures
