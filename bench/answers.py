@@ -31,6 +31,8 @@ import subprocess
 import tempfile
 import time
 
+import started
+
 REPOSITORY = os.path.dirname(os.path.dirname(os.path.abspath(__file__)))
 SBUPDATE = os.path.join(REPOSITORY, "bin", "sbupdate")
 SBLISTD = os.path.join(REPOSITORY, "bin", "sblistd")
@@ -187,31 +189,17 @@ def spelled_anew(body):
     return body + bytes(b" \t"[number >> place & 1] for place in range(20))
 
 
-class Server:
+class Server(started.Started):
     """A server of a journal, which has loaded it, and is ended with the block."""
 
     def __init__(self, journal):
         words = [SBLISTD, "serve", "--journal", journal.path, "--listen", "127.0.0.1:0"]
         begun = time.perf_counter()
-        self.ran = subprocess.Popen(words, stdout=subprocess.DEVNULL, stderr=subprocess.PIPE, text=True)
-        line = self.ran.stderr.readline()
-        found = re.search(r":(\d+)$", line.strip())
-        if not found:
-            self.ran.kill()
-            raise SystemExit(f"answers: the server did not tell its port: {line!r}")
-        self.port = int(found[1])
+        super().__init__(words)
         self.clock = clock_of(self.ran.pid)
         self.ask(fetch(Item(journal.version)))
         self.load_time = time.perf_counter() - begun
         self.load_processor_time = self.settled()
-
-    def __enter__(self):
-        return self
-
-    def __exit__(self, *_):
-        self.ran.kill()
-        self.ran.wait()
-        self.ran.stderr.close()
 
     def connect(self):
         return socket.create_connection(("127.0.0.1", self.port), timeout=600)

@@ -11,16 +11,16 @@ server has little else to do, and its client is this one process.
 
 import argparse
 import os
-import re
 import resource
 import selectors
 import shlex
 import socket
 import statistics
-import subprocess
 import sys
 import tempfile
 import time
+
+import started
 
 REPOSITORY = os.path.dirname(os.path.dirname(os.path.abspath(__file__)))
 REQUEST = b"GET /none HTTP/1.1\r\nHost: a\r\n\r\n"
@@ -37,7 +37,7 @@ def raise_limit():
     resource.setrlimit(resource.RLIMIT_NOFILE, (hard, hard))
 
 
-class Server:
+class Server(started.Started):
     """A server of a journal without hashes, which is ended with the block."""
 
     def __init__(self, program, folder):
@@ -45,21 +45,7 @@ class Server:
         with open(journal, "w", encoding="ascii") as file:
             file.write(JOURNAL)
         words = shlex.split(program) + ["serve", "--journal", journal, "--listen", "127.0.0.1:0"]
-        self.ran = subprocess.Popen(words, stdout=subprocess.DEVNULL, stderr=subprocess.PIPE, text=True)
-        line = self.ran.stderr.readline()
-        found = re.search(r":(\d+)$", line.strip())
-        if not found:
-            self.ran.kill()
-            raise SystemExit(f"door: the server did not tell its port: {line!r}")
-        self.port = int(found[1])
-
-    def __enter__(self):
-        return self
-
-    def __exit__(self, *_):
-        self.ran.kill()
-        self.ran.wait()
-        self.ran.stderr.close()
+        super().__init__(words)
 
     def processor_time(self):
         """Its user and system time so far, in seconds."""
