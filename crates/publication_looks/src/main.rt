@@ -64,25 +64,62 @@ fn run<R: Threads + Wait + Clock + Sync>(
     }
 }
 
-fn main(rt: HostRuntime) -> io::Result<ExitCode> {
-    let mut words = env::args(&rt)?;
-    let _program = words.next();
-    let (Some(kind), Some(count)) = (words.next(), words.next()) else {
-        println!(rt; "{}", USAGE)?;
-        return Ok(ExitCode::SUCCESS);
-    };
+// The same for the lists of the store on standard input. The handle is for threads.
+fn looked<R: Threads + Wait + Clock + Sync>(
+    rt: &HostRuntime,
+    handle: &R,
+    kind: &str,
+    count: u32,
+) -> Option<(u64, Duration)> {
+    let lists = given_lists(rt)?;
+    run(handle, rt.alloc(), lists, kind, count)
+}
+
+// Prints what the looks came to.
+fn print(
+    rt: &HostRuntime,
+    kind: &str,
+    count: u32,
+    last: u64,
+    took: Duration,
+) -> io::Result<ExitCode> {
+    eprintln!(rt; "{} ns", took.as_nanos())?;
+    println!(rt; "{kind} {count}: {last}")?;
+    Ok(ExitCode::SUCCESS)
+}
+
+// Looks as two words ask, and prints what comes of it.
+fn tell<R: Threads + Wait + Clock + Sync>(
+    rt: &HostRuntime,
+    handle: &R,
+    kind: &str,
+    count: &str,
+) -> io::Result<ExitCode> {
     let Ok(count) = count.parse::<u32>() else {
         return Ok(ExitCode::FAILURE);
     };
-    let Some(lists) = given_lists(&rt) else {
-        return Ok(ExitCode::FAILURE);
-    };
-    match run(&rt, rt.alloc(), lists, kind.as_str(), count) {
-        Some((last, took)) => {
-            eprintln!(rt; "{} ns", took.as_nanos())?;
-            println!(rt; "{kind} {count}: {last}")?;
+    match looked(rt, handle, kind, count) {
+        Some((last, took)) => print(rt, kind, count, last, took),
+        None => Ok(ExitCode::FAILURE),
+    }
+}
+
+// The first two words after the program's name, if there are so many.
+fn words_of(rt: &HostRuntime) -> io::Result<Option<(String, String)>> {
+    let mut words = env::args(rt)?;
+    let _program = words.next();
+    match (words.next(), words.next()) {
+        (Some(kind), Some(count)) => Ok(Some((kind, count))),
+        _ => Ok(None),
+    }
+}
+
+fn main(rt: HostRuntime) -> io::Result<ExitCode> {
+    match words_of(&rt)? {
+        Some((kind, count)) => tell(&rt, &rt, kind.as_str(), count.as_str()),
+        None => {
+            println!(rt; "{}", USAGE)?;
             Ok(ExitCode::SUCCESS)
         }
-        None => Ok(ExitCode::FAILURE),
     }
 }
