@@ -323,11 +323,16 @@ def check_leads(journal, item, answer):
         raise SystemExit(f"answers: not installed: {item} {ran.stdout[:1_000]!r}")
 
 
-def tell_item(server, journal, what, item, rounds):
-    """Measures the answer to one item, each time in another spelling, and checks it."""
-    found = cost(server, [fetch(item)], rounds)
-    check_leads(journal, item, found.answer)
-    found.tell(what)
+def tell_made(journal, what, item, rounds):
+    """Measures the answer to one item, made anew at each of some servers that have told one client that it is up to date and
+    nothing more, and checks it."""
+    found = []
+    for _ in range(rounds):
+        with Server(journal) as server:
+            found.append(cost(server, [fetch(item)], 1))
+    check_leads(journal, item, found[-1].answer)
+    took, walls = [it.took[0] for it in found], [it.walls[0] for it in found]
+    Cost(took, walls, found[-1].answer, max(it.peak for it in found), max(it.rise for it in found)).tell(what)
 
 
 def tell_load(journal, what, runs):
@@ -344,26 +349,28 @@ def tell_load(journal, what, runs):
 def tell_whole(journal, sizes):
     """Who has the newest version, and who has nothing."""
     newest, nothing = fetch(Item(journal.version)), Item()
+    tell_made(journal, "nothing held", nothing, sizes.rounds)
+    tell_made(journal, "the same, not Rice coded", Item(codings=("RAW",)), sizes.rounds)
     with Server(journal) as server:
-        cost(server, [fetch(nothing)], 1).tell("nothing held, the first after the start")
         cost(server, [newest] * sizes.repeats, sizes.rounds).tell_rate("the newest held, another spelling each time")
         cost(server, [newest] * sizes.repeats, sizes.rounds, anew=False).tell_rate("the newest held, the same bytes")
-        tell_item(server, journal, "nothing held, another spelling each time", nothing, 4 * sizes.rounds)
-        tell_item(server, journal, "the same, not Rice coded", Item(codings=("RAW",)), 4 * sizes.rounds)
         server.ask(fetch(nothing))
-        cost(server, [fetch(nothing)] * 8, sizes.rounds, anew=False).tell_rate("nothing held, the same bytes again")
+        cost(server, [fetch(nothing)] * 8, sizes.rounds).tell_rate("nothing held, asked again, another spelling each time")
+        cost(server, [fetch(nothing)] * 8, sizes.rounds, anew=False).tell_rate("nothing held, asked again in the same bytes")
 
 
 def tell_partial(journal, sizes):
     """Who holds an older version."""
     newest, last = journal.version, HELD_VERSIONS
     by_turns = [fetch(Item(newest - behind)) for behind in range(1, last + 1)]
+    tell_made(journal, "one change behind", Item(newest - 1), 2 * sizes.rounds)
+    tell_made(journal, f"{last} changes behind", Item(newest - last), sizes.rounds)
+    tell_made(journal, "from the middle", Item(sizes.growing // 2), sizes.rounds)
+    tell_made(journal, "from version 1", Item(1), sizes.rounds)
     with Server(journal) as server:
-        tell_item(server, journal, "one change behind", Item(newest - 1), 2 * sizes.rounds)
-        tell_item(server, journal, f"{last} changes behind", Item(newest - last), sizes.rounds)
-        tell_item(server, journal, "from the middle", Item(sizes.growing // 2), sizes.rounds)
-        tell_item(server, journal, "from version 1", Item(1), sizes.rounds)
-        cost(server, by_turns, 2, anew=False).tell_rate(f"one to {last} changes behind, by turns in the same bytes")
+        for body in by_turns:
+            server.ask(body)
+        cost(server, by_turns, 2, anew=False).tell_rate(f"one to {last} changes behind, asked again by turns")
 
 
 def tell_spellings(journal, sizes):
@@ -372,9 +379,11 @@ def tell_spellings(journal, sizes):
     one, other = Item(), Item(name=OTHER_LIST)
     orders = [fetch(one, other), fetch(other, one)]
     with Server(journal) as server:
-        cost(server, spelled, 2, anew=False).tell_rate(f"nothing held, {SPELLINGS} spellings by turns")
-        cost(server, orders, sizes.rounds).tell_rate("two lists in both orders, another spelling each time")
-        cost(server, orders * 4, sizes.rounds, anew=False).tell_rate("two lists in both orders, in the same bytes")
+        for body in [fetch(one), *orders]:
+            server.ask(body)
+        cost(server, spelled, 2, anew=False).tell_rate(f"nothing held, asked again in {SPELLINGS} spellings by turns")
+        cost(server, orders, sizes.rounds).tell_rate("two lists in both orders, asked again in another spelling")
+        cost(server, orders * 4, sizes.rounds, anew=False).tell_rate("two lists in both orders, asked again in the same bytes")
 
 
 def limited_items(journal, sizes):
@@ -392,10 +401,9 @@ def limited_items(journal, sizes):
 
 
 def tell_limits(journal, sizes):
-    """Who sets limits, each row at a server of its own, so that none has what another left of memory."""
+    """Who sets limits."""
     for what, item in limited_items(journal, sizes):
-        with Server(journal) as server:
-            tell_item(server, journal, what, item, sizes.rounds)
+        tell_made(journal, what, item, sizes.rounds)
 
 
 def tell_turn(server, journal, changes, kind, rounds):
