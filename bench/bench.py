@@ -309,7 +309,7 @@ def free_port():
 
 
 def bench_judged(folder, runs):
-    """URLs that are judged on a generated load. Of those with hits each asks for a find of its own, which the server answers; the first
+    """URLs that are judged on a generated load. Each of those with hits asks for a find of its own, which the server answers; the first
     one waits for up to 60 seconds, at random, in which no time of a processor is taken."""
     count = in_child(write_judged, folder)
     print(f"sbcheck judge, by the {count:,} prefixes of a generated load")

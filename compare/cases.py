@@ -3,8 +3,8 @@
 
 A run of a case is left out where it holds sessions of updates or connections (`sbupdate run`, `sblistd serve`), where an object fails at
 a call with a number, for another program makes other calls, where the host of a URL has bytes from 128 on, or where it depends on the
-threads of a run that judges what it prints. What a run that is left out keeps is what its case says. Of runs that judge also what their
-sessions send, their moments and what the keeper is handed are compared. The last case is wrong on purpose, so exactly that one has to
+threads of a run that judges what it prints. What a run that is left out keeps is what its case says. If a run judges, what its
+sessions send, their moments and what the keeper is handed are compared too. The last case is wrong on purpose, so exactly that one has to
 differ: else the exit status is 1.
 """
 

@@ -4,7 +4,7 @@
 Twenty runs of `sbcheck judge --update 2 --workers 16` stand side by side, each with a store of its own, or none. As soon as the threads
 of one have begun it is stopped (SIGSTOP), for more than the minute that a client waits at most, and then goes on: so its rounds come
 while URLs are checked. Every other one asks a server that bids to wait for a second between rounds. With each change of the journal two
-hosts come, and the second of them goes with a later change; how many there are tells the versions apart. Of each line the verdict has to
+hosts come, and the second of them goes with a later change; how many there are tells the versions apart. The verdict of each line has to
 be right for the publication that its number names: publication 0 is what the store had, and publication K what the K-th round that was
 saved tells. Along the lines of a thread the numbers may not fall, and the store that a run leaves has to be the set that it was told last.
 

@@ -120,7 +120,7 @@ def with_blanks(size, text, end):
 def at_both_limits(size, front, end, nested, plain):
     """Objects of members with distinct rising keys, some of whose values are objects of one member: a tree at both limits.
 
-    A member with an object has four values, and another two. An object around them opens one more, and has one value more. Of a
+    A member with an object has four values, and another two. An object around them opens one more, and has one value more. In a
     short text the bytes end before the values do.
     """
     openings, values = (most - count for most, count in zip(limits(size), counts(front + end)))
