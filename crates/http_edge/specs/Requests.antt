@@ -1,6 +1,6 @@
 -- What the bytes of a request come to, whether its source has ended or not. A definition over all bytes received: how they
 -- were cut does not count.
-use Rattle.std.specs.Prelude.{◌≡◌, ℕ, ◌<◌, ◌≤◌, ◌⊎◌, List, [], ◌∷◌, ◌++◌, length, take, codes, Bool, if◌then◌else◌, Option, Some, None, Result, Ok, Err, IsErrOf, IsTrue, MatchBool, ⊤}
+use Rattle.std.specs.Prelude.{◌≡◌, ℕ, ◌<◌, ◌≤◌, ◌⊎◌, List, [], ◌∷◌, ◌++◌, length, take, codes, ◌||◌, Bool, if◌then◌else◌, Option, Some, None, Result, Ok, Err, IsErrOf, IsTrue, MatchBool, ⊤}
 use Rattle.std.specs.Str.{bytes_eq}
 use Rattle.sb_outside.specs.Outside.{GivesFront}
 use Rattle.sb_outside.specs.Reading.{ReadsToEnd}
@@ -17,10 +17,14 @@ use Rattle.http_edge.specs.declared.messages.HttpRequest.{HttpRequest}
 abbrev pub Gives : List ℕ → Bool → Option (List (List ℕ)) → Option (List (List ℕ)) → Type 0
 Gives bytes ended before after = MatchBool ended (ReadsToEnd bytes before after) (GivesFront bytes before after)
 
--- how many bytes the body has by the length that is said: none where a GET says none
+-- whether a method goes without a body where no length is said (RFC 9110, sections 9.3.1, 9.3.2 and 9.3.7)
+abbrev pub goes_without_body : List ℕ → Bool
+goes_without_body method = bytes_eq method (codes "GET") || bytes_eq method (codes "HEAD") || bytes_eq method (codes "OPTIONS")
+
+-- how many bytes the body has by the length that is said: none if a GET, a HEAD or an OPTIONS says none
 abbrev pub length_by : List ℕ → BodyLength → Option ℕ
 length_by method (Said n) = Some n
-length_by method Unsaid = if bytes_eq method (codes "GET") then Some 0 else None
+length_by method Unsaid = if goes_without_body method then Some 0 else None
 length_by method Malformed = None
 
 -- a body with a transfer encoding has no length

@@ -4,7 +4,7 @@ ghost use Rattle.sb_outside.specs.Outside.{Rose, GivesFront};
 ghost use Rattle.httparse.specs.Grammar.{RequestHead};
 ghost use Rattle.httparse.specs.Spans.{IsHeaderWithin};
 ghost use Rattle.http_edge.specs.Fields.{values_at, length_in};
-ghost use Rattle.http_edge.specs.Requests.{Gives, NeedsMore, IsRefusal, RequestOutcome, ReadsToRequest, length_by, length_unless};
+ghost use Rattle.http_edge.specs.Requests.{Gives, NeedsMore, IsRefusal, RequestOutcome, ReadsToRequest, goes_without_body, length_by, length_unless};
 ghost use Rattle.http_edge.specs.SessionBytes.{ReadsWhile};
 ghost use Rattle.http_edge.specs.Receiving.{IsFound, IsPlaced, IsPartsOf, IsRequestStep};
 
@@ -41,12 +41,20 @@ pub(crate) enum RequestStep {
     Open,
 }
 
+/// Whether a method goes without a body where no length is said.
+fn goes_without_body(method: &[u8]) -> bool
+    ensures { result ≡ goes_without_body method.now }
+{
+    method == b"GET".as_slice() || method == b"HEAD".as_slice() || method == b"OPTIONS".as_slice()
+}
+
+/// How many bytes the body has, by the length that is said.
 fn length_by(method: &[u8], said: BodyLength) -> Option<u64>
     ensures { result ≡ length_by method.now said }
 {
     match said {
         BodyLength::Said(length) => Some(length),
-        BodyLength::Unsaid if method == b"GET".as_slice() => Some(0),
+        BodyLength::Unsaid if goes_without_body(method) => Some(0),
         _ => None,
     }
 }

@@ -15,4 +15,5 @@ pub mod Printed
 pub mod Renewing
 pub mod Shifting
 pub mod Split
+pub mod Stretches
 pub mod Written

@@ -1,4 +1,5 @@
-ghost use Rattle.std.specs.Prelude.{◌≡◌, ◌≢◌, ◌⊎◌, ℕ, ◌+◌, ◌^◌, ◌≤◌, ◌<◌, Bool, true, false, List, [], ◌++◌, length, take, map, filter, find, option_copied, All, Option, Some, None, Result, Ok, Err, IsErrOf, IsTrue, IfOk, OnOk, OnErr, IfErr, IfSome, IfNone};
+ghost use Rattle.std.specs.Prelude.{◌≡◌, ◌==◌, ◌≢◌, ◌⊎◌, ℕ, ◌+◌, ◌^◌, ◌≤◌, ◌<◌, Bool, true, false, List, [], ◌++◌, length, take, map, filter, find, option_copied, All, Option, Some, None, Result, Ok, Err, IsErrOf, IsTrue, IfOk, OnOk, OnErr, IfErr, IfSome, IfNone};
+ghost use Rattle.std.specs.List.{list_all};
 ghost use Rattle.std.specs.Str.{bytes_eq};
 ghost use Rattle.sha2.specs.Sha256.{sha256};
 ghost use Rattle.sb_outside.specs.Outside.{Rose};
@@ -11,6 +12,9 @@ ghost use Rattle.list_versions.specs.HashSizes.{IsMapOf};
 ghost use Rattle.list_versions.specs.Live.{IsPublishable};
 ghost use Rattle.list_versions.specs.Limits.{WithinLimits, most_changes};
 ghost use Rattle.list_versions.specs.Draft.{history_of, kept_of_draft, before_record, IsDraft};
+ghost use Rattle.sb_model.specs.Difference.{removed_places, added_members};
+ghost use Rattle.list_versions.specs.Ends.{adds_of};
+ghost use Rattle.list_versions.specs.Stretches.{AreStretches};
 ghost use Rattle.list_versions.specs.Loaded.{Gives, JournalOutcome, FurtherFault, IsNewest};
 ghost use Rattle.list_versions.specs.Pieces.{ReadsAll, StopsAt};
 
@@ -29,8 +33,9 @@ use crate::refreshing::refresh;
 use crate::renewing::{Before, take_kept};
 use crate::shifting::{is_near, older_set};
 use crate::standing::entries_at;
+use crate::stretch::Stretch;
 use hash_prefixes::{FullHash, Prefix};
-use prefix_set::PrefixSet;
+use prefix_set::{Delta, PrefixSet};
 use sb_model::{Bytes, Change, ListName, OutOfMemory, Row, Steps, names_go_by_their_codes};
 use sb_outside::{ReadFault, Source, read_piece};
 use std::alloc::Global;
@@ -373,6 +378,44 @@ impl History {
     {
         let later = fold_on(folding, &self.draft, list, from as usize, to as usize)?;
         Ok(later)
+    }
+
+    /// What leads from the prefixes of a declared list at a version to its newest ones, as
+    /// `PrefixSet::difference` of the two sets. If few lines lie between, neither set is made.
+    pub fn difference(
+        &self,
+        alloc: Global,
+        list: ListName,
+        version: u64,
+    ) -> Result<Delta, OutOfMemory>
+        requires declared { declares self.now.versions list ≡ true }
+        requires within { version ≤ version_count self.now.versions }
+        ensures removals { IfOk result (λ delta. delta.removals
+            ≡ removed_places (prefixes_at self.now.versions list version) (prefixes_at self.now.versions list (version_count self.now.versions))) }
+        ensures additions { IfOk result (λ delta. delta.additions
+            ≡ added_members (prefixes_at self.now.versions list version) (prefixes_at self.now.versions list (version_count self.now.versions))) }
+    {
+        let Some(newest) = self.newest(list) else {
+            unreachable!()
+        };
+        let Some(older) = self.prefixes(alloc, list, version)? else {
+            unreachable!()
+        };
+        older.difference(alloc, &newest.set)
+    }
+
+    /// At which versions a list publishes its prefixes, by prefix: one stretch for each line that adds. `None`
+    /// if some line of the list publishes other than four bytes.
+    pub fn stretches(
+        &self,
+        alloc: Global,
+        list: ListName,
+    ) -> Result<Option<Vec<Stretch>>, OutOfMemory>
+        ensures some { IfOk result (λ found. IfSome found (λ stretches. AreStretches self.now.versions list stretches.items)) }
+        ensures none { IfOk result (λ found. IfNone found
+            (list_all (λ added. added.size == 4) (adds_of list self.now.versions.changes) ≡ false)) }
+    {
+        Err(OutOfMemory)
     }
 
     /// The full hashes of a declared list at a version that begin with a prefix, rising.

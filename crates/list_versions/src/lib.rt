@@ -11,6 +11,7 @@ pub use lines::{read_add, read_head, read_header, read_remove};
 pub use newest::Newest;
 pub use printing::push_journal_cause;
 pub use split::{LongLine, next_line};
+pub use stretch::Stretch;
 pub use writing::{push_change, push_header, push_list};
 
 mod bucket;
@@ -41,4 +42,5 @@ mod renewing;
 mod shifting;
 mod split;
 mod standing;
+mod stretch;
 mod writing;
