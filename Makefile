@@ -83,6 +83,7 @@ try-run: all
 # twenty to thirty minutes, and tries the peers of slowhttptest too where that is installed.
 try-slow: all
 	python3 try/slow.py
+	python3 try/attack.py
 
 # Measures the memory that sbupdate and sblistd take for hostile JSON, and fails where it is more than the limits allow.
 try-memory: all

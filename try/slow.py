@@ -7,7 +7,7 @@ heads that are broken off by a reset. Then ten such readers take an answer of 1,
 good client. Where `slowhttptest` is installed, its slow heads, bodies and readers are tried too. It prints a table: the
 median and the longest wait of the good clients, and how many were not answered within a second. It fails where one was not,
 and where the server does not tell a reset in a head as a read fault. It raises its own limit of descriptors, and so the
-server's, which it starts.
+server's, which it starts: with the usual limit `attack.py` tries it.
 
     slow.py [--seconds N] [--peers N,N,..] [--program COMMAND]
 """
@@ -63,11 +63,11 @@ def write_journal(path, count):
 
 
 class Server:
-    """A server of a journal, which is ended with the block."""
+    """A server of a journal, which is ended with the block. `before` is called in its process before it begins."""
 
-    def __init__(self, program, journal, *more, stdout=subprocess.DEVNULL):
+    def __init__(self, program, journal, *more, stdout=subprocess.DEVNULL, before=None):
         words = shlex.split(program) + ["serve", "--journal", journal, "--listen", "127.0.0.1:0", *more]
-        self.ran = subprocess.Popen(words, stdout=stdout, stderr=subprocess.PIPE, text=True)
+        self.ran = subprocess.Popen(words, stdout=stdout, stderr=subprocess.PIPE, text=True, preexec_fn=before)
         line = self.ran.stderr.readline()
         found = re.search(r":(\d+)$", line.strip())
         if not found:

@@ -1,5 +1,5 @@
-//! A system on which one path leads to a file of the system's own, which takes a write and cannot be flushed. So it is
-//! seen what a keeper has flushed.
+//! A system on which one path leads to a file of the system's own: one that takes a write and cannot be flushed, or one
+//! that takes none, as on a full disk. So it is seen what a keeper has flushed, and what it leaves.
 use crate::keepers::FORM;
 use crate::outcome::Outcome;
 use crate::words::cut;
@@ -12,10 +12,14 @@ use std::io::{self, ErrorKind};
 /// The name of this thread, as the system has it. A write changes no other thing, and nobody can change its mode.
 const NEVER_FLUSHED: &str = "/proc/self/comm";
 
+/// A file that takes no write: its disk is full.
+const FULL: &str = "/dev/full";
+
 #[derive(Drop)]
 struct Diverted<'a> {
     rt: &'a HostRuntime,
     from: &'a str,
+    to: &'a str,
 }
 
 fn no_call<T>() -> io::Result<T> {
@@ -31,9 +35,13 @@ impl Files for Diverted<'_> {
         if path != self.from {
             return self.rt.open_file(how, path);
         }
+        if self.to == FULL {
+            // the file that is made stays where it is asked for
+            let _ = self.rt.open_file(how, path)?;
+        }
         let mut options = OpenOptions::new();
         options.read(how.asks_read()).write(how.asks_write());
-        self.rt.open_file(&options, NEVER_FLUSHED)
+        self.rt.open_file(&options, self.to)
     }
 
     fn open_dir(&self, _path: &str) -> io::Result<Self::Dir> {
@@ -74,10 +82,19 @@ impl Files for Diverted<'_> {
 }
 
 /// Keeps a text at a path, where another path cannot be flushed.
-pub(crate) fn step<'a>(rt: &'a HostRuntime, line: &'a str) -> Outcome {
+pub(crate) fn unflushed<'a>(rt: &'a HostRuntime, line: &'a str) -> Outcome {
+    keep(rt, NEVER_FLUSHED, line)
+}
+
+/// Keeps a text at a path, where the disk of another path is full.
+pub(crate) fn full<'a>(rt: &'a HostRuntime, line: &'a str) -> Outcome {
+    keep(rt, FULL, line)
+}
+
+fn keep<'a>(rt: &'a HostRuntime, to: &'a str, line: &'a str) -> Outcome {
     let (from, rest) = cut(line);
     let (path, text) = cut(rest);
-    let system = Diverted { rt, from };
+    let system = Diverted { rt, from, to };
     let Ok(mut keeper) = FileKeeper::new(system, rt.alloc(), path, FORM, true) else {
         return Outcome::OutOfMemory;
     };

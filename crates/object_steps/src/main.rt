@@ -38,7 +38,8 @@ fn take<'a>(
     match thing.as_bytes() {
         b"first" => keepers::step(rt, &mut things.first, rest),
         b"second" => keepers::step(rt, &mut things.second, rest),
-        b"unflushed" => diverted::step(rt, rest),
+        b"unflushed" => diverted::unflushed(rt, rest),
+        b"full" => diverted::full(rt, rest),
         b"journal" => journals::step(rt, &mut things.journal, rest),
         b"source" => streams::source_step(rt, &mut things.source, rest),
         b"sink" => streams::sink_step(rt, &mut things.sink, rest),

@@ -272,19 +272,37 @@ fn mode_at<R: Files<File = File>>(rt: &R, kept: &KeptFile) -> Result<Option<Perm
     }
 }
 
-/// Replaces the file, where it is one of the form, by another with this text.
-fn replace_kept<R: Files<File = File>>(rt: &R, kept: &KeptFile, text: &[u8]) -> Result<(), Why> {
-    if kept.lock.is_none() {
-        return Err(Why::refusal("is not locked, so it is not replaced"));
-    }
-    let mode = mode_at(rt, kept)?;
-    let file = make_beside(rt, kept.beside.as_str())?;
-    if let Err(e) = write_beside(file, mode, text) {
+/// Writes the text into the second file, and puts it in the place of the first.
+fn put_text<R: Files<File = File>>(
+    rt: &R,
+    kept: &KeptFile,
+    beside: File,
+    mode: Option<Permissions>,
+    text: &[u8],
+) -> Result<(), Why> {
+    if let Err(e) = write_beside(beside, mode, text) {
         return Err(Why::system("cannot be written", e));
     }
     match put_over(rt, kept.beside.as_str(), kept.path.as_str()) {
         Ok(()) => Ok(()),
         Err(e) => Err(Why::system("cannot be replaced", e)),
+    }
+}
+
+/// Replaces the file, if it is one of the form, by another with this text. If that fails, the second file is removed: its
+/// bytes are not to stay on a disk that may be full.
+fn replace_kept<R: Files<File = File>>(rt: &R, kept: &KeptFile, text: &[u8]) -> Result<(), Why> {
+    if kept.lock.is_none() {
+        return Err(Why::refusal("is not locked, so it is not replaced"));
+    }
+    let mode = mode_at(rt, kept)?;
+    let beside = make_beside(rt, kept.beside.as_str())?;
+    match put_text(rt, kept, beside, mode, text) {
+        Ok(()) => Ok(()),
+        Err(why) => {
+            let _ = fs::remove_file(rt, kept.beside.as_str());
+            Err(why)
+        }
     }
 }
 
