@@ -1,11 +1,12 @@
 -- A response on its way, and that a whole request has the answer that is right for it.
-use Rattle.std.proofs.Common.{◌≡◌, ℕ, Bool, List, [], ◌++◌, length, codes, decimal, Option, Some, None, Result, Ok, Err, IfSome, refl, sym, ap, ◌∙◌, subst}
+use Rattle.std.proofs.Common.{◌≡◌, ◌≢◌, ℕ, Bool, List, [], ◌++◌, length, codes, decimal, Option, Some, None, Result, Ok, Err, IfSome, refl, sym, ap, ◌∙◌, subst}
 use Rattle.std.proofs.lemmas.List.{append-nil}
 use Rattle.sha2.specs.Sha256.{sha256}
 use Rattle.sb_outside.specs.Outside.{next_piece, appended}
 use Rattle.http_edge.specs.Requests.{Gives, ReadsAs, ReadsToRequest, RequestOutcome}
 use Rattle.http_edge.specs.Responses.{allow_line, digest_text, line, response_text, status_text}
 use Rattle.http_edge.specs.declared.faults.RequestFault.{RequestFault}
+use Rattle.http_edge.specs.declared.faults.RequestFault.TheVariants as fault
 use Rattle.http_edge.specs.declared.messages.Allow.{Allow}
 use Rattle.http_edge.specs.declared.messages.HttpRequest.{HttpRequest}
 use Rattle.http_edge.specs.declared.messages.Status.{Status}
@@ -16,7 +17,8 @@ use Rattle.http_serving.specs.Written.{IsRightAnswer, IsTextOfRight}
 use Rattle.http_serving.specs.declared.ends.ConnectionEnd.{ConnectionEnd}
 use Rattle.http_serving.specs.declared.ends.ConnectionEnd.TheVariants as end
 use Rattle.http_serving.specs.declared.responses.Answer.{Answer}
-use Rattle.http_serving.specs.declared.responses.Answer.TheVariants.{Made, Written}
+use Rattle.http_serving.specs.declared.responses.Answer.TheVariants.{Made, Written, Shared}
+use Rattle.http_serving.proofs.Unavailable.{nothing_of}
 use Rattle.http_serving.proofs.Requests.{IsFrontOf, front_of_gives, no_status, same_request}
 
 -- ---- a response on its way
@@ -37,12 +39,25 @@ written_of_sent Right received status allow body end.WriteFault before after ans
   written = sent;
 }
 written_of_sent Right received status allow body end.ReadFault before after answer sent = absurd sent
-written_of_sent Right received status allow body end.OutOfMemory before after answer sent = sent
+written_of_sent Right received status allow body end.OutOfMemory before after answer sent = nothing_of before after sent
 
 -- the text of a right answer is that of a right response
 text_right : (Right : Status → Allow → List ℕ → Type 0) (answer : Answer) → IsRightAnswer Right answer → IsTextOfRight Right (answer_status answer) (answer_text answer)
 text_right Right (Made response) right = record { allow = response.allow; body = response.body; right = right; whole = refl }
 text_right Right (Written written) right = right
+text_right Right (Shared shared) right = right
+
+-- a fault of reading has no answer
+none_of_fault : (Right : HttpRequest → Status → Allow → List ℕ → Type 0) (received : Result HttpRequest RequestFault) (status : Status) (allow : Allow) (body : List ℕ)
+    → IsAnswerAfter Right received status allow body → received ≢ Err fault.ReadFault
+none_of_fault Right received status allow body right is =
+    let none = subst (λ (r : Result HttpRequest RequestFault). IsAnswerAfter Right r status allow body) is right in
+    let e : None ≡ Some status = none.0 in absurd (cc)
+
+pub no_fault : (Right : HttpRequest → Status → Allow → List ℕ → Type 0) (received : Result HttpRequest RequestFault) (answer : Answer)
+    → IsRightAnswer (IsAnswerAfter Right received) answer → received ≢ Err fault.ReadFault
+no_fault Right received answer right =
+    let text = text_right (IsAnswerAfter Right received) answer right in none_of_fault Right received (answer_status answer) text.allow text.body text.right
 
 pub served : (Right : HttpRequest → Status → Allow → List ℕ → Type 0) (received : Result HttpRequest RequestFault) (answer : Answer) (how : ConnectionEnd)
     → (left later last : Option (List (List ℕ))) (before between after : Option (List ℕ))
@@ -71,7 +86,7 @@ stopped Right received end.WriteFault left later before after given same stop = 
 stopped Right received end.ReadFault left later before after (bytes, ended, gives, read, prompt) same stop =
     record { bytes = bytes; ended = ended; received = received; gives = gives; outcome = read; prompt = prompt; written = (stop, same) }
 stopped Right received end.OutOfMemory left later before after (bytes, ended, gives, read, prompt) same stop =
-    record { bytes = bytes; ended = ended; received = received; gives = gives; outcome = read; prompt = prompt; written = same }
+    record { bytes = bytes; ended = ended; received = received; gives = gives; outcome = read; prompt = prompt; written = nothing_of before after same }
 
 -- ---- a whole request has one answer
 

@@ -1,9 +1,9 @@
 -- What the door's log says of a connection that was served, and of one that went back as it came.
-use Rattle.std.proofs.Common.{◌≡◌, ◌≢◌, ℕ, ◌<◌, Bool, true, false, List, [], ◌∷◌, ◌++◌, length, refl, sym, ap, ◌∙◌, subst, Option, Some, None, Result, append_assoc, arith}
+use Rattle.std.proofs.Common.{◌≡◌, ◌≢◌, ℕ, ◌<◌, Bool, true, false, List, [], ◌∷◌, ◌++◌, length, refl, sym, ap, ◌∙◌, subst, Option, Some, None, Result, append_assoc, arith, inl, inr}
 use Rattle.std.specs.Prelude.{◌↔◌, IfSome, IsTrue, slice_set, option_map}
 use Rattle.std.specs.List.{concat}
 use Rattle.std.proofs.lemmas.List.{append_cancel_right, length-drop}
-use Rattle.sb_outside.specs.Outside.{IfTold, Rose, next_piece, later_pieces, left_after_end}
+use Rattle.sb_outside.specs.Outside.{IfTold, Rose, appended, next_piece, later_pieces, left_after_end}
 use Rattle.sb_outside.specs.Connections.{HasEnded, IsEntryOf, Returns}
 use Rattle.sb_outside.specs.declared.doors.Connection.{Connection}
 use Rattle.http_edge.specs.Requests.{Gives}
@@ -12,7 +12,7 @@ use Rattle.http_edge.specs.declared.messages.Allow.{Allow}
 use Rattle.http_edge.specs.declared.messages.HttpRequest.{HttpRequest}
 use Rattle.http_edge.specs.declared.messages.Status.{Status}
 use Rattle.http_serving.specs.Returning.{IsFresh, IsReturned}
-use Rattle.http_serving.specs.Serving.{HasWritten, IsComplete, IsServed, IsUntouched, Serves}
+use Rattle.http_serving.specs.Serving.{unavailable_text, HasWritten, IsComplete, IsServed, IsUntouched, IsWholeOrFault, Serves}
 use Rattle.http_serving.specs.declared.ends.ConnectionEnd.{ConnectionEnd}
 use Rattle.http_serving.specs.declared.ends.ConnectionEnd.TheVariants as end
 
@@ -70,7 +70,7 @@ before_told : (Right : HttpRequest → Status → Allow → List ℕ → Type 0)
 before_told Right received (end.Answered status) before text written none = let e = written.written in absurd (cc)
 before_told Right received end.WriteFault before text written none = let e = written.written.has in absurd (cc)
 before_told Right received end.ReadFault before text written none = let e = written.1 in absurd (cc)
-before_told Right received end.OutOfMemory before text written none = absurd (cc)
+before_told Right received end.OutOfMemory before text written none = let e = written.written in absurd (cc)
 
 told_contents : (before : Option (List ℕ)) (text : List ℕ) → before ≢ None → IfTold before (Some text) → before ≡ Some text
 told_contents None text some told = absurd (some refl)
@@ -84,11 +84,20 @@ counted_read end.ReadFault faults faults' none rose kept = (λ some. refl, λ e.
 counted_read end.WriteFault faults faults' none rose kept = (λ some. absurd (let k : faults' ≡ faults = kept (λ e. cc) in omega (arith, none, k, some)), λ e. absurd (cc))
 counted_read end.OutOfMemory faults faults' none rose kept = (λ some. absurd (let k : faults' ≡ faults = kept (λ e. cc) in omega (arith, none, k, some)), λ e. absurd (cc))
 
-counted_write : (how : ConnectionEnd) (faults faults' : ℕ) → faults ≡ 0 → (how ≡ end.WriteFault → Rose faults faults') → (how ≢ end.WriteFault → faults' ≡ faults) → (0 < faults') ↔ (how ≡ end.WriteFault)
-counted_write (end.Answered status) faults faults' none rose kept = (λ some. absurd (let k : faults' ≡ faults = kept (λ e. cc) in omega (arith, none, k, some)), λ e. absurd (cc))
-counted_write end.ReadFault faults faults' none rose kept = (λ some. absurd (let k : faults' ≡ faults = kept (λ e. cc) in omega (arith, none, k, some)), λ e. absurd (cc))
-counted_write end.WriteFault faults faults' none rose kept = (λ some. refl, λ e. let r : Rose faults faults' = rose refl in omega (arith, none, r))
-counted_write end.OutOfMemory faults faults' none rose kept = (λ some. absurd (let k : faults' ≡ faults = kept (λ e. cc) in omega (arith, none, k, some)), λ e. absurd (cc))
+counted_write : (how : ConnectionEnd) (faults faults' : ℕ) → faults ≡ 0 → (how ≡ end.WriteFault → Rose faults faults') → (how ≢ end.WriteFault → how ≢ end.OutOfMemory → faults' ≡ faults)
+    → how ≢ end.OutOfMemory → (0 < faults') ↔ (how ≡ end.WriteFault)
+counted_write (end.Answered status) faults faults' none rose kept other = (λ some. absurd (let k : faults' ≡ faults = kept (λ e. cc) other in omega (arith, none, k, some)), λ e. absurd (cc))
+counted_write end.ReadFault faults faults' none rose kept other = (λ some. absurd (let k : faults' ≡ faults = kept (λ e. cc) other in omega (arith, none, k, some)), λ e. absurd (cc))
+counted_write end.WriteFault faults faults' none rose kept other = (λ some. refl, λ e. let r : Rose faults faults' = rose refl in omega (arith, none, r))
+counted_write end.OutOfMemory faults faults' none rose kept other = absurd (other refl)
+
+-- where no fault was counted, the whole text was written
+whole_text : (text written : List ℕ) (contents contents' : Option (List ℕ)) (faults faults' : ℕ) → faults ≡ 0 → contents ≡ Some [] → contents' ≡ Some written
+    → IsWholeOrFault text contents contents' faults faults' → ¬ (0 < faults') → written ≡ text
+whole_text text written contents contents' faults faults' none held is (inl (whole, same)) no_fault =
+    some_of written text (sym is ∙ whole ∙ ap (λ (before : Option (List ℕ)). appended before text) held)
+whole_text text written contents contents' faults faults' none held is (inr rose) no_fault =
+    absurd (no_fault (let r : Rose faults faults' = rose in omega (arith, none, r)))
 
 -- ---- an entry
 
@@ -97,9 +106,10 @@ pub entry_served : (Right : HttpRequest → Status → Allow → List ℕ → Ty
     → IsFresh pieces start left contents reads writes → (serves : Serves Right how left left' contents contents')
     → IfSome left (λ given. IsComplete Right given how contents contents') → start' ≡ start
     → (how ≡ end.ReadFault → Rose reads reads') → (how ≢ end.ReadFault → reads' ≡ reads)
-    → (how ≡ end.WriteFault → Rose writes writes') → (how ≢ end.WriteFault → writes' ≡ writes)
+    → (how ≡ end.WriteFault → Rose writes writes') → (how ≢ end.WriteFault → how ≢ end.OutOfMemory → writes' ≡ writes)
+    → (how ≡ end.OutOfMemory → IsWholeOrFault unavailable_text contents contents' writes writes')
     → IsEntryOf entry start' left' contents' reads' writes' → IsServed Right how pieces entry
-entry_served Right how entry pieces start start' left left' contents contents' reads reads' writes writes' fresh serves complete same read_failed read_kept write_failed write_kept is =
+entry_served Right how entry pieces start start' left left' contents contents' reads reads' writes writes' fresh serves complete same read_failed read_kept write_failed write_kept unavailable is =
     let pieces_are : is.pieces ≡ pieces = told_is start _ _ (sym same ∙ is.started) fresh.started in
     let was_left : left ≡ Some pieces = told_left left _ (left_before _ _ _ _ _ serves.gives is.remains) fresh.remains in
     let gives : Gives serves.bytes serves.ended (Some pieces) (Some is.rest) =
@@ -129,7 +139,9 @@ entry_served Right how entry pieces start start' left left' contents contents' r
       complete = subst (λ (l : Option (List ℕ)). IsComplete Right pieces how l (Some entry.written)) held
           (subst (λ (l : Option (List ℕ)). IsComplete Right pieces how contents l) is.written answered);
       read_fault = (λ t. reads_are.0 (is.read_fault.0 t), λ e. is.read_fault.1 (reads_are.1 e));
-      write_fault = (λ t. writes_are.0 (is.write_fault.0 t), λ e. is.write_fault.1 (writes_are.1 e));
+      write_fault = λ other. (λ t. (writes_are other).0 (is.write_fault.0 t), λ e. is.write_fault.1 ((writes_are other).1 e));
+      unavailable = λ refused no_fault. whole_text unavailable_text entry.written contents contents' writes writes' fresh.no_writes held is.written
+          (unavailable refused) (λ some. no_fault (is.write_fault.1 some));
     }
 
 no_end : (pieces rest : List (List ℕ)) → rest ≡ pieces → HasEnded pieces rest → ⊥

@@ -1,4 +1,5 @@
 mod Fronts
+mod Unavailable
 mod RoutedAnswers
 mod Requests
 mod Answering

@@ -1,3 +1,4 @@
+pub mod Targets
 pub mod Routes
 pub mod Written
 pub mod Serving

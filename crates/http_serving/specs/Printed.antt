@@ -1,15 +1,15 @@
 -- What is printed of a connection.
-use Rattle.std.specs.Prelude.{ℕ, List, [], ◌++◌, codes, decimal}
+use Rattle.std.specs.Prelude.{ℕ, List, ◌++◌, codes, decimal}
 use Rattle.http_edge.specs.Responses.{status_code}
 use Rattle.http_serving.specs.declared.ends.ConnectionEnd.{ConnectionEnd}
 use Rattle.http_serving.specs.declared.ends.ConnectionEnd.TheVariants as end
 
--- how a connection ended; want of memory is never told
+-- how a connection ended
 abbrev pub end_text : ConnectionEnd → List ℕ
 end_text (end.Answered status) = codes "answered " ++ decimal (status_code status)
 end_text end.ReadFault = codes "read-fault"
 end_text end.WriteFault = codes "write-fault"
-end_text end.OutOfMemory = []
+end_text end.OutOfMemory = codes "out-of-memory"
 
 -- the line of a connection, by its number
 abbrev pub connection_line : ℕ → ConnectionEnd → List ℕ

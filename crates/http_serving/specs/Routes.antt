@@ -1,12 +1,12 @@
 -- A table of routes, and which of them a request asks for.
-use Rattle.std.specs.Prelude.{◌≡◌, ◌≢◌, ◌⊎◌, ◌==◌, ℕ, List, [], Option, Some, None, position, slice_get}
-use Rattle.std.specs.List.{before_first}
+use Rattle.std.specs.Prelude.{◌≡◌, ◌≢◌, ◌⊎◌, ℕ, List, [], Option, Some, None, position, slice_get}
 use Rattle.std.specs.Str.{bytes_eq}
 use Rattle.http_edge.specs.Responses.{method_text}
 use Rattle.http_edge.specs.declared.messages.Allow.{Allow}
 use Rattle.http_edge.specs.declared.messages.HttpRequest.{HttpRequest}
 use Rattle.http_edge.specs.declared.messages.Status.{Status}
 use Rattle.http_edge.specs.declared.messages.Status.TheVariants.{NotFound, MethodNotAllowed}
+use Rattle.http_serving.specs.Targets.{path_in}
 use Rattle.http_serving.specs.declared.routes.Routed.{Routed}
 use Rattle.http_serving.specs.declared.routes.Routed.TheVariants.{Asked, OtherMethod, NoPath}
 
@@ -14,10 +14,6 @@ use Rattle.http_serving.specs.declared.routes.Routed.TheVariants.{Asked, OtherMe
 pub record Route : Type 0 where
   pub path : List ℕ
   pub allow : Allow
-
--- the path of a target: what stands before its first `?`
-abbrev pub path_in : List ℕ → List ℕ
-path_in target = before_first (λ byte. byte == 63) target
 
 -- the place of the first route that has the path of a request
 abbrev pub place_for : List Route → HttpRequest → Option ℕ

@@ -1,8 +1,8 @@
--- What a connection is answered: one response to the request that it gives. What a right answer to a request is, is a
--- parameter: a relation `Right` of a request, a status, the method that a 405 allows, and a body. It may be any relation,
--- so also one of what a session of the server's own brought.
-use Rattle.std.specs.Prelude.{◌≡◌, ◌↔◌, ℕ, Bool, List, [], Option, Some, None, Result, Ok, Err, ⊤, IsTrue}
-use Rattle.sb_outside.specs.Outside.{appended, next_piece}
+-- What a connection is answered: one response to the request that it gives, or a 503 if memory is refused. What a right answer to
+-- a request is, is a parameter: a relation `Right` of a request, a status, the method that a 405 allows, and a body. It may be any
+-- relation, so also one of what a session of the server's own brought.
+use Rattle.std.specs.Prelude.{◌≡◌, ◌≢◌, ◌↔◌, ◌⊎◌, ℕ, Bool, List, [], take, Option, Some, None, Result, Ok, Err, ⊤, IsTrue}
+use Rattle.sb_outside.specs.Outside.{Rose, appended, next_piece}
 use Rattle.sb_outside.specs.Writing.{HasFront}
 use Rattle.sb_outside.specs.declared.doors.Connection.{Connection}
 use Rattle.http_edge.specs.Requests.{Gives, ReadsAs, ReadsToRequest, RequestOutcome}
@@ -10,9 +10,10 @@ use Rattle.http_edge.specs.Responses.{response_text}
 use Rattle.http_edge.specs.declared.faults.RequestFault.{RequestFault}
 use Rattle.http_edge.specs.declared.faults.RequestFault.TheVariants as fault
 use Rattle.http_edge.specs.declared.messages.Allow.{Allow}
+use Rattle.http_edge.specs.declared.messages.Allow.TheVariants.{Post}
 use Rattle.http_edge.specs.declared.messages.HttpRequest.{HttpRequest}
 use Rattle.http_edge.specs.declared.messages.Status.{Status}
-use Rattle.http_edge.specs.declared.messages.Status.TheVariants.{BadRequest, LengthRequired, ContentTooLarge, FieldsTooLarge}
+use Rattle.http_edge.specs.declared.messages.Status.TheVariants.{BadRequest, LengthRequired, ContentTooLarge, FieldsTooLarge, ServiceUnavailable}
 use Rattle.http_serving.specs.declared.ends.ConnectionEnd.{ConnectionEnd}
 use Rattle.http_serving.specs.declared.ends.ConnectionEnd.TheVariants as end
 
@@ -53,13 +54,27 @@ pub record IsPartlyAnswered (Right : HttpRequest → Status → Allow → List �
   pub answer : IsAnswerAfter Right received status allow body
   pub written : HasFront before after (response_text status allow body)
 
+-- the text of the response to a request for which memory was refused (RFC 9110, section 15.6.4): it has no body
+unfoldable pub unavailable_text : List ℕ
+unavailable_text = response_text ServiceUnavailable Post []
+
+-- A front of that response was written: the whole, a part, or nothing.
+pub record IsUnavailable (before after : Option (List ℕ)) : Type 0 where
+  pub count : ℕ
+  pub written : after ≡ appended before (take count unavailable_text)
+
+-- A text was written as a whole and no fault was counted, or a fault was counted.
+abbrev pub IsWholeOrFault : List ℕ → (before after : Option (List ℕ)) → (faults faults' : ℕ) → Type 0
+IsWholeOrFault text before after faults faults' =
+    ((after ≡ appended before text) × (faults' ≡ faults)) ⊎ Rose faults faults'
+
 -- what was written, by how the connection ended
 abbrev pub HasWritten : (HttpRequest → Status → Allow → List ℕ → Type 0) → Result HttpRequest RequestFault → ConnectionEnd
     → (before after : Option (List ℕ)) → Type 0
 HasWritten Right received (end.Answered status) before after = IsAnswered Right received status before after
 HasWritten Right received end.WriteFault before after = IsPartlyAnswered Right received before after
 HasWritten Right received end.ReadFault before after = (received ≡ Err fault.ReadFault) × (after ≡ before)
-HasWritten Right received end.OutOfMemory before after = after ≡ before
+HasWritten Right received end.OutOfMemory before after = IsUnavailable before after
 
 -- A connection was served: the bytes that it gave, with its end or without, what these come to, and what was written of the
 -- answer. No more was read than decides what they come to.
@@ -98,7 +113,7 @@ IsComplete Right pieces how before after =
 
 -- A connection that had these pieces to give was served, by its entry in the door's log: what was written to it is right for
 -- the bytes that it gave, and the entry says where its end was read. A whole request that it had to give was answered, where no
--- fault was counted and memory was not refused.
+-- fault was counted and memory was not refused. If memory was refused and no write failed, the whole 503 was written.
 pub record IsServed (Right : HttpRequest → Status → Allow → List ℕ → Type 0) (how : ConnectionEnd) (pieces : List (List ℕ)) (entry : Connection) : Type 0 where
   pub rest : List (List ℕ)
   pub serves : Serves Right how (Some pieces) (Some rest) (Some []) (Some entry.written)
@@ -106,7 +121,8 @@ pub record IsServed (Right : HttpRequest → Status → Allow → List ℕ → T
   pub over : IsTrue serves.ended → IsTrue entry.ended
   pub complete : IsComplete Right pieces how (Some []) (Some entry.written)
   pub read_fault : IsTrue entry.read_fault ↔ (how ≡ end.ReadFault)
-  pub write_fault : IsTrue entry.write_fault ↔ (how ≡ end.WriteFault)
+  pub write_fault : how ≢ end.OutOfMemory → (IsTrue entry.write_fault ↔ (how ≡ end.WriteFault))
+  pub unavailable : how ≡ end.OutOfMemory → ¬ IsTrue entry.write_fault → entry.written ≡ unavailable_text
 
 -- Nothing was read of a connection, and nothing was written to it, nor was it tried.
 pub record IsUntouched (entry : Connection) : Type 0 where

@@ -10,7 +10,7 @@ use Rattle.http_edge.specs.declared.messages.Status.{Status}
 use Rattle.http_serving.specs.declared.ends.ConnectionEnd.{ConnectionEnd}
 use Rattle.http_serving.specs.declared.ends.ConnectionEnd.TheVariants as end
 use Rattle.http_serving.specs.declared.responses.Answer.{Answer}
-use Rattle.http_serving.specs.declared.responses.Answer.TheVariants.{Made, Written}
+use Rattle.http_serving.specs.declared.responses.Answer.TheVariants.{Made, Written, Shared}
 
 -- How a connection ends that has no response, after what was received.
 abbrev pub IsStopAfter : Result HttpRequest RequestFault → ConnectionEnd → Type 0
@@ -22,12 +22,14 @@ IsStopAfter received how = ⊥
 abbrev pub answer_status : Answer → Status
 answer_status (Made response) = response.status
 answer_status (Written written) = written.status
+answer_status (Shared shared) = shared.status
 
 abbrev pub answer_text : Answer → List ℕ
 answer_text (Made response) = response_text response.status response.allow response.body
 answer_text (Written written) = written.text
+answer_text (Shared shared) = shared.text
 
--- what was written of the text of a response, by how the connection ended
+-- what was written of the text of a response, by how the connection ended: nothing of it where memory was refused
 abbrev pub IsSent : Status → List ℕ → ConnectionEnd → (before after : Option (List ℕ)) → Type 0
 IsSent status text (end.Answered told) before after = (told ≡ status) × (after ≡ appended before text)
 IsSent status text end.WriteFault before after = HasFront before after text

@@ -1,10 +1,10 @@
--- Answers as a server gives them to be sent: a response, or the text of one that is written out.
+-- Answers as a server gives them to be sent: a response, or the text of one that is written out, which others may hold too.
 use Rattle.std.specs.Prelude.{◌≡◌, ℕ, List}
 use Rattle.http_edge.specs.Responses.{response_text}
 use Rattle.http_edge.specs.declared.messages.Allow.{Allow}
 use Rattle.http_edge.specs.declared.messages.Status.{Status}
 use Rattle.http_serving.specs.declared.responses.Answer.{Answer}
-use Rattle.http_serving.specs.declared.responses.Answer.TheVariants.{Made, Written}
+use Rattle.http_serving.specs.declared.responses.Answer.TheVariants.{Made, Written, Shared}
 
 -- A text is that of a right response with this status, where `Right` says what is right of a status, the method that a 405
 -- allows, and a body.
@@ -18,3 +18,4 @@ pub record IsTextOfRight (Right : Status → Allow → List ℕ → Type 0) (sta
 abbrev pub IsRightAnswer : (Status → Allow → List ℕ → Type 0) → Answer → Type 0
 IsRightAnswer Right (Made response) = Right response.status response.allow response.body
 IsRightAnswer Right (Written written) = IsTextOfRight Right written.status written.text
+IsRightAnswer Right (Shared shared) = IsTextOfRight Right shared.status shared.text

@@ -17,14 +17,14 @@ pub enum ConnectionEnd {
     ReadFault,
     /// The response could not be sent as a whole.
     WriteFault,
-    /// Memory was refused. Nothing was written.
+    /// Memory was refused. The response to that has the status 503 and no body, and a front of it was written: the whole, a
+    /// part or nothing.
     OutOfMemory,
 }
 
-/// Appends how a connection ended. Want of memory is no end that is told.
+/// Appends how a connection ended.
 fn push_end(line: &mut Bytes, end: ConnectionEnd) -> Result<(), OutOfMemory>
-    ensures text { OnOk result (line.new ≡ line.old ++ end_text end) }
-    ensures some { OnOk result (end ≢ ConnectionEnd.OutOfMemory) }
+    ensures { OnOk result (line.new ≡ line.old ++ end_text end) }
 {
     match end {
         ConnectionEnd::Answered(status) => {
@@ -33,14 +33,13 @@ fn push_end(line: &mut Bytes, end: ConnectionEnd) -> Result<(), OutOfMemory>
         }
         ConnectionEnd::ReadFault => line.append(b"read-fault"),
         ConnectionEnd::WriteFault => line.append(b"write-fault"),
-        ConnectionEnd::OutOfMemory => Err(OutOfMemory),
+        ConnectionEnd::OutOfMemory => line.append(b"out-of-memory"),
     }
 }
 
-/// The line of a connection that ended, by its number. Want of memory is no end that is told.
+/// The line of a connection that ended, by its number.
 fn line_of(alloc: Global, number: u32, end: ConnectionEnd) -> Result<Bytes, OutOfMemory>
-    ensures told { IfOk result (λ line. line ≡ connection_line number end) }
-    ensures some { IfOk result (λ _. end ≢ ConnectionEnd.OutOfMemory) }
+    ensures { IfOk result (λ line. line ≡ connection_line number end) }
 {
     let mut line = Bytes::new(alloc);
     line.append(b"connection ")?;
@@ -52,15 +51,14 @@ fn line_of(alloc: Global, number: u32, end: ConnectionEnd) -> Result<Bytes, OutO
 }
 
 /// Prints the line of a connection that ended, by its number, counted from 1: `connection I answered S`,
-/// `connection I read-fault` or `connection I write-fault`. Want of memory is no end that is told: where the connection ended so,
-/// the answer is `OutOfMemory`, and nothing is written.
+/// `connection I read-fault`, `connection I write-fault` or `connection I out-of-memory`. `OutOfMemory` says that memory was
+/// refused for the line itself, and then nothing is written.
 pub fn print_connection<O: Sink>(
     alloc: Global,
     number: u32,
     end: ConnectionEnd,
     out: &mut O,
 ) -> Result<(), ResponseFault>
-    ensures told { result ≢ Err ResponseFault.OutOfMemory → end ≢ ConnectionEnd.OutOfMemory }
     ensures whole { OnOk result (O.contents out.new ≡ appended (O.contents out.old) (connection_line number end)) }
     ensures cut { IsErrOf result ResponseFault.WriteFault →
         HasFront (O.contents out.old) (O.contents out.new) (connection_line number end) }

@@ -1,15 +1,16 @@
 //! A server's side of HTTP connections, for any server: one request is read, it is routed by a table of paths, and one
 //! response is written (RFC 9110, RFC 9112). What a right answer is, a server says itself, by `Answers`. It may also give the
-//! text of a response that it has written out before.
+//! text of a response that it has written out before. If memory is refused, the response is a 503, and that connection alone
+//! ends so.
 //!
-//! `specs/Routes.antt` has which route a request asks for, `Written` when an answer as a server gives it is right, `Serving` what
+//! `specs/Targets.antt` has the path of a target, `Routes` which route a request asks for, `Written` when an answer as a server gives it is right, `Serving` what
 //! a connection is answered and what a door's log says of it, `Returning` connections that are given back, and `Law` that what
 //! is right is right alone.
 #![tactic(auto)]
 
 pub use ends::{ConnectionEnd, print_connection};
 pub use laws::{answers_follow_requests, requests_have_one_answer};
-pub use responses::{Answer, Response, WrittenResponse, bare, write_out};
+pub use responses::{Answer, Response, SharedResponse, WrittenResponse, bare, write_out};
 pub use routes::{Route, Routed, find_route};
 pub use serving::{Answers, give_back, serve_connection, serve_wire};
 
@@ -18,4 +19,5 @@ mod laws;
 mod responses;
 mod routes;
 mod serving;
+mod targets;
 mod text_sink;

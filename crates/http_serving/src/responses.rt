@@ -1,15 +1,19 @@
 ghost use Rattle.std.specs.Prelude.{◌≡◌, ◌≢◌, ◌≤◌, [], IfOk};
 ghost use Rattle.sb_outside.specs.Outside.{Rose};
 ghost use Rattle.http_edge.specs.Responses.{response_text};
-ghost use Rattle.http_serving.specs.Serving.{refusal_status};
+ghost use Rattle.http_serving.specs.Serving.{refusal_status, unavailable_text, IsUnavailable, IsWholeOrFault};
 ghost use Rattle.http_serving.specs.Steps.{answer_status, answer_text, IsSent};
 
 use crate::ends::ConnectionEnd;
 use crate::text_sink::TextSink;
 use http_edge::{Allow, RequestFault, ResponseFault, Status, write_response};
 use sb_model::{Bytes, OutOfMemory};
-use sb_outside::{Failed, Sink, write_all};
+use sb_outside::{Failed, SharedText, Sink, Wire, write_all};
 use std::alloc::Global;
+
+/// The response to a request for which memory was refused: 503 without a body, whose digest is that of nothing.
+const UNAVAILABLE: &[u8] =
+    b"HTTP/1.1 503 Service Unavailable\r\nContent-Type: application/json\r\nContent-Length: 0\r\nContent-Digest: sha-256=:47DEQpj8HBSa+/TImW+5JCeuQeRkm5NMpJWZG3hSuFU=:\r\nConnection: close\r\n\r\n";
 
 /// A response: a status, the method that a 405 allows, and the body that goes with it.
 #[derive(Debug, Drop)]
@@ -27,6 +31,13 @@ pub struct WrittenResponse {
     pub text: Bytes,
 }
 
+/// A response that is written out, as a text that others may hold too.
+#[derive(Debug, Drop)]
+pub struct SharedResponse {
+    pub status: Status,
+    pub text: SharedText,
+}
+
 /// What a server gives to be sent.
 #[derive(Debug, Drop)]
 pub enum Answer {
@@ -34,6 +45,8 @@ pub enum Answer {
     Made(Response),
     /// The whole text of a response.
     Written(WrittenResponse),
+    /// The whole text of a response, which is sent without a copy where the connection can hold it.
+    Shared(SharedResponse),
 }
 
 /// A response without a body. The method is named where the status is 405, and nowhere else.
@@ -117,16 +130,42 @@ fn send_written<O: Sink>(sink: &mut O, written: &WrittenResponse) -> ConnectionE
     }
 }
 
-/// Sends an answer.
-pub(crate) fn send<O: Sink>(alloc: Global, sink: &mut O, answer: &Answer) -> ConnectionEnd
-    ensures sent { IsSent (answer_status answer.now) (answer_text answer.now) result (O.contents sink.old) (O.contents sink.new) }
-    ensures failed { result ≡ ConnectionEnd.WriteFault → Rose (O.faults sink.old) (O.faults sink.new) }
-    ensures kept { result ≢ ConnectionEnd.WriteFault → O.faults sink.new ≡ O.faults sink.old }
+/// Writes the text of a response that others may hold too.
+fn send_shared<T: Wire>(wire: &mut T, shared: &SharedResponse) -> ConnectionEnd
+    ensures sent { IsSent shared.now.status shared.now.text result (T.contents wire.old) (T.contents wire.new) }
+    ensures failed { result ≡ ConnectionEnd.WriteFault → Rose (T.Sink.faults wire.old) (T.Sink.faults wire.new) }
+    ensures kept { result ≢ ConnectionEnd.WriteFault → T.Sink.faults wire.new ≡ T.Sink.faults wire.old }
+    ensures counted { T.Sink.faults wire.old ≤ T.Sink.faults wire.new }
+    ensures other { T.front wire.new ≡ T.front wire.old }
+{
+    match wire.write_shared(&shared.text) {
+        Ok(()) => ConnectionEnd::Answered(shared.status),
+        Err(Failed) => ConnectionEnd::WriteFault,
+    }
+}
+
+/// Writes the response to a request for which memory was refused, without memory. If the write fails, a front of it was
+/// written.
+pub(crate) fn send_unavailable<O: Sink>(sink: &mut O)
+    ensures sent { IsUnavailable (O.contents sink.old) (O.contents sink.new) }
+    ensures whole { IsWholeOrFault unavailable_text (O.contents sink.old) (O.contents sink.new) (O.faults sink.old) (O.faults sink.new) }
     ensures counted { O.faults sink.old ≤ O.faults sink.new }
     ensures other { O.front sink.new ≡ O.front sink.old }
 {
+    let _ = write_all(sink, UNAVAILABLE);
+}
+
+/// Sends an answer.
+pub(crate) fn send<T: Wire>(alloc: Global, wire: &mut T, answer: &Answer) -> ConnectionEnd
+    ensures sent { IsSent (answer_status answer.now) (answer_text answer.now) result (T.contents wire.old) (T.contents wire.new) }
+    ensures failed { result ≡ ConnectionEnd.WriteFault → Rose (T.Sink.faults wire.old) (T.Sink.faults wire.new) }
+    ensures kept { result ≢ ConnectionEnd.WriteFault → T.Sink.faults wire.new ≡ T.Sink.faults wire.old }
+    ensures counted { T.Sink.faults wire.old ≤ T.Sink.faults wire.new }
+    ensures other { T.front wire.new ≡ T.front wire.old }
+{
     match answer {
-        Answer::Made(response) => send_made(alloc, sink, response),
-        Answer::Written(written) => send_written(sink, written),
+        Answer::Made(response) => send_made(alloc, wire, response),
+        Answer::Written(written) => send_written(wire, written),
+        Answer::Shared(shared) => send_shared(wire, shared),
     }
 }

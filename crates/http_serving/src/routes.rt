@@ -1,7 +1,8 @@
-ghost use Rattle.std.specs.Prelude.{◌≡◌, ◌<◌, ◌==◌, length, position, IfSome};
+ghost use Rattle.std.specs.Prelude.{◌≡◌, ◌<◌, length, IfSome};
 ghost use Rattle.http_edge.specs.Responses.{method_text};
-ghost use Rattle.http_serving.specs.Routes.{IsRouted, path_in, place_for};
+ghost use Rattle.http_serving.specs.Routes.{IsRouted, place_for};
 
+use crate::targets::path_in;
 use http_edge::{Allow, HttpRequest};
 use std::marker::Model;
 
@@ -41,23 +42,6 @@ fn method_text(allow: Allow) -> &'static str
     }
 }
 
-// The place of the first `?`.
-fn mark_in(target: &[u8]) -> Option<usize>
-    ensures { result ≡ position (λ byte. byte == 63) target.now }
-{
-    target.iter().position(|byte| *byte == b'?')
-}
-
-/// The path of a target.
-fn path_in(target: &[u8]) -> &[u8]
-    ensures { result.now ≡ path_in target.now }
-{
-    match mark_in(target) {
-        Some(mark) => &target[..mark],
-        None => target,
-    }
-}
-
 /// The place of the first route that has the path of a request.
 fn place_for(request: &HttpRequest, routes: &[Route<'_>]) -> Option<usize>
     ensures place { result ≡ place_for routes.now request.now }
@@ -67,7 +51,8 @@ fn place_for(request: &HttpRequest, routes: &[Route<'_>]) -> Option<usize>
     routes.iter().position(|route| route.path == path)
 }
 
-/// What a request asks for, of a table of routes. What follows a `?` in its target is not looked at.
+/// What a request asks for, of a table of routes. The path of a target in absolute form is what follows its authority (RFC 9112,
+/// section 3.2.2). What follows a `?` in the target is not looked at.
 pub fn find_route(request: &HttpRequest, routes: &[Route<'_>]) -> Routed
     ensures { IsRouted routes.now request.now result }
 {

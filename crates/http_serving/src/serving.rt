@@ -6,12 +6,12 @@ ghost use Rattle.http_edge.specs.declared.messages.Status.{Status};
 ghost use Rattle.http_serving.specs.Law.{HasOneAnswer};
 ghost use Rattle.http_serving.specs.Returning.{IsFresh, IsReturned};
 ghost use Rattle.http_serving.specs.Routes.{AsksAt, IsRouted, Route, RoutedAnswer};
-ghost use Rattle.http_serving.specs.Serving.{IsAnswerAfter, IsComplete, IsServed, IsUntouched, Serves};
+ghost use Rattle.http_serving.specs.Serving.{unavailable_text, IsAnswerAfter, IsComplete, IsServed, IsUntouched, IsWholeOrFault, Serves};
 ghost use Rattle.http_serving.specs.Steps.{IsStopAfter};
 ghost use Rattle.http_serving.specs.Written.{IsRightAnswer};
 
 use crate::ends::ConnectionEnd;
-use crate::responses::{Answer, bare, refusal_status, send};
+use crate::responses::{Answer, bare, refusal_status, send, send_unavailable};
 use crate::routes::Routed;
 use http_edge::{Allow, HttpRequest, RequestFault, Status, read_request};
 use sb_model::{Bytes, OutOfMemory};
@@ -34,7 +34,7 @@ pub trait Answers {
     fn find(&self, request: &HttpRequest) -> Routed
         ensures { IsRouted routes request.now result };
 
-    /// The answer to a request that asks for the route at a place: a response, or the text of one.
+    /// The answer to a request that asks for the route at a place: a response, or the text of one, which others may hold too.
     fn answer(
         &mut self,
         alloc: Global,
@@ -95,17 +95,8 @@ fn respond<A: Answers>(
     }
 }
 
-/// Reads one request and writes one response (RFC 9112).
-///
-/// A request that asks for a route is answered as the server says. Other responses have no body: 400 where the request is
-/// malformed or cut off; 404 where no route has its path; 405 where the route of its path takes another method, which `Allow`
-/// names; 411 where the length of the body is not given; 413 where it is more than 1,048,576 bytes; 431 where the head is too
-/// long. What follows a `?` in the target is not looked at, nor what follows the request.
-pub fn serve_connection<A: Answers, T: Wire>(
-    alloc: Global,
-    answers: &mut A,
-    wire: &mut T,
-) -> ConnectionEnd
+/// Reads one request and writes one response, and nothing where memory is refused.
+fn answer_wire<A: Answers, T: Wire>(alloc: Global, answers: &mut A, wire: &mut T) -> ConnectionEnd
     // What the wire gave, and what was written of the answer.
     ensures serves { Serves (RoutedAnswer A.routes (A.right answers.old answers.new)) result
         (T.left wire.old) (T.left wire.new) (T.contents wire.old) (T.contents wire.new) }
@@ -121,6 +112,7 @@ pub fn serve_connection<A: Answers, T: Wire>(
     ensures write_failed { result ≡ ConnectionEnd.WriteFault → Rose (T.Sink.faults wire.old) (T.Sink.faults wire.new) }
     ensures write_kept { result ≢ ConnectionEnd.WriteFault → T.Sink.faults wire.new ≡ T.Sink.faults wire.old }
     ensures write_counted { T.Sink.faults wire.old ≤ T.Sink.faults wire.new }
+    ensures silent { result ≡ ConnectionEnd.OutOfMemory → T.contents wire.new ≡ T.contents wire.old }
 
     // It is the same connection.
     ensures number { T.number wire.new ≡ T.number wire.old }
@@ -134,6 +126,55 @@ pub fn serve_connection<A: Answers, T: Wire>(
     match respond(alloc, answers, received) {
         Ok(answer) => send(alloc, wire, &answer),
         Err(end) => end,
+    }
+}
+
+/// Reads one request and writes one response (RFC 9112).
+///
+/// A request that asks for a route is answered as the server says. Other responses have no body: 400 where the request is
+/// malformed or cut off; 404 where no route has its path; 405 where the route of its path takes another method, which `Allow`
+/// names; 411 where the length of the body is not given; 413 where it is more than 1,048,576 bytes; 431 where the head is too
+/// long; 503 if memory is refused, of which a front may be written as with any other. What follows a `?` in the target is not
+/// looked at, nor what follows the request.
+pub fn serve_connection<A: Answers, T: Wire>(
+    alloc: Global,
+    answers: &mut A,
+    wire: &mut T,
+) -> ConnectionEnd
+    // What the wire gave, and what was written of the answer.
+    ensures serves { Serves (RoutedAnswer A.routes (A.right answers.old answers.new)) result
+        (T.left wire.old) (T.left wire.new) (T.contents wire.old) (T.contents wire.new) }
+
+    // A whole request that has an answer is answered with that or not at all, or memory was refused.
+    ensures complete { IfSome (T.left wire.old) (λ pieces. IsComplete (RoutedAnswer A.routes (A.right answers.old answers.new)) pieces result
+        (T.contents wire.old) (T.contents wire.new)) }
+
+    // A fault is counted, and nothing else is.
+    ensures read_failed { result ≡ ConnectionEnd.ReadFault → Rose (T.Source.faults wire.old) (T.Source.faults wire.new) }
+    ensures read_kept { result ≢ ConnectionEnd.ReadFault → T.Source.faults wire.new ≡ T.Source.faults wire.old }
+    ensures read_counted { T.Source.faults wire.old ≤ T.Source.faults wire.new }
+    ensures write_failed { result ≡ ConnectionEnd.WriteFault → Rose (T.Sink.faults wire.old) (T.Sink.faults wire.new) }
+    ensures write_kept { result ≢ ConnectionEnd.WriteFault → result ≢ ConnectionEnd.OutOfMemory
+        → T.Sink.faults wire.new ≡ T.Sink.faults wire.old }
+    ensures write_counted { T.Sink.faults wire.old ≤ T.Sink.faults wire.new }
+
+    // If memory was refused, the whole 503 was written, or a write failed.
+    ensures unavailable { result ≡ ConnectionEnd.OutOfMemory → IsWholeOrFault unavailable_text
+        (T.contents wire.old) (T.contents wire.new) (T.Sink.faults wire.old) (T.Sink.faults wire.new) }
+
+    // It is the same connection.
+    ensures number { T.number wire.new ≡ T.number wire.old }
+    ensures start { T.start wire.new ≡ T.start wire.old }
+
+    // What an answer leaves of the server.
+    ensures stays { A.stays answers.old answers.new }
+{
+    match answer_wire(alloc, answers, wire) {
+        ConnectionEnd::OutOfMemory => {
+            send_unavailable(wire);
+            ConnectionEnd::OutOfMemory
+        }
+        end => end,
     }
 }
 

@@ -5,4 +5,4 @@ use Rattle.http_serving.proofs.ends.print_connection.Goals as goal
 pub returns-clause-cut : goal.returns-clause-cut
 returns-clause-cut g c = λ _.
     let cut = c.in-Err.ensures.err in
-    front_of _ _ cut.0 _ _ (c.as_slice.ensures ∙ c.in-Ok.ensures.told) cut.1 cut.2
+    front_of _ _ cut.0 _ _ (c.as_slice.ensures ∙ c.in-Ok.ensures) cut.1 cut.2

@@ -10,4 +10,4 @@ returns-clause-served g c = λ pieces fresh.
     let right = RoutedAnswer g.A.Answers.routes (g.A.Answers.right c.args.answers.now c.serve_connection-end.new.answers) in
     returned (IsServed right how pieces) _ _ _ _ _ _ _ _ _ served.number c.done.ensures.entry
     (λ entry is. entry_served right how entry pieces _ _ _ _ _ _ _ _ _ _ fresh served.serves served.complete served.start
-    served.read_failed served.read_kept served.write_failed served.write_kept is)
+    served.read_failed served.read_kept served.write_failed served.write_kept served.unavailable is)
