@@ -20,6 +20,7 @@ pub mod Further
 pub mod Hexes
 pub mod Holding
 pub mod Keeping
+pub mod Leads
 pub mod LineEnds
 pub mod LineFaults
 pub mod LineTexts
@@ -31,6 +32,7 @@ pub mod Newests
 pub mod Parts
 pub mod Placing
 pub mod PrefixBytes
+pub mod Ranks
 pub mod Reading
 pub mod ReadBack
 pub mod Records

@@ -5,6 +5,7 @@ pub mod Folding
 pub mod HashSizes
 pub mod Hexes
 pub mod Journal
+pub mod Leading
 pub mod Limits
 pub mod Lines
 pub mod Live

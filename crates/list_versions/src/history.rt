@@ -22,6 +22,7 @@ use crate::JournalFault;
 use crate::draft::Draft;
 use crate::growing::{More, read_more};
 use crate::hash_sizes::Folding;
+use crate::leading::leading;
 use crate::listing::{hashes_begun, hashes_of};
 use crate::lists::{same, size_of};
 use crate::lookup::{hashes_with, live_of};
@@ -398,6 +399,13 @@ impl History {
         let Some(newest) = self.newest(list) else {
             unreachable!()
         };
+        let place = version as usize;
+        if !self.stale
+            && is_near(self.draft.changes.as_slice(), place)
+            && let Some(live) = live_of(self.draft.lists.as_slice(), list)
+        {
+            return leading(alloc, &self.draft, list, live, &newest.set, place);
+        }
         let Some(older) = self.prefixes(alloc, list, version)? else {
             unreachable!()
         };

@@ -26,6 +26,7 @@ mod hex_digits;
 mod history;
 mod known;
 mod laws;
+mod leading;
 mod lines;
 mod listing;
 mod lists;

@@ -6,8 +6,8 @@ use hash_prefixes::Prefix;
 use prefix_set::PrefixSet;
 use std::cmp::Ordering;
 
-// The place of the first member that does not come before a prefix.
-fn first_at(set: &PrefixSet, prefix: &Prefix) -> u32
+/// The place of the first member that does not come before a prefix.
+pub(crate) fn first_at(set: &PrefixSet, prefix: &Prefix) -> u32
     ensures { IsFirstAt set.now prefix.now result }
 {
     let mut low = 0;

@@ -23,8 +23,14 @@ use prefix_set::{PrefixSet, sets_go_by_members};
 use sb_model::{Added, Change, ListName, OutOfMemory};
 use std::alloc::Global;
 
-/// A set is made anew where more lines than this came, rather than changed.
+/// So many lines after a version are few, however many there are before it.
+const FEW: usize = 1_024;
+
+/// More lines than this are many, however many there are before them.
 const MANY: usize = 65_536;
+
+/// The lines after a version are few if there are so many times as many before it.
+const SHARE: usize = 16;
 
 /// What a list lost and gained since a version, and how many of its lines the changes up to the
 /// version have.
@@ -60,8 +66,8 @@ pub(crate) fn shift_since(
     Ok(Shift { went, came, count })
 }
 
-// Whether one of the first lines of a list that stand publishes a prefix.
-fn is_published_first(live: &Live, count: usize, prefix: &Prefix) -> bool
+/// Whether one of the first lines of a list that stand publishes a prefix.
+pub(crate) fn is_published_first(live: &Live, count: usize, prefix: &Prefix) -> bool
     ensures { result ≡ is_published count (lines_in live.now.buckets.entries (take 4 prefix.now)) prefix.now }
 {
     lines_at(&live.buckets, &head_of(prefix)).iter().any(|line| (line.place as usize) < count
@@ -133,17 +139,24 @@ pub(crate) fn shifted(
     }
 }
 
-/// Whether the changes after a version have so few lines that a set is changed sooner than made anew.
-pub(crate) fn is_near(changes: &[Change], version: usize) -> bool
-    requires { version ≤ length changes.now }
-{
+// How many hash lines some changes have.
+fn lines_of(changes: &[Change]) -> usize {
     let mut lines = 0usize;
-    for change in &changes[version..] {
+    for change in changes {
         lines = lines
             .saturating_add(change.adds.len())
             .saturating_add(change.removes.len());
     }
-    lines <= MANY
+    lines
+}
+
+/// Whether the changes after a version have so few lines that a set is changed sooner than made anew.
+pub(crate) fn is_near(changes: &[Change], version: usize) -> bool
+    requires { version ≤ length changes.now }
+{
+    let (before, after) = changes.split_at(version);
+    let lines = lines_of(after);
+    lines <= FEW || (lines <= MANY && lines <= lines_of(before) / SHARE)
 }
 
 /// The prefixes of a list at an earlier version, of its newest ones.

@@ -1,0 +1,56 @@
+use Rattle.std.proofs.Common.{◌≡◌, ◌∙◌, List, ℕ, length, take, drop, sym, ap, subst, arith, false}
+use Rattle.std.specs.Prelude.{All}
+use Rattle.prefix_set.specs.declared.difference.Delta.{Delta}
+use Rattle.sb_model.specs.declared.history.Added.{Added}
+use Rattle.sb_model.specs.declared.history.Change.{Change}
+use Rattle.sb_model.specs.Difference.{removed_places, added_members}
+use Rattle.list_versions.specs.Ends.{adds_of, lasting, unended}
+use Rattle.list_versions.specs.Limits.{hash_lines}
+use Rattle.list_versions.specs.Live.{IsPublishable}
+use Rattle.list_versions.proofs.Folds.{read_placed}
+use Rattle.list_versions.proofs.Leads.{led_to}
+use Rattle.list_versions.proofs.ReadBack.{ends_long}
+use Rattle.list_versions.proofs.Shifts.{found_of, shifts}
+use Rattle.list_versions.proofs.leading.leading.Goals as goal
+
+pub shift_since-requires : goal.shift_since-requires
+shift_since-requires c = record {
+  version = omega (arith, c.requires.version, ap length c.as_slice-changes.ensures.value);
+  ends = ap length c.as_slice.ensures.value ∙ ends_long c.args.list c.args.draft.now.changes.items c.args.live.now (read_placed c.args.list c.args.draft.now.changes.items c.args.live.now c.requires.placed)
+      ∙ ap (λ (cs : List Change). length (adds_of c.args.list cs)) (sym c.as_slice-changes.ensures.value);
+  few = omega (arith, ap hash_lines c.as_slice-changes.ensures.value, c.requires.stem.hashes, c.requires.stem.few_hashes);
+}
+
+pub led_by-requires : goal.led_by-requires
+led_by-requires c =
+    let count = c.in_ok-shift.shift.count in
+    let found = found_of c.args.list c.args.draft.now.changes.items c.args.live.now c.requires.placed c.args.version count c.in_ok-shift.shift.went.items c.in_ok-shift.shift.came.items c.as_slice-changes.result.now c.as_slice.result.now
+    c.as_slice-changes.ensures.value c.as_slice.ensures.value c.in_ok-shift.ensures.went c.in_ok-shift.ensures.came in
+    let fact = shifts c.args.draft.now c.args.list c.args.version count c.args.live.now c.requires.placed c.requires.stem c.requires.version
+    (c.in_ok-shift.ensures.count ∙ ap (λ (cs : List Change). length (adds_of c.args.list (take c.args.version cs))) c.as_slice-changes.ensures.value) in
+    record {
+      went = subst (λ (es : List Added). All IsPublishable es) (sym (c.as_slice-2.ensures.value ∙ found.went)) fact.went;
+      came = subst (λ (es : List Added). All IsPublishable es) (sym (c.as_slice-3.ensures.value ∙ found.came)) fact.came;
+    }
+
+pub returns-clause-removals : goal.returns-clause-removals
+returns-clause-removals c =
+    let count = c.in_ok-shift.shift.count in
+    let found = found_of c.args.list c.args.draft.now.changes.items c.args.live.now c.requires.placed c.args.version count c.in_ok-shift.shift.went.items c.in_ok-shift.shift.came.items c.as_slice-changes.result.now c.as_slice.result.now
+    c.as_slice-changes.ensures.value c.as_slice.ensures.value c.in_ok-shift.ensures.went c.in_ok-shift.ensures.came in
+    let fact = shifts c.args.draft.now c.args.list c.args.version count c.args.live.now c.requires.placed c.requires.stem c.requires.version
+    (c.in_ok-shift.ensures.count ∙ ap (λ (cs : List Change). length (adds_of c.args.list (take c.args.version cs))) c.as_slice-changes.ensures.value) in
+    led_to c.led_by.result (λ (delta : Delta) (older : List (List ℕ)). delta.removals ≡ removed_places older c.args.newest.now) c.args.live.now c.requires.placed.lines count _ c.args.newest.now c.as_slice-2.result.now c.as_slice-3.result.now
+    (lasting c.args.version false (take count c.requires.placed.lines)) (unended (drop count c.requires.placed.lines))
+    c.requires.placed.placed fact.first (c.as_slice-2.ensures.value ∙ found.went) (c.as_slice-3.ensures.value ∙ found.came) fact.older (c.requires.newest ∙ fact.newer) c.led_by.ensures.removals
+
+pub returns-clause-additions : goal.returns-clause-additions
+returns-clause-additions c =
+    let count = c.in_ok-shift.shift.count in
+    let found = found_of c.args.list c.args.draft.now.changes.items c.args.live.now c.requires.placed c.args.version count c.in_ok-shift.shift.went.items c.in_ok-shift.shift.came.items c.as_slice-changes.result.now c.as_slice.result.now
+    c.as_slice-changes.ensures.value c.as_slice.ensures.value c.in_ok-shift.ensures.went c.in_ok-shift.ensures.came in
+    let fact = shifts c.args.draft.now c.args.list c.args.version count c.args.live.now c.requires.placed c.requires.stem c.requires.version
+    (c.in_ok-shift.ensures.count ∙ ap (λ (cs : List Change). length (adds_of c.args.list (take c.args.version cs))) c.as_slice-changes.ensures.value) in
+    led_to c.led_by.result (λ (delta : Delta) (older : List (List ℕ)). delta.additions ≡ added_members older c.args.newest.now) c.args.live.now c.requires.placed.lines count _ c.args.newest.now c.as_slice-2.result.now c.as_slice-3.result.now
+    (lasting c.args.version false (take count c.requires.placed.lines)) (unended (drop count c.requires.placed.lines))
+    c.requires.placed.placed fact.first (c.as_slice-2.ensures.value ∙ found.went) (c.as_slice-3.ensures.value ∙ found.came) fact.older (c.requires.newest ∙ fact.newer) c.led_by.ensures.additions
