@@ -1,6 +1,6 @@
 use Rattle.std.proofs.Common.{◌∙◌}
 use Rattle.http_serving.proofs.Fronts.{front_of}
-use Rattle.http_serving.proofs.ends.print_connection.Goals as goal
+use Rattle.http_serving.proofs.ends.print_line.Goals as goal
 
 pub returns-clause-cut : goal.returns-clause-cut
 returns-clause-cut g c = λ _.
