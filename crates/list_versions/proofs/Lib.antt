@@ -45,6 +45,8 @@ pub mod Splitting
 pub mod TakingOut
 pub mod Unordered
 pub mod Standings
+pub mod StretchLines
+pub mod StretchOrder
 pub mod Starting
 pub mod Versions
 pub mod Words

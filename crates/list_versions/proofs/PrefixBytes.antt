@@ -91,7 +91,7 @@ pub has_set : (q : List ℕ) (xs : List (List ℕ)) → has_member (set_of xs) q
 has_set q [] = refl
 has_set q (x ∷ xs) = has_with x q (set_of xs) ∙ ap (λ b. bytes_eq x q || b) (has_set q xs)
 
-has_map : (q : List ℕ) (entries : List Added) → has_member (map prefix_of entries) q ≡ is_published_in entries q
+pub has_map : (q : List ℕ) (entries : List Added) → has_member (map prefix_of entries) q ≡ is_published_in entries q
 has_map q [] = refl
 has_map q (entry ∷ entries) = ap (λ b. bytes_eq (prefix_of entry) q || b) (has_map q entries)
 

@@ -15,6 +15,7 @@ pub mod Pieces
 pub mod Printed
 pub mod Renewing
 pub mod Shifting
+pub mod Showing
 pub mod Split
 pub mod Stretches
 pub mod Written

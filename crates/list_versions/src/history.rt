@@ -35,6 +35,7 @@ use crate::renewing::{Before, take_kept};
 use crate::shifting::{is_near, older_set};
 use crate::standing::entries_at;
 use crate::stretch::Stretch;
+use crate::stretches::stretches_of;
 use hash_prefixes::{FullHash, Prefix};
 use prefix_set::{Delta, PrefixSet};
 use sb_model::{Bytes, Change, ListName, OutOfMemory, Row, Steps, names_go_by_their_codes};
@@ -423,7 +424,8 @@ impl History {
         ensures none { IfOk result (λ found. IfNone found
             (list_all (λ added. added.size == 4) (adds_of list self.now.versions.changes) ≡ false)) }
     {
-        Err(OutOfMemory)
+        let found = stretches_of(alloc, &self.draft, list)?;
+        Ok(found)
     }
 
     /// The full hashes of a declared list at a version that begin with a prefix, rising.

@@ -44,4 +44,5 @@ mod shifting;
 mod split;
 mod standing;
 mod stretch;
+mod stretches;
 mod writing;
