@@ -1,12 +1,16 @@
 pub mod AnswerFacts
 pub mod CountFacts
+pub mod CoverFacts
 pub mod EntryFacts
 pub mod FindFacts
+pub mod MarkFacts
 pub mod Membership
 pub mod NumberFacts
 pub mod SameFacts
 pub mod SetCounts
 pub mod SetFacts
+pub mod ShownFacts
+pub mod SweepFacts
 pub mod TargetFacts
 pub mod TokenFacts
 pub mod UpdateFacts

@@ -23,6 +23,12 @@ greatest_same t u zero same = refl
 greatest_same t u (suc n) same =
     ap (λ (b : Bool). if b then suc n else greatest_up_to t n) (same (suc n)) ∙ ap (λ k. if u (suc n) then suc n else k) (greatest_same t u n same)
 
+pub greatest_within : (t u : ℕ → Bool) (n : ℕ) → ((k : ℕ) → k ≤ n → t k ≡ u k) → greatest_up_to t n ≡ greatest_up_to u n
+greatest_within t u zero same = refl
+greatest_within t u (suc n) same =
+    ap (λ (b : Bool). if b then suc n else greatest_up_to t n) (same (suc n) (omega arith))
+    ∙ ap (λ k. if u (suc n) then suc n else k) (greatest_within t u n (λ k below. same k (omega (arith, below))))
+
 -- ---- a walk from a version on
 
 pub fold_split : {A B : Type 0} (f : B → A → B) (b : B) (a k : ℕ) (xs : List A) → fold f b (take (a + k) xs) ≡ fold f (fold f b (take a xs)) (take k (drop a xs))
@@ -53,10 +59,10 @@ pub taken_step : (test : ℕ → Bool) (i old new : ℕ) (b : Bool) → test (i 
 taken_step test i old new b is before now = now ∙ ap (λ k. if b then i + 1 else k) before ∙ sym (greatest_step test i b is)
 
 module _ (history : History) (list : ListName) (held max_update max_database : ℕ) where
-  abbrev reach : ℕ → Bool
+  abbrev pub reach : ℕ → Bool
   reach = can_reach history list (Some held) max_update max_database
 
-  abbrev later : ℕ → Bool
+  abbrev pub later : ℕ → Bool
   later k = may_take (prefixes_at history list held) max_update max_database (prefixes_at history list (held + k))
 
   held_true : (a b : Bool) → a ≡ true → (a || b) ≡ true
@@ -93,7 +99,7 @@ module _ (history : History) (list : ListName) (held max_update max_database : �
   add_if true k m n = refl
   add_if false k m n = refl
 
-  greatest_from : (n : ℕ) → greatest_up_to reach (held + n) ≡ held + greatest_up_to later n
+  pub greatest_from : (n : ℕ) → greatest_up_to reach (held + n) ≡ held + greatest_up_to later n
   greatest_from zero =
       ap (greatest_up_to reach) (let same : held + 0 ≡ held = omega arith in same) ∙ greatest_held held refl ∙ (let same : held ≡ held + 0 = omega arith in same)
   greatest_from (suc n) =

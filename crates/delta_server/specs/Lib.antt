@@ -2,6 +2,7 @@ pub mod Answering
 pub mod Counts
 pub mod Finding
 pub mod Served
+pub mod Sweeping
 pub mod Tokens
 pub mod Updates
 pub mod Version

@@ -4,14 +4,16 @@ ghost use Rattle.sb_model.specs.declared.names.ListName.{ListName as Name};
 ghost use Rattle.sb_model.specs.History.{History as Versions, declares, version_count, sizes_at, prefixes_at};
 ghost use Rattle.sb_model.specs.Difference.{difference_count};
 ghost use Rattle.sb_model.specs.Target.{target_version};
+ghost use Rattle.list_versions.specs.Stretches.{AreStretches};
 ghost use Rattle.delta_server.specs.Counts.{AreApart};
 ghost use Rattle.delta_server.specs.Served.{IsServed};
 ghost use Rattle.delta_server.specs.Walk.{HaveSame};
 
 use crate::served::{Served, served_list, set_at};
+use crate::sweeping::versions_taken;
 use crate::version::is_within;
 use crate::walk::target_of;
-use list_versions::History;
+use list_versions::{History, Stretch};
 use prefix_set::{PrefixSet, sets_go_by_members};
 use sb_model::{Added, ListName, OutOfMemory, targets_are_the_greatest};
 use std::alloc::Global;
@@ -129,9 +131,40 @@ fn walked_target(
     )
 }
 
+// The version of a list that a client is brought to, told by the stretches of the list.
+fn swept_target(
+    alloc: Global,
+    history: &History,
+    list: ListName,
+    stretches: &[Stretch],
+    from: Option<u64>,
+    limits: Limits,
+) -> Result<u64, OutOfMemory>
+    requires stretches { AreStretches history.now.versions list stretches.now }
+    requires within { IfSome from (λ version. version ≤ version_count history.now.versions) }
+    ensures target { IfOk result (λ version. version
+        ≡ target_version history.now.versions list from limits.update limits.database) }
+    ensures within { IfOk result (λ version. version ≤ version_count history.now.versions) }
+{
+    sets_go_by_members();
+    targets_are_the_greatest();
+    let first = from.unwrap_or(0);
+    let end = history.len() + 1;
+    let taken = versions_taken(
+        alloc,
+        stretches,
+        first as u32,
+        end as u32,
+        limits.update,
+        limits.database,
+    )?;
+    Ok(first + taken)
+}
+
 /// The version of a list that a client is brought to, who holds a version of it or none. `held` is
-/// the set of that version, or of version 0. Full hashes are folded, and changes walked through,
-/// only if the limits may keep the client from the newest version.
+/// the set of that version, or of version 0. The stretches of the list are gone through, or its
+/// changes if it has prefixes of other sizes, only if the limits may keep the client from the newest
+/// version.
 pub(crate) fn target_from(
     alloc: Global,
     history: &History,
@@ -151,7 +184,10 @@ pub(crate) fn target_from(
     if takes_newest(alloc, held, served.set, limits)? {
         return Ok(history.len());
     }
-    walked_target(alloc, history, list, from, held, limits)
+    match history.stretches(alloc, list)? {
+        Some(stretches) => swept_target(alloc, history, list, &stretches, from, limits),
+        None => walked_target(alloc, history, list, from, held, limits),
+    }
 }
 
 // The set of a declared list that a client holds, who holds a version of it or none.
