@@ -186,39 +186,41 @@ gained_is live lines count went came placed well =
 
 -- ---- both
 
--- what was found of two versions: what went, and the prefixes that one of the sets alone has
-pub record AreApart (live : Live) (count : ℕ) (newest gone lost gained : List (List ℕ)) (went came : List Added) : Type 0 where
+-- what was found of two versions: the prefixes that one of the sets alone has
+pub record AreApart (live : Live) (count : ℕ) (newest lost gained : List (List ℕ)) (went came : List Added) : Type 0 where
   pub well_went : All IsPublishable went
   pub well_came : All IsPublishable came
-  pub is_gone : gone ≡ set_of (map prefix_of went)
   pub is_lost : lost ≡ set_of (added_members newest (map shown went))
-  pub is_gained : gained ≡ set_of (gained_of live.buckets.entries count gone (map shown came))
+  pub is_gained : gained ≡ set_of (gained_of live.buckets.entries count (set_of (map prefix_of went)) (map shown came))
 
-pub lost_apart : (live : Live) (lines : List Line) (count : ℕ) (newest gone lost gained : List (List ℕ)) (went came : List Added) → AreApart live count newest gone lost gained went came
+pub lost_apart : (live : Live) (lines : List Line) (count : ℕ) (newest lost gained : List (List ℕ)) (went came : List Added) → AreApart live count newest lost gained went came
     → newest ≡ set_of (map prefix_of (unended (take count lines) ++ came)) → lost ≡ added_members newest (set_of (map prefix_of (unended (take count lines) ++ went)))
-lost_apart live lines count newest gone lost gained went came are is =
+lost_apart live lines count newest lost gained went came are is =
     are.is_lost ∙ ap (λ (xs : List (List ℕ)). set_of (added_members newest xs)) (all_shown went are.well_went)
     ∙ subst (λ (n : List (List ℕ)). set_of (added_members n (map prefix_of went)) ≡ added_members n (set_with (unended (take count lines)) went)) (sym is)
     (lost_is (unended (take count lines)) went came)
 
-pub gained_apart : (live : Live) (lines : List Line) (count : ℕ) (newest gone lost gained : List (List ℕ)) (went came : List Added) → AreApart live count newest gone lost gained went came
+pub gained_apart : (live : Live) (lines : List Line) (count : ℕ) (newest lost gained : List (List ℕ)) (went came : List Added) → AreApart live count newest lost gained went came
     → IsPlaced live lines → All IsPublishable (unended (take count lines)) → newest ≡ set_of (map prefix_of (unended (take count lines) ++ came))
     → gained ≡ added_members (set_of (map prefix_of (unended (take count lines) ++ went))) newest
-gained_apart live lines count newest gone lost gained went came are placed well is =
-    are.is_gained ∙ ap (λ (xs : List (List ℕ)). set_of (gained_of live.buckets.entries count gone xs)) (all_shown came are.well_came)
-    ∙ ap (λ (xs : List (List ℕ)). set_of (gained_of live.buckets.entries count xs (map prefix_of came))) are.is_gone
+gained_apart live lines count newest lost gained went came are placed well is =
+    are.is_gained ∙ ap (λ (xs : List (List ℕ)). set_of (gained_of live.buckets.entries count (set_of (map prefix_of went)) xs)) (all_shown came are.well_came)
     ∙ gained_is live lines count went came placed well
     ∙ ap (added_members (set_with (unended (take count lines)) went)) (sym is)
 
-pub removals_apart : (live : Live) (lines : List Line) (count : ℕ) (newest gone lost gained : List (List ℕ)) (went came : List Added) (removals : List ℕ) → AreApart live count newest gone lost gained went came
+pub removals_apart : (live : Live) (lines : List Line) (count : ℕ) (newest lost gained : List (List ℕ)) (went came : List Added) (removals : List ℕ) → AreApart live count newest lost gained went came
     → IsPlaced live lines → All IsPublishable (unended (take count lines)) → newest ≡ set_of (map prefix_of (unended (take count lines) ++ came))
     → removals ≡ map (older_place newest lost gained) lost → removals ≡ removed_places (set_of (map prefix_of (unended (take count lines) ++ went))) newest
-removals_apart live lines count newest gone lost gained went came removals are placed well is places =
+removals_apart live lines count newest lost gained went came removals are placed well is places =
     let older = set_with (unended (take count lines)) went in
     let up : IsRising newest = subst IsRising (sym is) (rising-set_of (map prefix_of (unended (take count lines) ++ came))) in
-    places ∙ ap (λ (l : List (List ℕ)). map (older_place newest l gained) l) (lost_apart live lines count newest gone lost gained went came are is)
-    ∙ ap (λ (g : List (List ℕ)). map (older_place newest (added_members newest older) g) (added_members newest older)) (gained_apart live lines count newest gone lost gained went came are placed well is)
+    places ∙ ap (λ (l : List (List ℕ)). map (older_place newest l gained) l) (lost_apart live lines count newest lost gained went came are is)
+    ∙ ap (λ (g : List (List ℕ)). map (older_place newest (added_members newest older) g) (added_members newest older)) (gained_apart live lines count newest lost gained went came are placed well is)
     ∙ sym (places_by_counts older newest (rising-set_of (map prefix_of (unended (take count lines) ++ went))) up)
+
+pub ok_then : {D E : Type 0} (result : Result D E) (P Q : D → Type 0) → ((found : D) → P found → Q found) → IfOk result P → IfOk result Q
+ok_then (Err fault) P Q more h = tt
+ok_then (Ok found) P Q more h = more found h
 
 -- what leads from one version to the newest, of the lines that are placed
 pub led_to : {D E : Type 0} (result : Result D E) (leads : D → List (List ℕ) → Type 0) (live : Live) (lines : List Line) (count : ℕ) (older newest : List (List ℕ)) (went came gone come : List Added)

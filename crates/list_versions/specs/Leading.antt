@@ -1,7 +1,7 @@
 -- What leads from the set of a list at a version to its newest one, without the older set. The first lines that stand publish
 -- what both sets have. The rest of the older set is published of the full hashes that went, and the rest of the newest one of
 -- those that came.
-use Rattle.std.specs.Prelude.{ℕ, ◌+◌, ◌-◌, ◌||◌, Bool, not, List, length, map, take, filter, count_by}
+use Rattle.std.specs.Prelude.{ℕ, ◌+◌, ◌-◌, ◌||◌, Bool, not, List, take, filter, count_by}
 use Rattle.std.specs.Ordering.{is_lt}
 use Rattle.sb_model.specs.Difference.{has_member}
 use Rattle.sb_model.specs.Prefixes.{bytes_cmp}

@@ -130,6 +130,40 @@ fn row_of(alloc: Global, set: &PrefixSet) -> Result<Row<Prefix>, OutOfMemory>
     Ok(row)
 }
 
+// The prefixes which the newest set alone has, by the full hashes that went and those that came.
+fn gained_since(
+    alloc: Global,
+    live: &Live,
+    count: usize,
+    went: &[Added],
+    came: &[Added],
+) -> Result<PrefixSet, OutOfMemory>
+    requires { All IsPublishable went.now }
+    ensures { IfOk result (λ gained. gained
+        ≡ set_of (gained_of live.now.buckets.entries count (set_of (map prefix_of went.now)) (map shown came.now))) }
+{
+    let gone = published_of(alloc, went)?;
+    gained_by(alloc, &gone, live, count, came)
+}
+
+// What leads to the newest set from an older one, by what each of them alone has.
+fn delta_of(
+    alloc: Global,
+    newest: &PrefixSet,
+    lost: &PrefixSet,
+    gained: &PrefixSet,
+) -> Result<Delta, OutOfMemory>
+    ensures removals { IfOk result (λ delta. delta.removals ≡ map (older_place newest.now lost.now gained.now) lost.now) }
+    ensures additions { IfOk result (λ delta. delta.additions ≡ gained.now) }
+{
+    let removals = places_lost(alloc, newest, lost, gained)?;
+    let additions = row_of(alloc, gained)?;
+    Ok(Delta {
+        removals,
+        additions,
+    })
+}
+
 // What leads to the newest set from an older one, by the full hashes that went and those that came. The first lines of the
 // list that stand publish what both sets have.
 fn led_by(
@@ -149,15 +183,9 @@ fn led_by(
         → newest.now ≡ set_of (map prefix_of (unended (take count lines) ++ came.now))
         → delta.additions ≡ added_members (set_of (map prefix_of (unended (take count lines) ++ went.now))) newest.now) }
 {
-    let gone = published_of(alloc, went)?;
     let lost = lost_of(alloc, newest, went)?;
-    let gained = gained_by(alloc, &gone, live, count, came)?;
-    let removals = places_lost(alloc, newest, &lost, &gained)?;
-    let additions = row_of(alloc, &gained)?;
-    Ok(Delta {
-        removals,
-        additions,
-    })
+    let gained = gained_since(alloc, live, count, went, came)?;
+    delta_of(alloc, newest, &lost, &gained)
 }
 
 /// What leads from the prefixes of a list at an earlier version to its newest ones. No set is made but of what lies between.
