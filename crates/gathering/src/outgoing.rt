@@ -129,6 +129,7 @@ impl Outgoing {
     /// The bytes that are sent next: empty only where nothing is left.
     pub fn front(&self) -> &[u8]
         ensures front { result.now ≡ take self.now.front self.now.bytes }
+        ensures size { length result.now ≡ self.now.front }
         ensures some { result.now ≡ [] → self.now.bytes ≡ [] }
     {
         let head = self.head.front();
