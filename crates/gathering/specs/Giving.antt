@@ -8,13 +8,12 @@ use Rattle.std.specs.declared.cmp.Ordering.{Ordering}
 use Rattle.gathering.specs.Deadlines.{deadline, moment}
 use Rattle.gathering.specs.declared.limits.DoorLimits.{DoorLimits}
 use Rattle.gathering.specs.declared.phases.Phase.{Phase}
-use Rattle.gathering.specs.declared.phases.Phase.TheVariants.{Gathering, Decided, Sending, Past}
+use Rattle.gathering.specs.declared.phases.Phase.TheVariants.{Gathering, Decided, InTurn, Sending, Past}
 use Rattle.gathering.specs.declared.rows.Place.{Place}
 
--- The connections that are not decided, by their slots: those past their answer and those that gather, by when they began;
--- those that are sent an answer, by when a byte of it was last taken; and all, by when their time is up.
+-- The connections by their slots: those that gather, by when they began; those that are sent an answer, by when a byte of it was
+-- last taken; and all that have one, by when their time is up.
 pub record Standing : Type 0 where
-  pub past : List (Place × ℕ)
   pub gathering : List (Place × ℕ)
   pub sending : List (Place × ℕ)
   pub due : List (Place × ℕ)
@@ -23,16 +22,6 @@ pub record Standing : Type 0 where
 abbrev pub first : List (Place × ℕ) → Option ℕ
 first [] = None
 first (one ∷ others) = Some one.1
-
--- the one, or else the other
-abbrev pub or_else : Option ℕ → Option ℕ → Option ℕ
-or_else (Some slot) other = Some slot
-or_else None other = other
-
--- Where the house is full there gives way one that is past its answer, else the one that has gathered longest, else the one of
--- whose answer no byte was taken for longest.
-abbrev pub gives_way : Standing → Option ℕ
-gives_way rows = or_else (first rows.past) (or_else (first rows.gathering) (first rows.sending))
 
 -- Where so many bytes of answers wait: whose answer is cut next, until they are within their sum.
 abbrev pub cut_next : DoorLimits → (waiting : ℕ) → Standing → Option ℕ
@@ -55,12 +44,6 @@ place_cmp a b = ordering_then (nat_cmp a.at b.at) (nat_cmp a.serial b.serial)
 abbrev pub IsRow : List (Place × ℕ) → Type 0
 IsRow row = IsStrictlySortedBy place_cmp (keys_of row)
 
-pub record AreInOrder (rows : Standing) : Type 0 where
-  pub past : IsRow rows.past
-  pub gathering : IsRow rows.gathering
-  pub sending : IsRow rows.sending
-  pub due : IsRow rows.due
-
 -- the place of the connection of this number at a moment
 abbrev pub place : (at serial : ℕ) → Place
 place at serial = record { at = at; serial = serial }
@@ -72,13 +55,14 @@ put row at slot = insert_entry place_cmp row at slot
 abbrev pub without : List (Place × ℕ) → Place → List (Place × ℕ)
 without row at = remove_entry (is_at (place_cmp at)) row
 
--- The rows with a connection in that of its phase: past its answer and gathering by when it began, sent an answer by when a byte
--- of it was last taken. One that is decided stands in none.
+-- The rows with a connection in that of its phase: gathering by when it began, sent an answer by when a byte of it was last
+-- taken. In another phase it stands in none.
 abbrev pub with_its_phase : Phase → (serial slot : ℕ) → Standing → Standing
 with_its_phase (Gathering since) serial slot rows = record rows { gathering = put rows.gathering (place since serial) slot }
-with_its_phase Decided serial slot rows = rows
+with_its_phase (Decided since) serial slot rows = rows
+with_its_phase InTurn serial slot rows = rows
 with_its_phase (Sending since last taken ended) serial slot rows = record rows { sending = put rows.sending (place last serial) slot }
-with_its_phase (Past since read) serial slot rows = record rows { past = put rows.past (place since serial) slot }
+with_its_phase (Past since read) serial slot rows = rows
 
 -- and among all, by when its time is up, where there is such a moment
 abbrev pub with_its_time : Option ℕ → (serial slot : ℕ) → Standing → Standing
@@ -96,9 +80,10 @@ IsHalfEntered phase serial slot rows rows' = (rows' ≡ rows) ⊎ (rows' ≡ wit
 -- The rows without a connection in that of its phase, and without it among all.
 abbrev pub without_its_phase : Phase → (serial : ℕ) → Standing → Standing
 without_its_phase (Gathering since) serial rows = record rows { gathering = without rows.gathering (place since serial) }
-without_its_phase Decided serial rows = rows
+without_its_phase (Decided since) serial rows = rows
+without_its_phase InTurn serial rows = rows
 without_its_phase (Sending since last taken ended) serial rows = record rows { sending = without rows.sending (place last serial) }
-without_its_phase (Past since read) serial rows = record rows { past = without rows.past (place since serial) }
+without_its_phase (Past since read) serial rows = rows
 
 abbrev pub without_its_time : Option ℕ → (serial : ℕ) → Standing → Standing
 without_its_time (Some at) serial rows = record rows { due = without rows.due (place at serial) }

@@ -3,3 +3,7 @@ pub mod Deadlines
 pub mod Giving
 pub mod Accepting
 pub mod Wires
+pub mod Rooms
+pub mod Addresses
+pub mod Counts
+pub mod Turns

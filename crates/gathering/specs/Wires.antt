@@ -1,12 +1,12 @@
 -- What waits to be sent, and the wire that is handed out, as contracts see them.
-use Rattle.std.specs.Prelude.{◌≡◌, ℕ, ◌<◌, ◌⊎◌, Bool, true, List, [], ◌∷◌, ◌++◌, length, drop}
+use Rattle.std.specs.Prelude.{◌≡◌, ℕ, zero, suc, ◌+◌, ◌<◌, ◌⊎◌, Option, Some, None, Bool, true, List, [], ◌∷◌, ◌++◌, length, drop}
 use Rattle.std.specs.List.{All, concat}
 use Rattle.sb_outside.specs.Connections.{pieces_of}
 use Rattle.http_edge.specs.Deciding.{IsDecided}
 use Rattle.gathering.specs.declared.phases.Ending.{Ending}
 use Rattle.gathering.specs.declared.phases.Ending.TheVariants.{Fault}
 
--- What of an answer waits to be sent: what is left of its first piece, and the bytes after that piece.
+-- What of an answer's own bytes waits to be sent: what is left of its first piece, and the bytes after that piece.
 pub record Waiting : Type 0 where
   pub front : List ℕ
   pub rest : List ℕ
@@ -33,6 +33,36 @@ pub record IsOutgoing (full : List (List ℕ)) (last : List ℕ) (sent left : �
   pub going : (sent ≡ 0) ⊎ (sent < length (first_piece full last))
   pub filled : All (λ piece. 0 < length piece) full
   pub count : left ≡ length (drop sent (first_piece full last) ++ after_first full last)
+
+-- An answer that leaves: the bytes that are left, how many of them are sent next, and how many are its own and not of a text
+-- that others hold too.
+pub record Leaving : Type 0 where
+  pub bytes : List ℕ
+  pub front : ℕ
+  pub own : ℕ
+
+-- no bytes
+abbrev pub nothing_leaves : Leaving
+nothing_leaves = record { bytes = []; front = 0; own = 0 }
+
+-- the bytes of a text, where there is one
+abbrev pub text_of : Option (List ℕ) → List ℕ
+text_of None = []
+text_of (Some text) = text
+
+-- the first of three lengths that is not 0
+abbrev pub first_length : (a b c : ℕ) → ℕ
+first_length zero zero c = c
+first_length zero (suc b) c = suc b
+first_length (suc a) b c = suc a
+
+-- own bytes, then what is left of a text, then own bytes
+abbrev pub leaving : Waiting → List ℕ → Waiting → Leaving
+leaving head shared tail = record {
+  bytes = bytes_of head ++ (shared ++ bytes_of tail);
+  front = first_length (length head.front) (length shared) (length tail.front);
+  own = length (bytes_of head) + length (bytes_of tail);
+}
 
 -- a connection that is handed out
 pub record WireInHand : Type 0 where

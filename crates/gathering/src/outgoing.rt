@@ -1,99 +1,99 @@
-ghost use Rattle.std.specs.Prelude.{◌≡◌, ◌<◌, ◌≤◌, [], ◌++◌, length, take, drop, IfOk, OnOk, OnErr, All};
-ghost use Rattle.gathering.specs.Wires.{bytes_of, nothing, first_piece, after_first};
+ghost use Rattle.std.specs.Prelude.{◌≡◌, ◌+◌, ◌≤◌, [], ◌++◌, length, take, drop, true, false, IfOk, IfSome, IfNone, OnErr, ◌↔◌, IsTrue};
+ghost use Rattle.gathering.specs.Deadlines.{moment};
+ghost use Rattle.gathering.specs.Wires.{bytes_of, nothing_leaves, text_of};
 
-use sb_model::{Bytes, OutOfMemory};
+use crate::own_bytes::OwnBytes;
+use sb_model::OutOfMemory;
+use sb_outside::SharedText;
 use std::alloc::Global;
-use std::collections::VecDeque;
 use std::marker::Model;
 use std::mem;
 
-/// How many bytes a piece of an answer has at most.
-const PIECE: usize = 65_536;
-
-/// The bytes of an answer that are not yet sent, in pieces of 65,536 bytes, each of which is freed once it is sent. Contracts
-/// see it as the list of the bytes.
+/// An answer of which some is not yet sent: bytes of its own, and among them at most one text that others may hold too.
+/// Contracts see it as the list of the bytes that are left, with how many of them are sent next, and how many are its own.
 #[derive(Drop)]
 pub struct Outgoing {
     alloc: Global,
-    // pieces that are not empty
-    full: VecDeque<Bytes>,
-    last: Bytes,
-    // how many bytes of the first piece are sent
+    // its own bytes before the text
+    head: OwnBytes,
+    shared: Option<SharedText>,
+    // how many bytes of the text are sent
     sent: usize,
-    // how many bytes are left
-    left: usize,
+    // its own bytes after the text, or all where there is none
+    tail: OwnBytes,
 }
 
 impl Model for Outgoing {
-    ghost use Rattle.std.specs.Prelude.{drop};
-    ghost use Rattle.gathering.specs.Wires.{Waiting, first_piece, after_first, IsOutgoing};
+    ghost use Rattle.std.specs.Prelude.{◌≤◌, drop, length};
+    ghost use Rattle.gathering.specs.Wires.{Leaving, leaving, text_of};
 
-    ghost Value = { Waiting };
+    ghost Value = { Leaving };
 
-    ghost view = { λ o. record {
-      front = drop o.sent (first_piece o.full.items o.last);
-      rest = after_first o.full.items o.last;
-    } };
+    ghost view = { λ o. leaving o.head (drop o.sent (text_of o.shared)) o.tail };
 
-    ghost invariant = { λ o. IsOutgoing o.full.items o.last o.sent o.left };
+    ghost invariant = { λ o. o.sent ≤ length (text_of o.shared) };
 }
 
-/// Puts the last piece to the others, where it is full, and begins another. Where memory is refused, both stay.
-fn seal(alloc: Global, full: &mut VecDeque<Bytes>, last: &mut Bytes) -> Result<(), OutOfMemory>
-    ensures room { OnOk result (length last.new < PIECE) }
-    ensures first { first_piece full.new.items last.new ≡ first_piece full.old.items last.old }
-    ensures rest { after_first full.new.items last.new ≡ after_first full.old.items last.old }
-    ensures filled { All (λ piece. 0 < length piece) full.old.items → All (λ piece. 0 < length piece) full.new.items }
+/// What of a text is left after so many bytes.
+fn rest_of(shared: &Option<SharedText>, sent: usize) -> &[u8]
+    requires { sent ≤ length (text_of shared.now) }
+    ensures { result.now ≡ drop sent (text_of shared.now) }
 {
-    if last.len() < PIECE {
-        return Ok(());
-    }
-    full.try_reserve(1)?;
-    let whole = mem::replace(last, Bytes::new(alloc));
-    full.push_back_reserved(whole);
-    Ok(())
-}
-
-/// How many bytes the first piece has.
-fn first_len(full: &VecDeque<Bytes>, last: &Bytes) -> usize
-    ensures { result ≡ length (first_piece full.now.items last.now) }
-{
-    match full.front() {
-        Some(first) => first.len(),
-        None => last.len(),
+    match shared {
+        Some(text) => &text.as_slice()[sent..],
+        None => &[],
     }
 }
 
-/// Frees the first piece.
-fn free_first(alloc: Global, full: &mut VecDeque<Bytes>, last: &mut Bytes)
-    requires filled { All (λ piece. 0 < length piece) full.old.items }
-    ensures bytes { first_piece full.new.items last.new ++ after_first full.new.items last.new ≡ after_first full.old.items last.old }
-    ensures filled { All (λ piece. 0 < length piece) full.new.items }
+/// How many bytes a text has.
+fn length_of(shared: &Option<SharedText>) -> usize
+    ensures { result ≡ length (text_of shared.now) }
 {
-    if full.pop_front().is_none() {
-        *last = Bytes::new(alloc);
+    match shared {
+        Some(text) => text.as_slice().len(),
+        None => 0,
     }
 }
 
 impl Outgoing {
     /// No bytes.
     pub fn new(alloc: Global) -> Self
-        ensures { result ≡ nothing }
+        ensures { result ≡ nothing_leaves }
     {
         Outgoing {
             alloc,
-            full: VecDeque::new(alloc),
-            last: Bytes::new(alloc),
+            head: OwnBytes::new(alloc),
+            shared: None,
             sent: 0,
-            left: 0,
+            tail: OwnBytes::new(alloc),
         }
     }
 
-    /// How many bytes are left to send.
-    pub fn len(&self) -> usize
-        ensures { result ≡ length (bytes_of self.now) }
+    /// How many bytes are left to send, at most the greatest `u64`.
+    pub fn left(&self) -> u64
+        ensures { result ≡ moment (length self.now.bytes) }
     {
-        self.left
+        let shared = rest_of(&self.shared, self.sent).len() as u64;
+        let own = (self.head.len() as u64).saturating_add(self.tail.len() as u64);
+        own.saturating_add(shared)
+    }
+
+    /// How many of them are its own, at most the greatest `u64`.
+    pub fn owned(&self) -> u64
+        ensures { result ≡ moment self.now.own }
+    {
+        (self.head.len() as u64).saturating_add(self.tail.len() as u64)
+    }
+
+    /// The number of the text that it shares, and the length of that text: all bytes that are not its own are the text's.
+    pub fn shared(&self) -> Option<(u64, usize)>
+        ensures some { IfSome result (λ held. length self.now.bytes ≤ self.now.own + held.1) }
+        ensures none { IfNone result (length self.now.bytes ≡ self.now.own) }
+    {
+        match &self.shared {
+            Some(text) => Some((text.number(), text.as_slice().len())),
+            None => None,
+        }
     }
 
     /// Appends a front of the piece, and says how many bytes. It is empty only where the piece is. Where memory is refused,
@@ -101,42 +101,62 @@ impl Outgoing {
     pub fn put(&mut self, piece: &[u8]) -> Result<usize, OutOfMemory>
         ensures within { IfOk result (λ n. n ≤ length piece.now) }
         ensures some { IfOk result (λ n. n ≡ 0 → piece.now ≡ []) }
-        ensures ok { IfOk result (λ n. bytes_of self.new ≡ bytes_of self.old ++ take n piece.now) }
-        ensures err { OnErr result (bytes_of self.new ≡ bytes_of self.old) }
+        ensures ok { IfOk result (λ n. self.new.bytes ≡ self.old.bytes ++ take n piece.now) }
+        ensures own { IfOk result (λ n. self.new.own ≡ self.old.own + n) }
+        ensures err { OnErr result (self.new.bytes ≡ self.old.bytes) }
     {
-        seal(self.alloc, &mut self.full, &mut self.last)?;
-        let count = piece.len().min(PIECE - self.last.len());
-        let Some(left) = self.left.checked_add(count) else {
-            return Err(OutOfMemory);
-        };
-        self.last.append(&piece[..count])?;
-        self.left = left;
-        Ok(count)
+        self.tail.put(piece)
+    }
+
+    /// Appends a whole text, which is held and not copied, where none is held so far. It says whether it did. Where memory
+    /// is refused, nothing is appended.
+    pub fn put_shared(&mut self, text: &SharedText) -> Result<bool, OutOfMemory>
+        ensures taken { IfOk result (λ took. took ≡ true → self.new.bytes ≡ self.old.bytes ++ text.now) }
+        ensures own { IfOk result (λ took. took ≡ true → self.new.own ≡ self.old.own) }
+        ensures not { IfOk result (λ took. took ≡ false → self.new ≡ self.old) }
+        ensures err { OnErr result (self.new ≡ self.old) }
+    {
+        if self.shared.is_some() || self.head.len() > 0 {
+            return Ok(false);
+        }
+        let text = text.share()?;
+        self.head = mem::replace(&mut self.tail, OwnBytes::new(self.alloc));
+        self.shared = Some(text);
+        self.sent = 0;
+        Ok(true)
     }
 
     /// The bytes that are sent next: empty only where nothing is left.
     pub fn front(&self) -> &[u8]
-        ensures front { result.now ≡ self.now.front }
-        ensures some { result.now ≡ [] → self.now.rest ≡ [] }
+        ensures front { result.now ≡ take self.now.front self.now.bytes }
+        ensures size { length result.now ≡ self.now.front }
+        ensures some { result.now ≡ [] → self.now.bytes ≡ [] }
     {
-        match self.full.front() {
-            Some(first) => &first.as_slice()[self.sent..],
-            None => &self.last.as_slice()[self.sent..],
+        let head = self.head.front();
+        if !head.is_empty() {
+            return head;
         }
+        let shared = rest_of(&self.shared, self.sent);
+        if !shared.is_empty() {
+            return shared;
+        }
+        self.tail.front()
     }
 
     /// Says that so many bytes of the front are sent.
     pub fn advance(&mut self, count: usize)
-        requires { count ≤ length self.old.front }
-        ensures { bytes_of self.new ≡ drop count (bytes_of self.old) }
+        requires { count ≤ self.old.front }
+        ensures bytes { self.new.bytes ≡ drop count self.old.bytes }
+        ensures own { self.new.own ≤ self.old.own }
     {
-        self.left -= count;
-        let size = first_len(&self.full, &self.last);
-        if count < size - self.sent {
-            self.sent += count;
-        } else {
-            free_first(self.alloc, &mut self.full, &mut self.last);
-            self.sent = 0;
+        if !self.head.front().is_empty() {
+            self.head.advance(count);
+            return;
         }
+        if self.sent < length_of(&self.shared) {
+            self.sent += count;
+            return;
+        }
+        self.tail.advance(count);
     }
 }

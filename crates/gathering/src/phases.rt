@@ -11,8 +11,13 @@ pub enum Phase {
         /// Since when.
         since: u64,
     },
-    /// Its request is decided, its peer has ended, or its time has passed: it waits for its turn, or has it.
-    Decided,
+    /// Its request is decided, its peer has ended, or its time has passed: it waits for its turn.
+    Decided {
+        /// Since when.
+        since: u64,
+    },
+    /// It has its turn: it is handed out.
+    InTurn,
     /// Its answer is sent.
     Sending {
         /// Since when.
@@ -42,13 +47,14 @@ pub enum Ending {
     Fault,
 }
 
-/// The moment at which the time of a connection is up, at most the greatest `u64`. One that is decided has none.
+/// The moment at which the time of a connection is up, at most the greatest `u64`. One that has its turn has none.
 pub fn due_at(limits: &DoorLimits, phase: Phase) -> Option<u64>
     ensures { result ≡ deadline limits.now phase }
 {
     match phase {
         Phase::Gathering { since } => Some(since.saturating_add(limits.request)),
-        Phase::Decided => None,
+        Phase::Decided { since } => Some(since.saturating_add(limits.turn)),
+        Phase::InTurn => None,
         Phase::Sending {
             since,
             last,

@@ -1,5 +1,5 @@
 ghost use Rattle.std.specs.Prelude.{◌≡◌, [], OnOk, OnErr};
-ghost use Rattle.gathering.specs.Giving.{first, first_due, gives_way, cut_next, drop_next, place, put, without, with_its_phase, without_its_phase, entered, left, IsRow, AreInOrder, IsHalfEntered};
+ghost use Rattle.gathering.specs.Giving.{first, first_due, cut_next, drop_next, place, put, without, with_its_phase, without_its_phase, entered, left, IsRow, IsHalfEntered};
 
 use crate::phases::due_at;
 use crate::{DoorLimits, Phase};
@@ -15,11 +15,10 @@ pub struct Place {
     pub serial: u64,
 }
 
-/// The connections that are not decided, in rows: those past their answer and those that gather by when they began, those
-/// that are sent an answer by when a byte of it was last taken, and all by when their time is up. Each is named by its slot.
+/// The connections in rows: those that gather by when they began, those that are sent an answer by when a byte of it was last
+/// taken, and all that have a time by when it is up. Each is named by its slot.
 #[derive(Drop)]
 pub struct Rows {
-    past: BTreeMap<Place, usize>,
     gathering: BTreeMap<Place, usize>,
     sending: BTreeMap<Place, usize>,
     due: BTreeMap<Place, usize>,
@@ -31,13 +30,12 @@ impl Model for Rows {
     ghost Value = { Standing };
 
     ghost view = { λ r. record {
-      past = r.past.entries;
       gathering = r.gathering.entries;
       sending = r.sending.entries;
       due = r.due.entries;
     } };
 
-    ghost invariant = { λ r. IsRow r.past.entries × IsRow r.gathering.entries × IsRow r.sending.entries × IsRow r.due.entries };
+    ghost invariant = { λ r. IsRow r.gathering.entries × IsRow r.sending.entries × IsRow r.due.entries };
 }
 
 /// The slot at the first place of a row.
@@ -78,29 +76,13 @@ fn take_out(row: &mut BTreeMap<Place, usize>, at: u64, serial: u64)
 impl Rows {
     /// No connections.
     pub fn new(alloc: Global) -> Self
-        ensures { result ≡ record { past = []; gathering = []; sending = []; due = [] } }
+        ensures { result ≡ record { gathering = []; sending = []; due = [] } }
     {
         Rows {
-            past: BTreeMap::new(alloc),
             gathering: BTreeMap::new(alloc),
             sending: BTreeMap::new(alloc),
             due: BTreeMap::new(alloc),
         }
-    }
-
-    /// The connection that gives way where the house is full: one past its answer, else the one that has gathered longest, else
-    /// the one whose answer has had no byte taken for longest.
-    pub fn first_to_yield(&self) -> Option<usize>
-        ensures gives_way { result ≡ gives_way self.now }
-        ensures longest { AreInOrder self.now }
-    {
-        if let Some(slot) = first_of(&self.past) {
-            return Some(slot);
-        }
-        if let Some(slot) = first_of(&self.gathering) {
-            return Some(slot);
-        }
-        first_of(&self.sending)
     }
 
     /// Whose answer is cut next where so many bytes of answers wait: none where they are within their sum, else the one of
@@ -127,14 +109,16 @@ impl Rows {
 
     /// The connection that has gathered longest.
     pub fn first_gathering(&self) -> Option<usize>
-        ensures { result ≡ first self.now.gathering }
+        ensures first { result ≡ first self.now.gathering }
+        ensures longest { IsRow self.now.gathering }
     {
         first_of(&self.gathering)
     }
 
     /// The connection whose answer has had no byte taken for longest.
     pub fn first_sending(&self) -> Option<usize>
-        ensures { result ≡ first self.now.sending }
+        ensures first { result ≡ first self.now.sending }
+        ensures longest { IsRow self.now.sending }
     {
         first_of(&self.sending)
     }
@@ -155,9 +139,8 @@ impl Rows {
     {
         match phase {
             Phase::Gathering { since } => take_out(&mut self.gathering, since, serial),
-            Phase::Decided => {}
+            Phase::Decided { .. } | Phase::InTurn | Phase::Past { .. } => {}
             Phase::Sending { last, .. } => take_out(&mut self.sending, last, serial),
-            Phase::Past { since, .. } => take_out(&mut self.past, since, serial),
         }
     }
 
@@ -178,9 +161,8 @@ impl Rows {
     {
         match phase {
             Phase::Gathering { since } => put_in(&mut self.gathering, since, serial, slot),
-            Phase::Decided => Ok(()),
+            Phase::Decided { .. } | Phase::InTurn | Phase::Past { .. } => Ok(()),
             Phase::Sending { last, .. } => put_in(&mut self.sending, last, serial, slot),
-            Phase::Past { since, .. } => put_in(&mut self.past, since, serial, slot),
         }
     }
 

@@ -1,5 +1,5 @@
 ghost use Rattle.std.specs.Prelude.{◌≡◌};
-ghost use Rattle.gathering.specs.Connections.{answer_step, gathering_step, past_step, read_step, unless_due as ends_when_due, write_step};
+ghost use Rattle.gathering.specs.Connections.{answer_step, gathering_step, past_step, read_step, sending_read, turn_step, waiting_step, unless_due as ends_when_due, write_step};
 
 use crate::phases::is_due;
 use crate::{DoorLimits, Ending, Phase};
@@ -50,23 +50,35 @@ fn unless_due(limits: &DoorLimits, phase: Phase, now: u64) -> Step
     }
 }
 
+/// A turn for one of which so many bytes are gathered. One that has sent nothing is closed.
+fn turn_of(gathered: u64, ending: Ending) -> Step
+    ensures { result ≡ turn_step gathered ending }
+{
+    if gathered == 0 {
+        Step::Close
+    } else {
+        Step::HandOut(ending)
+    }
+}
+
 /// Of one whose request is gathered.
 fn after_gathering(
     limits: &DoorLimits,
     phase: Phase,
     heard: Heard,
     is_decided: bool,
+    gathered: u64,
     now: u64,
 ) -> Step
-    ensures { result ≡ gathering_step limits.now phase heard is_decided now }
+    ensures { result ≡ gathering_step limits.now phase heard is_decided gathered now }
 {
     match heard {
-        Heard::End => Step::HandOut(Ending::End),
-        Heard::Fault => Step::HandOut(Ending::Fault),
+        Heard::End => turn_of(gathered, Ending::End),
+        Heard::Fault => turn_of(gathered, Ending::Fault),
         Heard::Bytes(_) if is_decided => Step::HandOut(Ending::End),
         Heard::Bytes(_) | Heard::Nothing => {
             if is_due(limits, phase, now) {
-                Step::HandOut(Ending::Fault)
+                turn_of(gathered, Ending::Fault)
             } else {
                 Step::On(phase)
             }
@@ -74,35 +86,60 @@ fn after_gathering(
     }
 }
 
-/// What becomes of a connection whose socket was read at this moment or later. Of one whose request is gathered
-/// `is_decided` says whether the bytes so far decide it.
+/// Of one that waits for its turn: it ends where it has failed, or where its time is up.
+fn after_waiting(limits: &DoorLimits, phase: Phase, heard: Heard, now: u64) -> Step
+    ensures { result ≡ waiting_step limits.now phase heard now }
+{
+    match heard {
+        Heard::Fault => Step::Close,
+        Heard::Bytes(_) | Heard::End | Heard::Nothing => unless_due(limits, phase, now),
+    }
+}
+
+/// Of one that is sent its answer.
+fn after_sending(phase: Phase, heard: Heard) -> Step
+    ensures { result ≡ sending_read phase heard }
+{
+    let Phase::Sending {
+        since,
+        last,
+        taken,
+        ..
+    } = phase
+    else {
+        return Step::On(phase);
+    };
+    match heard {
+        Heard::Fault => Step::Close,
+        Heard::End => Step::On(Phase::Sending {
+            since,
+            last,
+            taken,
+            ended: true,
+        }),
+        Heard::Bytes(_) | Heard::Nothing => Step::On(phase),
+    }
+}
+
+/// What becomes of a connection whose socket was read at this moment or later. Of one whose request is gathered `gathered`
+/// says how many bytes of it came so far, those of this read too, and `is_decided` whether they decide it.
 pub fn after_read(
     limits: &DoorLimits,
     phase: Phase,
     heard: Heard,
     is_decided: bool,
+    gathered: u64,
     now: u64,
 ) -> Step
-    ensures { result ≡ read_step limits.now phase heard is_decided now }
+    ensures { result ≡ read_step limits.now phase heard is_decided gathered now }
 {
     match phase {
-        Phase::Gathering { .. } => after_gathering(limits, phase, heard, is_decided, now),
-        Phase::Decided => Step::On(phase),
-        Phase::Sending {
-            since,
-            last,
-            taken,
-            ..
-        } => match heard {
-            Heard::Fault => Step::Close,
-            Heard::End => Step::On(Phase::Sending {
-                since,
-                last,
-                taken,
-                ended: true,
-            }),
-            Heard::Bytes(_) | Heard::Nothing => Step::On(phase),
-        },
+        Phase::Gathering { .. } => {
+            after_gathering(limits, phase, heard, is_decided, gathered, now)
+        }
+        Phase::Decided { .. } => after_waiting(limits, phase, heard, now),
+        Phase::InTurn => Step::On(phase),
+        Phase::Sending { .. } => after_sending(phase, heard),
         Phase::Past { since, read } => match heard {
             Heard::End | Heard::Fault => Step::Close,
             Heard::Nothing => unless_due(limits, phase, now),

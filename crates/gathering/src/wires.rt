@@ -2,11 +2,11 @@ ghost use Rattle.std.specs.Prelude.{◌≡◌, ℕ, ◌≤◌, ◌<◌, ◌↔�
 ghost use Rattle.http_edge.specs.Requests.{NeedsMore};
 ghost use Rattle.sb_outside.specs.Outside.{Rose, GivesFront, AnswersEnd, raised, next_piece, appended};
 ghost use Rattle.sb_outside.specs.Connections.{pieces_of};
-ghost use Rattle.gathering.specs.Wires.{WireInHand, IsFreshWire, HasItsTurn, bytes_of};
+ghost use Rattle.gathering.specs.Wires.{WireInHand, IsFreshWire, HasItsTurn};
 
 use crate::{Ending, Gathered, Outgoing};
 use sb_model::Bytes;
-use sb_outside::{Failed, Sink, Source, Wire};
+use sb_outside::{Failed, SharedText, Sink, Source, Wire, write_all};
 use std::alloc::Global;
 use std::marker::Model;
 
@@ -32,7 +32,7 @@ pub struct GatheredWire {
 impl Model for GatheredWire {
     ghost use Rattle.std.specs.Prelude.{◌≡◌, ◌≤◌, [], drop, length, true, if◌then◌else◌};
     ghost use Rattle.sb_outside.specs.Connections.{pieces_of};
-    ghost use Rattle.gathering.specs.Wires.{WireInHand, bytes_of};
+    ghost use Rattle.gathering.specs.Wires.{WireInHand};
     ghost use Rattle.gathering.specs.declared.phases.Ending.{Ending};
 
     ghost Value = { WireInHand };
@@ -45,7 +45,7 @@ impl Model for GatheredWire {
       ended = s.ended;
       left = (if s.has_ended then [] else pieces_of (drop s.given s.gathered));
       ending = s.ending;
-      written = bytes_of s.written;
+      written = s.written.bytes;
       read_faults = s.read_faults;
       write_faults = s.write_faults;
     } };
@@ -116,6 +116,8 @@ impl GatheredWire {
         ensures turn { IfSome result HasItsTurn }
         ensures fresh { IfSome result (IsFreshWire number) }
         ensures bytes { IfSome result (λ wire. wire.sends ≡ gathered) }
+        ensures place { IfSome result (λ wire. (wire.slot ≡ slot) × (wire.serial ≡ serial)) }
+        ensures says { IfSome result (λ wire. (wire.ended ≡ ended) × (wire.ending ≡ ending)) }
         ensures none { IfNone result (NeedsMore gathered) }
     {
         let is_decided = gathered.is_decided();
@@ -143,7 +145,7 @@ impl GatheredWire {
 
     /// What was written to it, or `None` where a write failed.
     pub fn into_answer(self) -> Option<Outgoing>
-        ensures answer { IfSome result (λ answer. bytes_of answer ≡ self.written) }
+        ensures answer { IfSome result (λ answer. answer.bytes ≡ self.written) }
         ensures whole { IsSome result ↔ (self.write_faults ≡ 0) }
     {
         if self.write_faults == 0 {
@@ -254,4 +256,19 @@ impl Wire for GatheredWire {
     ghost back_is = { λ _. refl };
 
     ghost front_is = { λ _. refl };
+
+    // The first text is held and not copied. A further one is copied.
+    fn write_shared(&mut self, text: &SharedText) -> Result<(), Failed> {
+        if text.as_slice().is_empty() {
+            return Ok(());
+        }
+        match self.written.put_shared(text) {
+            Ok(true) => Ok(()),
+            Ok(false) => write_all(self, text.as_slice()),
+            Err(_) => {
+                self.write_faults = self.write_faults.saturating_add(1);
+                Err(Failed)
+            }
+        }
+    }
 }

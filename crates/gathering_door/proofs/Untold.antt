@@ -1,5 +1,5 @@
 -- What a door that tells nothing of what is to come says of the wire that it hands out.
-use Rattle.std.proofs.Common.{◌≡◌, ℕ, None, Some, List, [], ◌∷◌, refl, sym, ap, arith}
+use Rattle.std.proofs.Common.{ℕ, None, Some, refl, sym, ap, arith}
 use Rattle.sb_outside.specs.Connections.{TakesFirst, pieces_of}
 use Rattle.gathering.specs.Wires.{WireInHand, IsFreshWire}
 

@@ -131,7 +131,7 @@ impl<R: time::Clock> GatheringDoor<R> {
 
 impl<R: time::Clock + Drop> GatheringDoor<R> {
     /// Closes the port, ends without an answer what still gathers or waits for its turn, and sends what is left of answers
-    /// within the limits. It may wait until then.
+    /// within the limits. It may wait until then, and for no longer than the limits say.
     pub fn finish(self) {
         let GatheringDoor { rt, open, .. } = self;
         if let Some(open) = open {
@@ -149,8 +149,8 @@ impl<R: time::Clock + Drop> Door for GatheringDoor<R> {
 
     ghost coming = { λ _. None };
 
-    /// A connection is handed out once its request is decided, its peer has ended, it has failed, or its time has passed, in
-    /// the order in which that came.
+    /// A connection is handed out once its request is decided, or once its peer has ended, it has failed or its time has passed
+    /// after some bytes: first that of an address whose answers took least, and among these the one that waits longest.
     #[tactic(auto, using(crate::proofs::Untold::takes_first))]
     fn next(&mut self) -> Result<Option<GatheredWire>, Failed>
         ensures some { result ≢ Ok None }
@@ -212,7 +212,7 @@ impl<R: time::Clock + Drop> Door for GatheringDoor<R> {
         ensures unchanged { self.new ≡ self.old }
     {
         if let Some(open) = &mut self.open {
-            open.take_back(wire);
+            open.take_back(&self.rt, wire);
         }
     }
 }

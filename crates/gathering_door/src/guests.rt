@@ -1,4 +1,4 @@
-use gathering::{Ending, Gathered, Heard, Outgoing, Phase, Sent};
+use gathering::{Address, Candidate, Ending, Gathered, Heard, InLine, Outgoing, Phase, Sent};
 use mio::net::TcpStream;
 use mio::{Interest, Registry, Token};
 use sb_model::OutOfMemory;
@@ -23,7 +23,10 @@ pub(crate) enum Watch {
 pub(crate) struct Guest {
     pub(crate) stream: TcpStream,
     pub(crate) serial: u64,
+    pub(crate) address: Address,
     pub(crate) phase: Phase,
+    // since when it has its turn, in nanoseconds of all the time that passed
+    pub(crate) turn_began: u64,
     // what its peer has sent so far, while its request is gathered, and until it is handed out
     pub(crate) gathered: Option<Gathered>,
     // how many of these bytes count among all that are gathered
@@ -43,11 +46,24 @@ pub(crate) struct Guest {
     pub(crate) is_in_row: bool,
 }
 
+/// Whether a connection waits for its turn, or has it.
+pub(crate) fn is_held(phase: Phase) -> bool {
+    matches!(phase, Phase::Decided { .. } | Phase::InTurn)
+}
+
 impl Guest {
-    pub(crate) fn new(stream: TcpStream, serial: u64, gathered: Gathered, now: u64) -> Guest {
+    pub(crate) fn new(
+        stream: TcpStream,
+        address: Address,
+        serial: u64,
+        gathered: Gathered,
+        now: u64,
+    ) -> Guest {
         Guest {
             stream,
             serial,
+            address,
+            turn_began: 0,
             phase: Phase::Gathering { since: now },
             gathered: Some(gathered),
             held: 0,
@@ -66,14 +82,39 @@ impl Guest {
         match self.phase {
             Phase::Gathering { .. } | Phase::Past { .. } => self.can_read,
             Phase::Sending { .. } => self.can_read || self.can_write,
-            Phase::Decided => false,
+            Phase::Decided { .. } | Phase::InTurn => false,
+        }
+    }
+
+    /// Whether it waits for its turn, or has it.
+    pub(crate) fn is_held(&self) -> bool {
+        is_held(self.phase)
+    }
+
+    /// It stands in line since this moment.
+    pub(crate) fn in_line(&self, slot: usize, since: u64) -> InLine {
+        InLine {
+            slot,
+            serial: self.serial,
+            address: self.address,
+            since,
+        }
+    }
+
+    /// It may give way in a full house.
+    pub(crate) fn candidate(&self, slot: usize) -> Candidate {
+        Candidate {
+            slot,
+            serial: self.serial,
+            address: self.address,
+            phase: self.phase,
         }
     }
 
     /// What the system has to report of it: once a read has found nothing, what its peer sends, and once a write was refused,
     /// that more is taken. One that waits for its turn is not waited for.
     fn wanted(&self) -> Watch {
-        if self.phase == Phase::Decided {
+        if self.is_held() {
             return self.watch;
         }
         if !self.can_write {
@@ -130,6 +171,14 @@ impl Guest {
         }
     }
 
+    /// A look at the socket that reads nothing: whether the connection has failed. One whose peer only sends no more has not.
+    pub(crate) fn look(&self) -> Heard {
+        match self.stream.take_error() {
+            Ok(None) => Heard::Nothing,
+            Ok(Some(_)) | Err(_) => Heard::Fault,
+        }
+    }
+
     /// Takes what a read brought to what is gathered, and says whether it decides the request.
     pub(crate) fn gather(&mut self, piece: &[u8]) -> Result<bool, OutOfMemory> {
         match &mut self.gathered {
@@ -144,7 +193,15 @@ impl Guest {
     /// How many bytes of its answer are left to send.
     pub(crate) fn left(&self) -> u64 {
         match &self.answer {
-            Some(answer) => answer.len() as u64,
+            Some(answer) => answer.left(),
+            None => 0,
+        }
+    }
+
+    /// How many of them are its own, and not of a text that others share.
+    pub(crate) fn owned(&self) -> u64 {
+        match &self.answer {
+            Some(answer) => answer.owned(),
             None => 0,
         }
     }

@@ -1,10 +1,14 @@
 ghost use Rattle.std.specs.Prelude.{IfSome};
 ghost use Rattle.gathering.specs.Wires.{IsFreshWire, HasItsTurn};
 
-use crate::guests::Guest;
+use crate::answers::Answers;
+use crate::door_time::begun_millis;
+use crate::guests::{Guest, is_held};
+use crate::line::Line;
 use gathering::{
-    DoorLimits, Gathered, GatheredWire, Heard, Phase, Rows, Sent, Step, after_answer, after_read,
-    after_write,
+    Address, Candidate, Crowd, DoorLimits, Ending, Gathered, GatheredWire, Heard, HouseRoom,
+    InLine, Outgoing, Phase, Rows, Step, after_answer, after_no_room, after_read, after_write,
+    first_to_yield, risen, whole_room,
 };
 use mio::event::Event;
 use mio::net::TcpStream;
@@ -27,11 +31,17 @@ pub(crate) struct House {
     rows: Rows,
     // those whose sockets may have something, in order
     ready: VecDeque<usize>,
-    // those that wait for their turn, in order
-    decided: VecDeque<usize>,
-    // how many bytes are gathered, and how many of answers wait
+    // those that wait for their turn, and how many wait for it or have it
+    line: Line,
+    held: usize,
+    // how many connections of each address are open, and how many may be in all
+    crowd: Crowd,
+    room: HouseRoom,
+    // who may give way, while that is looked for
+    candidates: Vec<Candidate>,
+    // how many bytes are gathered, and the answers that wait
     gathered: u64,
-    outgoing: u64,
+    answers: Answers,
     // the number of the next connection that is admitted
     serial: u64,
     buffer: Vec<u8>,
@@ -45,9 +55,13 @@ impl House {
             guests: Slab::new(alloc),
             rows: Rows::new(alloc),
             ready: VecDeque::new(alloc),
-            decided: VecDeque::new(alloc),
+            line: Line::new(alloc),
+            held: 0,
+            crowd: Crowd::new(alloc),
+            room: whole_room(&limits),
+            candidates: Vec::new(alloc),
             gathered: 0,
-            outgoing: 0,
+            answers: Answers::new(alloc),
             serial: 0,
             buffer: Vec::from_elem(alloc, 0, READ_A_TURN)?,
         })
@@ -55,17 +69,18 @@ impl House {
 
     /// Whether no further connection may be open.
     fn is_full(&self) -> bool {
-        self.guests.len() >= self.limits.connections
+        let open = self.guests.len();
+        open >= self.room.most || open >= self.limits.connections
     }
 
     /// Whether a connection may be admitted: there is room, or one gives way.
     pub(crate) fn can_admit(&self) -> bool {
-        !self.is_full() || self.rows.first_to_yield().is_some()
+        !self.is_full() || self.held < self.guests.len()
     }
 
     /// Whether there is something to do without a wait.
     pub(crate) fn is_busy(&self) -> bool {
-        !self.ready.is_empty() || !self.decided.is_empty()
+        !self.ready.is_empty() || !self.line.is_empty()
     }
 
     /// When the time of some connection is up first.
@@ -76,36 +91,80 @@ impl House {
         }
     }
 
+    /// What passes with time: how many may be open rises, and the shares are halved.
+    pub(crate) fn pass_time(&mut self, now: u64) {
+        self.room = risen(&self.limits, self.room, now);
+        self.line.pass_time(now);
+    }
+
     /// Closes a connection.
     fn close(&mut self, slot: usize) {
         if let Some(guest) = self.guests.try_remove(slot) {
             self.rows.leave(&self.limits, guest.phase, guest.serial);
+            self.crowd.left(guest.address);
             self.gathered = self.gathered.saturating_sub(guest.held);
-            self.outgoing = self.outgoing.saturating_sub(guest.left());
+            if let Some(answer) = &guest.answer {
+                self.answers.leave(answer);
+            }
+            if guest.is_held() {
+                self.held = self.held.saturating_sub(1);
+                self.line.leave(guest.serial);
+            }
         }
     }
 
+    /// The slot of the connection that gives way, where there is one. All are looked at: this is for a full house.
+    fn first_to_yield(&mut self) -> Option<usize> {
+        self.candidates.clear();
+        for (slot, guest) in self.guests.iter() {
+            if self.candidates.push(guest.candidate(slot)).is_err() {
+                break;
+            }
+        }
+        let place = first_to_yield(&self.crowd, self.candidates.as_slice())?;
+        Some(self.candidates.get(place)?.slot)
+    }
+
     /// Closes the connection that gives way, where there is one.
-    pub(crate) fn give_way(&mut self) {
-        if let Some(slot) = self.rows.first_to_yield() {
+    fn give_way(&mut self) {
+        if let Some(slot) = self.first_to_yield() {
             self.close(slot);
         }
     }
 
-    /// Takes a connection in that came at this moment. Where it can be neither kept nor watched, it is closed.
-    pub(crate) fn admit(&mut self, stream: TcpStream, registry: &Registry, now: u64) {
+    /// The system has no room for a further connection: one gives way, and no more may be open than are left.
+    pub(crate) fn make_room(&mut self, now: u64) {
+        self.give_way();
+        self.room = after_no_room(self.guests.len(), now);
+    }
+
+    /// Keeps a connection that came at this moment. Where memory is refused for it, it is closed.
+    fn keep_guest(&mut self, stream: TcpStream, address: Address, now: u64) -> Option<usize> {
+        let gathered = Gathered::new(self.alloc).ok()?;
+        let serial = self.serial;
+        let guest = Guest::new(stream, address, serial, gathered, now);
+        let slot = self.guests.insert(guest).ok()?;
+        self.serial = serial.saturating_add(1);
+        Some(slot)
+    }
+
+    /// Takes a connection in that came from an address at this moment. Where it can be neither kept nor watched, it is closed.
+    pub(crate) fn admit(
+        &mut self,
+        stream: TcpStream,
+        address: Address,
+        registry: &Registry,
+        now: u64,
+    ) {
         if self.is_full() {
             self.give_way();
         }
-        let Ok(gathered) = Gathered::new(self.alloc) else {
+        if self.crowd.came(address).is_err() {
             return;
-        };
+        }
         let serial = self.serial;
-        self.serial = self.serial.saturating_add(1);
-        let Ok(slot) = self
-            .guests
-            .insert(Guest::new(stream, serial, gathered, now))
-        else {
+        let Some(slot) = self.keep_guest(stream, address, now) else {
+            self.crowd.left(address);
             return;
         };
         let phase = Phase::Gathering { since: now };
@@ -190,7 +249,8 @@ impl House {
         };
         match guest.phase {
             Phase::Gathering { .. } => self.gather(slot, now),
-            Phase::Decided => {}
+            Phase::Decided { .. } => self.after_heard(slot, Heard::Nothing, false, now),
+            Phase::InTurn => {}
             Phase::Sending { .. } => {
                 self.send(slot, now);
                 self.forget(slot, now);
@@ -259,8 +319,9 @@ impl House {
     /// What becomes of a connection after a read.
     fn after_heard(&mut self, slot: usize, heard: Heard, is_decided: bool, now: u64) {
         if let Some(guest) = self.guests.get(slot) {
-            let step = after_read(&self.limits, guest.phase, heard, is_decided, now);
-            self.settle(slot, step);
+            let gathered = guest.held;
+            let step = after_read(&self.limits, guest.phase, heard, is_decided, gathered, now);
+            self.settle(slot, step, now);
         }
     }
 
@@ -272,38 +333,56 @@ impl House {
         if !guest.can_write {
             return;
         }
-        let before = guest.left();
+        let before = guest.owned();
         let sent = guest.send();
-        let left = guest.left();
-        let step = after_write(&self.limits, guest.phase, sent, left, now);
-        self.outgoing = self.outgoing.saturating_sub(before.saturating_sub(left));
-        self.settle(slot, step);
+        self.answers.move_on(before, guest.owned());
+        let step = after_write(&self.limits, guest.phase, sent, guest.left(), now);
+        self.settle(slot, step, now);
+    }
+
+    /// Says to a peer that its answer is over, and reads on for a while.
+    fn rest(&mut self, slot: usize, phase: Phase) {
+        let Some(guest) = self.guests.get_mut(slot) else {
+            return;
+        };
+        if let Some(answer) = guest.answer.take() {
+            self.answers.leave(&answer);
+        }
+        if guest.stream.shutdown(Shutdown::Write).is_ok() {
+            self.move_to(slot, phase);
+        } else {
+            self.close(slot);
+        }
+    }
+
+    /// Puts a connection in line, whose reads answer this after its bytes.
+    fn line_up_for_turn(&mut self, slot: usize, ending: Ending, now: u64) {
+        self.move_to(slot, Phase::Decided { since: now });
+        let Some(guest) = self.guests.get_mut(slot) else {
+            return;
+        };
+        guest.ending = ending;
+        if self.line.push(guest.in_line(slot, now)).is_err() {
+            self.close(slot);
+        }
     }
 
     /// Carries out what becomes of a connection.
-    fn settle(&mut self, slot: usize, step: Step) {
+    fn settle(&mut self, slot: usize, step: Step, now: u64) {
         match step {
             Step::On(phase) => self.move_to(slot, phase),
             Step::Close => self.close(slot),
-            Step::Rest(phase) => {
-                let Some(guest) = self.guests.get(slot) else {
-                    return;
-                };
-                if guest.stream.shutdown(Shutdown::Write).is_ok() {
-                    self.move_to(slot, phase);
-                } else {
-                    self.close(slot);
-                }
-            }
-            Step::HandOut(ending) => {
-                self.move_to(slot, Phase::Decided);
-                if let Some(guest) = self.guests.get_mut(slot) {
-                    guest.ending = ending;
-                    if self.decided.push_back(slot).is_err() {
-                        self.close(slot);
-                    }
-                }
-            }
+            Step::Rest(phase) => self.rest(slot, phase),
+            Step::HandOut(ending) => self.line_up_for_turn(slot, ending, now),
+        }
+    }
+
+    /// Counts how many wait for their turn or have it.
+    fn count_held(&mut self, before: Phase, now: Phase) {
+        if is_held(now) && !is_held(before) {
+            self.held = self.held.saturating_add(1);
+        } else if is_held(before) && !is_held(now) {
+            self.held = self.held.saturating_sub(1);
         }
     }
 
@@ -316,54 +395,100 @@ impl House {
             return;
         }
         let serial = guest.serial;
-        self.rows.leave(&self.limits, guest.phase, serial);
+        let before = guest.phase;
         guest.phase = phase;
+        self.rows.leave(&self.limits, before, serial);
+        self.count_held(before, phase);
         if self.rows.enter(&self.limits, phase, serial, slot).is_err() {
             self.close(slot);
         }
     }
 
-    /// The connection whose turn it is, as a wire of this number.
-    pub(crate) fn hand_out(&mut self, number: u64) -> Option<GatheredWire>
+    /// Looks once more at a connection whose turn it is. It says whether it is still to have it.
+    fn is_to_have_turn(&self, one: &InLine, now: u64) -> bool {
+        match self.guests.get(one.slot) {
+            Some(guest) => {
+                let heard = guest.look();
+                let step = after_read(&self.limits, guest.phase, heard, false, guest.held, now);
+                step != Step::Close
+            }
+            None => false,
+        }
+    }
+
+    /// A connection in its turn, as a wire of this number.
+    fn wire_of(&mut self, one: &InLine, number: u64, passed: u64) -> Option<GatheredWire>
         ensures fresh { IfSome result (λ wire. IsFreshWire number wire) }
         ensures turn { IfSome result HasItsTurn }
     {
-        let slot = self.decided.pop_front()?;
-        let guest = self.guests.get_mut(slot)?;
+        self.move_to(one.slot, Phase::InTurn);
+        let guest = self.guests.get_mut(one.slot)?;
+        guest.turn_began = passed;
         let gathered = guest.gathered.take()?;
-        let serial = guest.serial;
         let (has_ended, ending) = (guest.has_ended, guest.ending);
-        let wire = GatheredWire::in_turn(
-            self.alloc, number, slot, serial, gathered, has_ended, ending,
-        );
-        if wire.is_none() {
-            self.close(slot);
-        }
-        wire
+        GatheredWire::in_turn(
+            self.alloc, number, one.slot, one.serial, gathered, has_ended, ending,
+        )
     }
 
-    /// Takes a connection back that had its turn, and sends what the system takes of its answer.
-    pub(crate) fn take_back(&mut self, wire: GatheredWire, registry: &Registry, now: u64) {
+    /// The next connection whose turn it is, as a wire of this number. Those that have failed, or waited for too long, are
+    /// closed. The moment is that of the door's clock, and so much time passed in all.
+    pub(crate) fn hand_out(&mut self, number: u64, now: u64, passed: u64) -> Option<GatheredWire>
+        ensures fresh { IfSome result (λ wire. IsFreshWire number wire) }
+        ensures turn { IfSome result HasItsTurn }
+    {
+        for _ in 0..self.line.len() {
+            let one = self.line.next()?;
+            if self.is_to_have_turn(&one, now)
+                && let Some(wire) = self.wire_of(&one, number, passed)
+            {
+                return Some(wire);
+            }
+            self.close(one.slot);
+        }
+        None
+    }
+
+    /// An answer waits to be sent.
+    fn begin_answer(&mut self, slot: usize, answer: Outgoing, now: u64) {
+        if self.answers.enter(&answer).is_err() {
+            self.close(slot);
+            return;
+        }
+        let Some(guest) = self.guests.get_mut(slot) else {
+            return;
+        };
+        let step = after_answer(answer.left(), guest.has_ended, now);
+        guest.answer = Some(answer);
+        self.settle(slot, step, now);
+    }
+
+    /// Takes a connection back that had its turn until so much time had passed in all, and sends what the system takes of its
+    /// answer.
+    pub(crate) fn take_back(
+        &mut self,
+        wire: GatheredWire,
+        registry: &Registry,
+        now: u64,
+        passed: u64,
+    ) {
         let slot = wire.slot();
         let serial = wire.serial();
         let answer = wire.into_answer();
         let Some(guest) = self.guests.get_mut(slot) else {
             return;
         };
-        if guest.serial != serial || guest.phase != Phase::Decided {
+        if guest.serial != serial || guest.phase != Phase::InTurn {
             return;
         }
+        let took = passed.saturating_sub(guest.turn_began);
+        self.line.took(guest.address, begun_millis(took));
         self.gathered = self.gathered.saturating_sub(guest.held);
         guest.held = 0;
-        guest.answer = answer;
-        if guest.answer.is_none() {
-            self.close(slot);
-            return;
+        match answer {
+            Some(answer) => self.begin_answer(slot, answer, now),
+            None => self.close(slot),
         }
-        let left = guest.left();
-        let step = after_answer(left, guest.has_ended, now);
-        self.outgoing = self.outgoing.saturating_add(left);
-        self.settle(slot, step);
         self.work(slot, registry, now);
         self.cut_answers();
     }
@@ -371,7 +496,7 @@ impl House {
     /// Closes those of whose answers no byte was taken for longest, until the answers hold their sum.
     fn cut_answers(&mut self) {
         for _ in 0..self.guests.len() {
-            match self.rows.first_to_cut(&self.limits, self.outgoing) {
+            match self.rows.first_to_cut(&self.limits, self.answers.bytes()) {
                 Some(slot) => self.close(slot),
                 None => return,
             }
@@ -386,9 +511,9 @@ impl House {
                 None => break,
             }
         }
-        for _ in 0..self.decided.len() {
-            if let Some(slot) = self.decided.pop_front() {
-                self.close(slot);
+        for _ in 0..self.line.len() {
+            if let Some(one) = self.line.next() {
+                self.close(one.slot);
             }
         }
     }

@@ -6,10 +6,12 @@
 pub use door::GatheringDoor;
 pub use why::DoorFault;
 
-mod asked_time;
+mod answers;
 mod door;
+mod door_time;
 mod guests;
 mod house;
+mod line;
 mod open;
 mod port;
 mod why;

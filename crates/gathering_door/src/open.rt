@@ -2,10 +2,10 @@ ghost use Rattle.std.specs.Prelude.{IfSome, IfOk};
 ghost use Rattle.gathering.specs.Wires.{IsFreshWire, HasItsTurn};
 
 use crate::DoorFault;
-use crate::asked_time::{AskedTime, system_millis};
+use crate::door_time::{DoorTime, system_millis};
 use crate::house::House;
 use crate::port::{PORT, Port};
-use gathering::{AcceptFault, DoorLimits, GatheredWire, accept_fault};
+use gathering::{AcceptFault, DoorLimits, GatheredWire, accept_fault, address_of};
 use mio::{Events, Poll};
 use sb_model::Moment;
 use std::alloc::Global;
@@ -16,15 +16,20 @@ use std::{io, time};
 /// How many connections are taken in one turn.
 const TAKEN_A_TURN: usize = 64;
 
-/// For how long the port rests where there was no room for a connection, in milliseconds.
+/// For how long the port rests where there was no room for a connection even after one gave way, in milliseconds.
 const PORT_REST: u64 = 100;
+
+/// How long one wait is at most while some connection has a time, in milliseconds. So all of it counts.
+const LONGEST_WAIT: u64 = 1_000;
 
 /// A port, and the connections that came in there.
 #[derive(Drop)]
 pub(crate) struct OpenDoor {
     port: Port,
     house: House,
-    time: AskedTime,
+    time: DoorTime,
+    // how long its end takes at most
+    finish: u64,
     // whether a connection may wait at the port, and until when the port rests
     may_accept: bool,
     rests_until: Option<u64>,
@@ -87,6 +92,18 @@ fn left_until(rt: &impl time::Clock, moment: Option<Moment>) -> Result<Option<u6
     }
 }
 
+/// How long a door waits next at its end: not at all where it is over.
+fn wait_at_end(house: &House, now: u64, end: u64) -> Option<u64> {
+    let due = house.first_due()?.min(end);
+    if now >= end {
+        return None;
+    }
+    if house.is_busy() {
+        return Some(0);
+    }
+    Some(due.saturating_sub(now).min(LONGEST_WAIT))
+}
+
 impl OpenDoor {
     /// A port at an address, and no connection.
     pub(crate) fn open<N: Net>(
@@ -105,7 +122,8 @@ impl OpenDoor {
         Ok(OpenDoor {
             port,
             house,
-            time: AskedTime::new(),
+            time: DoorTime::new(),
+            finish: limits.finish,
             may_accept: true,
             rests_until: None,
         })
@@ -115,26 +133,43 @@ impl OpenDoor {
         self.port.local_addr()
     }
 
-    /// Takes one connection that waits at the port.
-    fn accept_one(&mut self, now: u64) -> Result<(), DoorFault> {
-        let fault = match self.port.listener.accept() {
-            Ok((stream, _)) => {
-                self.house.admit(stream, self.port.poll.registry(), now);
-                return Ok(());
+    /// Takes one connection that waits at the port, or says why there is none.
+    fn try_accept(&mut self, now: u64) -> Result<Option<AcceptFault>, DoorFault> {
+        match self.port.listener.accept() {
+            Ok((stream, peer)) => {
+                let address = address_of(peer.ip());
+                let registry = self.port.poll.registry();
+                self.house.admit(stream, address, registry, now);
+                Ok(None)
             }
-            Err(e) => e,
-        };
-        match accept_fault(number_of(fault)) {
-            AcceptFault::NoneWaits => self.may_accept = false,
-            AcceptFault::OfOne => {}
-            AcceptFault::NoRoom => {
-                self.house.give_way();
+            Err(e) => match accept_fault(number_of(e)) {
+                AcceptFault::OfTheDoor => Err(DoorFault::system("takes no connections", e)),
+                other => Ok(Some(other)),
+            },
+        }
+    }
+
+    /// The same, and where the system has no room for it, once more after one gave way.
+    fn accept_in_turn(&mut self, now: u64) -> Result<Option<AcceptFault>, DoorFault> {
+        match self.try_accept(now) {
+            Ok(Some(AcceptFault::NoRoom)) => {
+                self.house.make_room(now);
+                self.try_accept(now)
+            }
+            other => other,
+        }
+    }
+
+    /// Takes one connection that waits at the port. Where there is still no room for it, the port rests.
+    fn accept_one(&mut self, now: u64) -> Result<(), DoorFault> {
+        match self.accept_in_turn(now) {
+            Ok(Some(AcceptFault::NoneWaits)) => self.may_accept = false,
+            Ok(Some(AcceptFault::NoRoom)) => {
                 self.may_accept = false;
                 self.rests_until = Some(now.saturating_add(PORT_REST));
             }
-            AcceptFault::OfTheDoor => {
-                return Err(DoorFault::system("takes no connections", fault));
-            }
+            Ok(_) => {}
+            Err(why) => return Err(why),
         }
         Ok(())
     }
@@ -166,7 +201,11 @@ impl OpenDoor {
         }
         let now = self.time.now();
         let due = until(self.house.first_due(), now);
-        shorter(left, shorter(due, until(self.rests_until, now)))
+        let longest = match due {
+            Some(wait) => Some(wait.min(LONGEST_WAIT)),
+            None => None,
+        };
+        shorter(left, shorter(longest, until(self.rests_until, now)))
     }
 
     /// One turn: it waits at most so many milliseconds, and works for each connection that has something.
@@ -181,6 +220,7 @@ impl OpenDoor {
         }
         self.time.look(rt);
         let now = self.time.now();
+        self.house.pass_time(now);
         self.accept_some(now)?;
         let registry = self.port.poll.registry();
         self.house.work_ready(registry, now);
@@ -198,11 +238,12 @@ impl OpenDoor {
         ensures fresh { IfOk result (λ next. IfSome next (λ wire. IsFreshWire number wire)) }
         ensures turn { IfOk result (λ next. IfSome next HasItsTurn) }
     {
-        self.time.begin();
         for _ in 0..u64::MAX {
             let left = left_until(rt, moment)?;
             self.turn(rt, left)?;
-            if let Some(wire) = self.house.hand_out(number) {
+            self.time.look(rt);
+            let (now, passed) = (self.time.now(), self.time.passed());
+            if let Some(wire) = self.house.hand_out(number, now, passed) {
                 return Ok(Some(wire));
             }
             if left == Some(0) {
@@ -213,18 +254,21 @@ impl OpenDoor {
     }
 
     /// Takes a connection back that had its turn.
-    pub(crate) fn take_back(&mut self, wire: GatheredWire) {
-        let now = self.time.now();
+    pub(crate) fn take_back(&mut self, rt: &impl time::Clock, wire: GatheredWire) {
+        self.time.look(rt);
+        let (now, passed) = (self.time.now(), self.time.passed());
         let registry = self.port.poll.registry();
-        self.house.take_back(wire, registry, now);
+        self.house.take_back(wire, registry, now, passed);
     }
 
-    /// Closes the port, ends what has no answer, and sends what is left of answers within the limits.
+    /// Closes the port, ends what has no answer, and sends what is left of answers within the limits, and for no longer than
+    /// an end takes.
     pub(crate) fn finish(self, rt: &impl time::Clock) {
         let OpenDoor {
             port,
             mut house,
             mut time,
+            finish,
             ..
         } = self;
         let Port {
@@ -234,16 +278,11 @@ impl OpenDoor {
         } = port;
         drop(listener);
         house.close_unanswered();
-        time.begin();
+        time.look(rt);
+        let end = time.now().saturating_add(finish);
         for _ in 0..u64::MAX {
-            let Some(due) = house.first_due() else {
+            let Some(wait) = wait_at_end(&house, time.now(), end) else {
                 return;
-            };
-            time.look(rt);
-            let wait = if house.is_busy() {
-                0
-            } else {
-                due.saturating_sub(time.now())
             };
             if wait_for_events(&mut poll, &mut events, &mut house, Some(wait)).is_err() {
                 return;

@@ -1,5 +1,5 @@
 use Rattle.gathering.proofs.Pieces.{sealed}
-use Rattle.gathering.proofs.outgoing.seal.Goals as goal
+use Rattle.gathering.proofs.own_bytes.seal.Goals as goal
 
 pub returns-clause-rest : goal.returns-clause-rest
 returns-clause-rest c =

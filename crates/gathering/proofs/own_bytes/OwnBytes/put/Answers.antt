@@ -1,7 +1,7 @@
 use Rattle.std.proofs.Common.{◌≡◌, ◌+◌, length, take, arith}
 use Rattle.std.proofs.lemmas.List.{length-take-le}
 use Rattle.gathering.proofs.Pieces.{put_sealed, put_sealed_bytes}
-use Rattle.gathering.proofs.outgoing.Outgoing.put.Goals as goal
+use Rattle.gathering.proofs.own_bytes.OwnBytes.put.Goals as goal
 
 pub invariant_of-self-2 : goal.invariant_of-self-2
 invariant_of-self-2 c =
