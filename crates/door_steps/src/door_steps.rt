@@ -1,19 +1,21 @@
+use crate::common::{lend, make_common};
 use crate::gate::now;
-use crate::groups::serve_all;
+use crate::groups::{answer_all, serve_all, take_all};
 use crate::limits::{SHORT, limits_of};
 use crate::outcome::Outcome;
 use crate::seen::Turn;
 use crate::stage::Stage;
 use crate::step::Step;
 use crate::together::quick;
+use gathering::DoorLimits;
 use std::net::SocketAddr;
 use std::time::Duration;
 use std::{fs, thread};
 
 /// A door for the steps that follow. All peers leave.
-fn open(stage: &mut Stage<'_>, step: &Step<'_>) -> Outcome {
+fn open(stage: &mut Stage<'_>, step: &Step<'_>, address: &str) -> Outcome {
     stage.row.clear();
-    Outcome::Truth(stage.gate.open("127.0.0.1:0", limits_of(step)))
+    Outcome::Truth(stage.gate.open(address, limits_of(step)))
 }
 
 /// Whether a door has the address that it was given, and no other.
@@ -51,6 +53,17 @@ fn time_at_work(rt: &HostRuntime) -> Option<u64> {
     Some(total)
 }
 
+/// Notes the time.
+fn note_time(stage: &mut Stage<'_>) -> Outcome {
+    stage.noted = now(stage.rt);
+    Outcome::Done
+}
+
+/// Whether less than so many milliseconds passed since then.
+fn is_soon(stage: &Stage<'_>, limit: u64) -> Outcome {
+    Outcome::Truth(now(stage.rt).saturating_sub(stage.noted) < limit)
+}
+
 /// Notes the time at work.
 fn note_work(stage: &mut Stage<'_>) -> Outcome {
     match time_at_work(stage.rt) {
@@ -86,6 +99,11 @@ fn run_of_turns(stage: &mut Stage<'_>, step: &Step<'_>) -> Option<Outcome> {
         "take" => take(stage, step.word(0)),
         "answer" => word(stage.gate.answer(step.peer(0), step.number(1))),
         "handed" => Outcome::Handed(stage.gate.seen),
+        "takes" => Outcome::Count(take_all(stage, number)),
+        "answers" => {
+            Outcome::Count(answer_all(stage, step.peer(0), step.peer(1), step.number(2)))
+        }
+        "lend" => word(lend(stage, step.peer(0))),
         "quick" => Outcome::Count(quick(stage, number)),
         _ => return None,
     })
@@ -110,7 +128,12 @@ fn is_within(stage: &Stage<'_>, low: u64, high: u64) -> Outcome {
 pub(crate) fn run_of_door(stage: &mut Stage<'_>, step: &Step<'_>) -> Option<Outcome> {
     let number = step.number(0);
     Some(match step.name {
-        "door" => open(stage, step),
+        "door" => open(stage, step, "127.0.0.1:0"),
+        "wide" => open(stage, step, "[::]:0"),
+        "standard" => Outcome::Limits(DoorLimits::STANDARD),
+        "common" => make_common(stage, step.peer(0), step.number(1)),
+        "note" => note_time(stage),
+        "soon" => is_soon(stage, number),
         "binds" => binds(stage, step.word(0)),
         "finish" => finish(stage),
         "sleep" => sleep(stage, number),

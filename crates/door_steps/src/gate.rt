@@ -4,7 +4,7 @@ use gathering::{DoorLimits, GatheredWire};
 use gathering_door::GatheringDoor;
 use real_objects::SystemClock;
 use sb_model::Moment;
-use sb_outside::{Arrival, Clock, Door, write_all};
+use sb_outside::{Arrival, Clock, Door, SharedText, Wire, write_all};
 use std::net::SocketAddr;
 
 /// A wire that was handed out and has no answer yet.
@@ -181,15 +181,37 @@ impl<'a> Gate<'a> {
         None
     }
 
-    /// Answers a wire that was kept with so many bytes.
-    pub(crate) fn answer(&mut self, number: u8, length: u64) -> Turn {
-        let Some(place) = self.place_of(number) else {
+    /// Takes the wire of a number out of those that wait for their answers.
+    fn take_held(&mut self, number: u8) -> Option<Held> {
+        let place = self.place_of(number)?;
+        if place < self.held.len() {
+            Some(self.held.remove(place))
+        } else {
+            None
+        }
+    }
+
+    /// Answers a wire that was kept with a text that others may share.
+    pub(crate) fn lend(&mut self, number: u8, text: &SharedText) -> Turn {
+        let Some(Held { mut wire, .. }) = self.take_held(number) else {
             return Turn::Nobody;
         };
-        if place >= self.held.len() {
-            return Turn::Nobody;
+        let is_written = write_all(&mut wire, GOOD).is_ok() && wire.write_shared(text).is_ok();
+        if let Some(door) = &mut self.door {
+            door.done(wire);
         }
-        let Held { wire, seen } = self.held.remove(place);
-        self.give_back(wire, seen, length)
+        if is_written {
+            Turn::Answered
+        } else {
+            Turn::Failed
+        }
+    }
+
+    /// Answers a wire that was kept with so many bytes.
+    pub(crate) fn answer(&mut self, number: u8, length: u64) -> Turn {
+        match self.take_held(number) {
+            Some(Held { wire, seen }) => self.give_back(wire, seen, length),
+            None => Turn::Nobody,
+        }
     }
 }

@@ -18,6 +18,50 @@ pub(crate) fn connect_all(stage: &mut Stage<'_>, first: u8, last: u8) -> Outcome
     Outcome::Done
 }
 
+/// The peers of some numbers come over IPv4.
+pub(crate) fn connect_all_by_four(stage: &mut Stage<'_>, first: u8, last: u8) -> Outcome {
+    for number in first..=last {
+        let made = stage.connect_by_four(number);
+        if made.is_failure() {
+            return made;
+        }
+    }
+    Outcome::Done
+}
+
+/// The peers of some numbers ask with bodies of so many bytes.
+pub(crate) fn post_all(stage: &mut Stage<'_>, first: u8, last: u8, length: u64) -> Outcome {
+    for number in first..=last {
+        let made = stage.post(number, length);
+        if made.is_failure() {
+            return made;
+        }
+    }
+    Outcome::Done
+}
+
+/// How many requests of so many turns are taken whole and kept.
+pub(crate) fn take_all(stage: &mut Stage<'_>, count: u64) -> u64 {
+    let mut total = 0u64;
+    for _ in 0..count {
+        if stage.gate.take(Some(PATIENCE)) == Turn::Taken {
+            total = total.saturating_add(1);
+        }
+    }
+    total
+}
+
+/// How many of the kept ones whose targets are some numbers are answered with so many bytes, the last first.
+pub(crate) fn answer_all(stage: &mut Stage<'_>, first: u8, last: u8, length: u64) -> u64 {
+    let mut total = 0u64;
+    for back in 0..=last.saturating_sub(first) {
+        if stage.gate.answer(last.saturating_sub(back), length) == Turn::Answered {
+            total = total.saturating_add(1);
+        }
+    }
+    total
+}
+
 /// The peers of some numbers ask.
 pub(crate) fn ask_all(stage: &mut Stage<'_>, first: u8, last: u8) -> Outcome {
     for number in first..=last {

@@ -5,6 +5,7 @@ use gathering::DoorLimits;
 pub(crate) const SHORT: DoorLimits = DoorLimits {
     connections: 32,
     request: 2_000,
+    turn: 30_000,
     stall: 600,
     answer: 60_000,
     bytes_a_second: 100_000,
@@ -12,6 +13,7 @@ pub(crate) const SHORT: DoorLimits = DoorLimits {
     rest_bytes: 65_536,
     gathered_bytes: 1_048_576,
     answer_bytes: 67_108_864,
+    finish: 10_000,
 };
 
 /// The same, but with times that nothing here passes.
@@ -28,10 +30,12 @@ fn with_limit(limits: DoorLimits, name: &str, value: u64) -> DoorLimits {
     match name {
         "connections" => limits.connections = usize::try_from(value).unwrap_or(0),
         "request" => limits.request = value,
+        "turn" => limits.turn = value,
         "stall" => limits.stall = value,
         "answer" => limits.answer = value,
         "gathered_bytes" => limits.gathered_bytes = value,
         "answer_bytes" => limits.answer_bytes = value,
+        "finish" => limits.finish = value,
         _ => {}
     }
     limits

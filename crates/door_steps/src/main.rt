@@ -7,6 +7,7 @@ use stage::Stage;
 use std::process::ExitCode;
 use step::Step;
 
+mod common;
 mod door_steps;
 mod gate;
 mod groups;

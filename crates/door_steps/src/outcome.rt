@@ -1,4 +1,5 @@
 use crate::seen::Seen;
+use gathering::DoorLimits;
 use std::{fmt, io};
 
 /// What a step came to.
@@ -14,6 +15,8 @@ pub(crate) enum Outcome {
     Handed(Seen),
     /// How what came back compares: how many bytes were to come and came, and where they first differ.
     Compared(u64, u64, Option<u64>),
+    /// Limits of a door.
+    Limits(DoorLimits),
     Cannot(&'static str),
     Fault(io::Error),
 }
@@ -60,6 +63,25 @@ fn write_compared<W: fmt::Write>(
     }
 }
 
+/// Writes limits by their names.
+fn write_limits<W: fmt::Write>(f: &mut fmt::Formatter<W>, limits: &DoorLimits) -> fmt::Result {
+    let (connections, bytes_a_second) = (limits.connections, limits.bytes_a_second);
+    write!(f, "connections={connections} request={}", limits.request)?;
+    write!(f, " turn={} stall={}", limits.turn, limits.stall)?;
+    write!(
+        f,
+        " answer={} bytes_a_second={bytes_a_second}",
+        limits.answer
+    )?;
+    write!(f, " rest={} rest_bytes={}", limits.rest, limits.rest_bytes)?;
+    write!(f, " gathered_bytes={}", limits.gathered_bytes)?;
+    write!(
+        f,
+        " answer_bytes={} finish={}",
+        limits.answer_bytes, limits.finish
+    )
+}
+
 impl fmt::Display for Outcome {
     fn fmt<W: fmt::Write>(&self, f: &mut fmt::Formatter<W>) -> fmt::Result {
         match self {
@@ -70,6 +92,7 @@ impl fmt::Display for Outcome {
             Outcome::Numbers(bits) => write_numbers(f, *bits),
             Outcome::Handed(seen) => write!(f, "{seen}"),
             Outcome::Compared(wanted, got, differs) => write_compared(f, *wanted, *got, *differs),
+            Outcome::Limits(limits) => write_limits(f, limits),
             Outcome::Cannot(cause) => write!(f, "cannot: {cause}"),
             Outcome::Fault(fault) => write!(f, "cannot: {fault}"),
         }

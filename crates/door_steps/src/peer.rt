@@ -21,6 +21,8 @@ pub(crate) struct Peer {
     stream: TcpStream,
     pub(crate) number: u8,
     sent: u64,
+    // the number whose answer is to come
+    pub(crate) answered_as: u8,
     status: Option<&'static str>,
     pub(crate) got: u64,
     pub(crate) differs: Option<u64>,
@@ -43,6 +45,7 @@ impl Peer {
             stream,
             number,
             sent: 0,
+            answered_as: number,
             status: None,
             got: 0,
             differs: None,
@@ -111,7 +114,7 @@ impl Peer {
     /// Compares what came with what was to come.
     fn compare(&mut self, piece: &[u8]) {
         if self.differs.is_none() {
-            self.differs = difference(piece, answer_tag(self.number), self.got);
+            self.differs = difference(piece, answer_tag(self.answered_as), self.got);
         }
         self.got = self.got.saturating_add(piece.len() as u64);
     }

@@ -26,10 +26,17 @@ fn read_pieces(peer: &mut Peer, pieces: u64) -> Outcome {
     Outcome::Done
 }
 
+/// What comes to a peer is to be the answer to another number.
+fn read_as(peer: &mut Peer, number: u8) -> Outcome {
+    peer.answered_as = number;
+    Outcome::Done
+}
+
 /// A step of one peer that is there.
 pub(crate) fn run_of_one(peer: &mut Peer, step: &Step<'_>) -> Option<Outcome> {
     Some(match step.name {
         "fill" => Outcome::of(peer.fill(step.number(1))),
+        "as" => read_as(peer, step.peer(1)),
         "half" => Outcome::of(peer.half()),
         "status" => Outcome::Word(peer.status()),
         "read" => read_pieces(peer, step.number(1)),

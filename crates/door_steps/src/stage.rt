@@ -3,7 +3,9 @@ use crate::outcome::Outcome;
 use crate::peer::Peer;
 use crate::row::Row;
 use sb_model::OutOfMemory;
+use sb_outside::SharedText;
 use std::fs::{self, File};
+use std::net::{Ipv4Addr, Ipv6Addr, SocketAddr};
 
 /// The target of the request of a peer is its number.
 pub(crate) const NO_PEER: Outcome = Outcome::Cannot("no such peer");
@@ -17,6 +19,9 @@ pub(crate) struct Stage<'a> {
     // the time at work when it was looked at, and how many pieces were sent last
     pub(crate) work: u64,
     pub(crate) pieces: u64,
+    // when it was looked at, and the text that several answers share
+    pub(crate) noted: u64,
+    pub(crate) common: Option<SharedText>,
     files: Vec<File>,
 }
 
@@ -29,15 +34,41 @@ impl<'a> Stage<'a> {
             row,
             work: 0,
             pieces: 0,
+            noted: 0,
+            common: None,
             files: Vec::new(rt.alloc()),
         })
     }
 
-    /// A peer comes in the place of its number.
+    /// A peer comes in the place of its number, over the protocol of the door's address.
     pub(crate) fn connect(&mut self, number: u8) -> Outcome {
-        let Some(address) = self.gate.address() else {
-            return Outcome::Cannot("no address");
-        };
+        match self.gate.address() {
+            Some(SocketAddr::V6(there)) => {
+                self.connect_to(
+                    SocketAddr::from((Ipv6Addr::LOCALHOST, there.port())),
+                    number,
+                )
+            }
+            Some(there) => self.connect_to(there, number),
+            None => Outcome::Cannot("no address"),
+        }
+    }
+
+    /// A peer comes over IPv4.
+    pub(crate) fn connect_by_four(&mut self, number: u8) -> Outcome {
+        match self.gate.address() {
+            Some(there) => {
+                self.connect_to(
+                    SocketAddr::from((Ipv4Addr::LOCALHOST, there.port())),
+                    number,
+                )
+            }
+            None => Outcome::Cannot("no address"),
+        }
+    }
+
+    /// A peer comes to an address in the place of its number.
+    fn connect_to(&mut self, address: SocketAddr, number: u8) -> Outcome {
         match Peer::connect(self.rt, address, number) {
             Ok(peer) => self.row.set(number, Some(peer)),
             Err(e) => Outcome::Fault(e),
@@ -58,6 +89,24 @@ impl<'a> Stage<'a> {
         match made {
             Ok(request) => self.write(number, request.as_str().as_bytes()),
             Err(_) => Outcome::Cannot("out of memory"),
+        }
+    }
+
+    /// A peer asks, with its number as the target and so many bytes of its own as the body.
+    pub(crate) fn post(&mut self, number: u8, length: u64) -> Outcome {
+        let made = format!(in self.rt.alloc();
+            "POST /{number} HTTP/1.1\r\nContent-Length: {length}\r\n\r\n"
+        );
+        let written = match made {
+            Ok(head) => self.write(number, head.as_str().as_bytes()),
+            Err(_) => return Outcome::Cannot("out of memory"),
+        };
+        if written.is_failure() {
+            return written;
+        }
+        match self.row.get(number) {
+            Some(peer) => Outcome::of(peer.fill(length)),
+            None => NO_PEER,
         }
     }
 

@@ -1,5 +1,7 @@
 use crate::door_steps::run_of_door;
-use crate::groups::{ask_all, closed_ones, connect_all, good_ones, is_closed};
+use crate::groups::{
+    ask_all, closed_ones, connect_all, connect_all_by_four, good_ones, is_closed, post_all,
+};
 use crate::outcome::Outcome;
 use crate::peer_steps::{as_much, reset, run_of_one, trickle_text, write_text};
 use crate::stage::Stage;
@@ -12,6 +14,9 @@ fn run_of_peers(stage: &mut Stage<'_>, step: &Step<'_>) -> Option<Outcome> {
     Some(match step.name {
         "peer" => stage.connect(one),
         "ask" => stage.ask(one),
+        "four" => stage.connect_by_four(one),
+        "fours" => connect_all_by_four(stage, one, step.peer(1)),
+        "posts" => post_all(stage, one, step.peer(1), step.number(2)),
         "peers" => connect_all(stage, one, step.peer(1)),
         "asks" => ask_all(stage, one, step.peer(1)),
         "text" => write_text(stage, one, step.text(1)),
