@@ -4,7 +4,6 @@ use Rattle.std.specs.Prelude.{option_and_then, ◌&&◌, if◌then◌else◌, sl
 use Rattle.std.specs.Str.{bytes_eq}
 use Rattle.std.proofs.lemmas.Slice.Eq.{bytes_eq-Decides}
 use Rattle.sb_words.specs.CommandLine.{Text, Given, CommandShape, given_of}
-use Rattle.delta_server.specs.declared.answering.Settings.{Settings}
 use Rattle.sb_service.specs.declared.command.Command.{Command}
 use Rattle.sb_service.specs.declared.command.Command.TheVariants.{Answer, Serve, Generate, Exercise}
 use Rattle.sb_service.specs.declared.command.GenerateLine.{GenerateLine}

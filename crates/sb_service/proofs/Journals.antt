@@ -139,7 +139,7 @@ not_refused law pieces n status before after none at other stop =
 not_lined : (number : ℕ) (how : ConnectionEnd) (status : ℕ) (held held' : Option (List ℕ)) → IsOther status → status ≢ 0 → IsLined number how status held held' → ⊥
 not_lined number how status held held' other some (inl line) = some line.0
 not_lined number how status held held' other some (inr (inl cut)) = other.no_write cut.0
-not_lined number how status held held' other some (inr (inr silent)) = other.no_memory silent.ends
+not_lined number how status held held' other some (inr (inr silent)) = other.no_memory silent.1.ends
 
 no_last_turn : CutsLaw → (pieces : List (List ℕ)) (n : ℕ) (times : Settings) (number status : ℕ) (before after : Seen) → HasNoBadLine pieces → IsAfter pieces n before.left before.kept → IsOther status → status ≢ 0
     → IsTurn times number status before after → ⊥

@@ -164,6 +164,21 @@ module _ (history : History) (times : Settings) (request : HttpRequest) where
       go true here = of_wishes limits law message wishes text reads wish (found_at (IsKeptOf history times) (λ (answer : KeptAnswer). has_wishes wishes answer.wishes) kept.whole text are.whole here)
       go false here = of_wishes limits law message wishes text reads wish (found_at (IsKeptOf history times) (λ (answer : KeptAnswer). has_wishes wishes answer.wishes) kept.others text are.others here)
 
+-- ---- what is kept of a text
+
+-- a written text that was shared and kept
+pub kept_written : (asked : List ℕ) (wishes : Option (List Wish)) (response : Response) (text shared : List ℕ) (before between after : KeptLists) → response.status ≡ Success
+    → text ≡ response_text response.status response.allow response.body → shared ≡ text → between ≡ before
+    → HasKeptIn (record { asked = asked; wishes = wishes; text = shared }) (is_for_whole wishes) between after → MayBeKept asked wishes response before after
+kept_written asked wishes response text shared before between after success whole is same has =
+    let made : List ℕ → KeptAnswer = λ t. record { asked = asked; wishes = wishes; text = t } in
+    let written : List ℕ = response_text response.status response.allow response.body in
+    inr (
+      success,
+      subst (λ (b : KeptLists). HasKeptIn (made written) (is_for_whole wishes) b after) same
+          (subst (λ (t : List ℕ). HasKeptIn (made t) (is_for_whole wishes) between after) (is ∙ whole) has),
+    )
+
 -- ---- what was asked for goes behind the others
 
 module _ (history : History) (times : Settings) where
@@ -252,6 +267,12 @@ module _ (history : History) (times : Settings) where
       → IsRightAnswer (IsResponseAt history times 0 request) sent
   sent_right request response (answer.Made made) is right = subst (λ (r : Response). IsResponseAt history times 0 request r.status r.allow r.body) (sym is) right
   sent_right request response (answer.Written written) is right = record {
+    allow = response.allow;
+    body = response.body;
+    right = subst (λ (s : Status). IsResponseAt history times 0 request s response.allow response.body) (sym is.0) right;
+    whole = is.1 ∙ ap (λ (s : Status). response_text s response.allow response.body) (sym is.0);
+  }
+  sent_right request response (answer.Shared shared) is right = record {
     allow = response.allow;
     body = response.body;
     right = subst (λ (s : Status). IsResponseAt history times 0 request s response.allow response.body) (sym is.0) right;

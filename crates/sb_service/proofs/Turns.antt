@@ -1,5 +1,5 @@
 -- One more turn, and the end of a run.
-use Rattle.std.proofs.Common.{◌≡◌, ◌≢◌, ◌+◌, ◌≤◌, inl, inr, ℕ, false, List, [], ◌∷◌, ◌++◌, length, refl, sym, ap, ◌∙◌, subst, Option, Some, None, append_assoc, arith}
+use Rattle.std.proofs.Common.{◌≡◌, ◌+◌, ◌≤◌, inl, inr, ℕ, false, List, [], ◌∷◌, ◌++◌, length, refl, sym, ap, ◌∙◌, subst, Option, Some, None, append_assoc, arith}
 use Rattle.std.specs.Prelude.{IfSome, Err, option_map}
 use Rattle.std.proofs.lemmas.List.{append-nil}
 use Rattle.sb_outside.specs.Outside.{GivesFront, IfTold, appended, with_entry}
@@ -10,7 +10,6 @@ use Rattle.http_serving.specs.Serving.{IsServed}
 use Rattle.sb_service.specs.Connection.{IsResponseTo}
 use Rattle.sb_service.specs.Serving.{IsTaken, pieces_of, AreServed, Turn, Seen, HasTurns, HasGrown, IsTurn, IsLined, IsRefusal, lines_of, with_entries, HasRun, IsServeRun, StopsAt}
 use Rattle.http_serving.specs.declared.ends.ConnectionEnd.{ConnectionEnd}
-use Rattle.http_serving.specs.declared.ends.ConnectionEnd.TheVariants as end
 use Rattle.list_versions.specs.declared.fault.JournalFault.{JournalFault}
 use Rattle.list_versions.specs.declared.fault.JournalFault.TheVariants as journal
 
@@ -36,7 +35,6 @@ pub no_turn : (times : Settings) (at : Seen) → HasTurns times [] at at
 no_turn times at = record {
   gains = refl;
   grows = refl;
-  told = tt;
   printed = held_nothing at.held;
   came = none_came at.coming;
   logged = told_itself at.log;
@@ -68,10 +66,10 @@ between_told between None entry P Q h p q = tt
 between_told None (Some told) entry P Q h p q = absurd (cc)
 between_told (Some entries) (Some told) entry P Q h p q = (q, p)
 
-not_ended : (number : ℕ) (how : ConnectionEnd) (held held' : Option (List ℕ)) → IsLined number how 0 held held' → (how ≢ end.OutOfMemory) × (held' ≡ appended held (connection_line number how))
-not_ended number how held held' (inl is) = (is.1, is.2)
+not_ended : (number : ℕ) (how : ConnectionEnd) (held held' : Option (List ℕ)) → IsLined number how 0 held held' → held' ≡ appended held (connection_line number how)
+not_ended number how held held' (inl is) = is.1
 not_ended number how held held' (inr (inl is)) = absurd (omega (arith, is.0))
-not_ended number how held held' (inr (inr is)) = absurd (omega (arith, is.ends))
+not_ended number how held held' (inr (inr is)) = absurd (omega (arith, is.1.ends))
 
 goes_on : (fault : JournalFault) (held held' : Option (List ℕ)) → IsRefusal fault 0 held held' → ⊥
 goes_on fault held held' (inl is) = omega (arith, is.ends)
@@ -101,9 +99,8 @@ grown_more times number turns first before after count so_far grown =
     let line = not_ended number grown.told.how before.held after.held grown.told.lined in record {
       gains = (before.left, so_far.gains, grown.gives);
       grows = (before.kept, so_far.grows, grown.grows, refl);
-      told = (line.0, so_far.told);
       printed = held_twice first.held before.held after.held (lines_of turns) (connection_line (length turns + 1) grown.told.how) so_far.printed
-          (subst (λ (n : ℕ). after.held ≡ appended before.held (connection_line n grown.told.how)) (sym count) line.1);
+          (subst (λ (n : ℕ). after.held ≡ appended before.held (connection_line n grown.told.how)) (sym count) line);
       came = came_twice first.coming before.coming after.coming (pieces_of turns) grown.pieces so_far.came grown.taken;
       logged = told_twice (with_entries first.log turns) before.log after.log grown.told.logged.entry so_far.logged grown.told.logged.logged;
       served = between_told before.log after.log grown.told.logged.entry (AreServed times turns) (IsServed (IsResponseTo after.kept.versions times) grown.told.how grown.pieces grown.told.logged.entry)

@@ -1,5 +1,5 @@
 -- The command lines that the server takes.
-use Rattle.std.specs.Prelude.{◌≡◌, ⊤, ℕ, Bool, true, false, ◌&&◌, if◌then◌else◌, List, [], ◌∷◌, Option, Some, None, is_some, option_map, option_and_then, codes}
+use Rattle.std.specs.Prelude.{◌≡◌, ⊤, ℕ, true, false, ◌&&◌, if◌then◌else◌, List, [], ◌∷◌, Option, Some, None, is_some, option_map, option_and_then, codes}
 use Rattle.std.specs.Str.{bytes_eq}
 use Rattle.sb_words.specs.declared.shape.OptionKind.TheVariants.{Needed, Optional, Flag}
 use Rattle.sb_words.specs.CommandLine.{Text, CommandOption, CommandShape, Given, given_of, value_among}
@@ -7,6 +7,7 @@ use Rattle.sb_words.specs.Values.{number_of, listen_address_of}
 use Rattle.delta_server.specs.declared.answering.Settings.{Settings}
 use Rattle.sb_service.specs.declared.command.Command.{Command}
 use Rattle.sb_service.specs.declared.command.Command.TheVariants.{Answer, Serve, Generate, Exercise}
+use Rattle.sb_service.specs.declared.command.DoorRoom.{DoorRoom}
 use Rattle.sb_service.specs.declared.command.GenerateLine.{GenerateLine}
 use Rattle.sb_service.specs.declared.command.Load.{Load}
 use Rattle.sb_service.specs.declared.command.MessageKind.{MessageKind}
@@ -30,11 +31,12 @@ answer_shape = record {
   takes_positionals = false;
 }
 
--- `serve` needs a journal and an address, and may have a number of connections and the same durations.
+-- `serve` needs a journal and an address, and may have a number of connections, the room of its door and the same durations.
 abbrev pub serve_shape : CommandShape
 serve_shape = record {
   options =
       needed (codes "journal") ∷ needed (codes "listen") ∷ optional (codes "connections")
+      ∷ optional (codes "peers") ∷ optional (codes "answers")
       ∷ optional (codes "wait") ∷ optional (codes "find-wait") ∷ optional (codes "cache") ∷ optional (codes "negative") ∷ [];
   takes_positionals = false;
 }
@@ -98,11 +100,12 @@ answer_given given =
 abbrev pub answer_of : List Text → Option AnswerWords
 answer_of words = option_and_then answer_given (given_to (codes "answer") answer_shape words)
 
--- What a command line of `serve` says: the path of the journal, the address, how many connections, and times.
+-- What a command line of `serve` says: the path of the journal, the address, how many connections, the room of the door, and times.
 pub record ServeWords : Type 0 where
   pub journal : Text
   pub listen : Text
   pub connections : ℕ
+  pub room : DoorRoom
   pub settings : Settings
 
 -- the address, where it is one
@@ -118,16 +121,32 @@ connections_of (Some text) = number_of 1 1000000 text
 abbrev pub connections_given : List (Text × Text) → Option ℕ
 connections_given named = connections_of (value_among (codes "connections") named)
 
-abbrev pub serve_with : Option Text → Option Text → Option ℕ → Option Settings → Option ServeWords
-serve_with journal listen connections settings =
-    option_and_then (λ path. option_and_then (λ address. option_and_then (λ count. option_map
-    (λ times. record { journal = path; listen = address; connections = count; settings = times })
-    settings) connections) listen) journal
+-- a number from 1 to 4,096, which has a default
+abbrev pub amount_of : ℕ → Option Text → Option ℕ
+amount_of default None = Some default
+amount_of default (Some text) = number_of 1 4096 text
+
+abbrev pub amount_given : Text → ℕ → List (Text × Text) → Option ℕ
+amount_given name default named = amount_of default (value_among name named)
+
+-- the room of a door: how many connections are open at once, 1,024 where the words do not say, and how many MiB of answers wait to
+-- be taken, 512 where they do not say
+abbrev pub room_given : List (Text × Text) → Option DoorRoom
+room_given named =
+    option_and_then (λ peers. option_map (λ answers. record { peers = peers; answers = answers })
+    (amount_given (codes "answers") 512 named))
+    (amount_given (codes "peers") 1024 named)
+
+abbrev pub serve_with : Option Text → Option Text → Option ℕ → Option DoorRoom → Option Settings → Option ServeWords
+serve_with journal listen connections room settings =
+    option_and_then (λ path. option_and_then (λ address. option_and_then (λ count. option_and_then (λ most. option_map
+    (λ times. record { journal = path; listen = address; connections = count; room = most; settings = times })
+    settings) room) connections) listen) journal
 
 abbrev pub serve_given : Given → Option ServeWords
 serve_given given =
     serve_with (value_among (codes "journal") given.named) (listen_given given.named) (connections_given given.named)
-    (settings_given given.named)
+    (room_given given.named) (settings_given given.named)
 
 -- what the words of `sblistd serve --journal PATH --listen ADDRESS ..` say, where they are such words
 abbrev pub serve_of : List Text → Option ServeWords
@@ -164,9 +183,12 @@ path_of None serve = option_map (λ (serve : ServeWords). serve.journal) serve
 abbrev pub journal_of : List Text → Option Text
 journal_of words = path_of (answer_of words) (serve_of words)
 
--- and where connections come in
+-- and where connections come in, and the room of the door there
 abbrev pub listen_of : List Text → Option Text
 listen_of words = option_map (λ (serve : ServeWords). serve.listen) (serve_of words)
+
+abbrev pub room_of : List Text → Option DoorRoom
+room_of words = option_map (λ (serve : ServeWords). serve.room) (serve_of words)
 
 -- The words are no command line.
 pub record IsNoCommand (words : List Text) : Type 0 where

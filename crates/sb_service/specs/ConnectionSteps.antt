@@ -33,6 +33,8 @@ abbrev pub IsSentAs : Response → Answer → Type 0
 IsSentAs response (answer.Made made) = made ≡ response
 IsSentAs response (answer.Written written) =
     (written.status ≡ response.status) × (written.text ≡ response_text response.status response.allow response.body)
+IsSentAs response (answer.Shared shared) =
+    (shared.status ≡ response.status) × (shared.text ≡ response_text response.status response.allow response.body)
 
 -- The text of a response to a body came to what is kept, with these wishes, or nothing did. No other than one with the status 200 does.
 abbrev pub MayBeKept : List ℕ → Option (List Wish) → Response → (before after : KeptLists) → Type 0

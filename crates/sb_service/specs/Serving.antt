@@ -78,13 +78,8 @@ abbrev pub with_entries : Option (List Connection) → List Turn → Option (Lis
 with_entries log [] = log
 with_entries log (turn ∷ before) = with_entry (with_entries log before) turn.entry
 
--- None ended for want of memory.
-abbrev pub AreTold : List Turn → Type 0
-AreTold [] = ⊤
-AreTold (turn ∷ before) = (turn.how ≢ end.OutOfMemory) × AreTold before
-
 -- Each was served over the history that it was lent: what was written is right for the bytes that the connection gave, and a
--- whole request that it had to give was answered so, where no read and no write failed.
+-- whole request that it had to give was answered so, where no read and no write failed and memory was not refused.
 abbrev pub AreServed : Settings → List Turn → Type 0
 AreServed times [] = ⊤
 AreServed times (turn ∷ before) =
@@ -103,7 +98,6 @@ pub record Seen : Type 0 where
 pub record HasTurns (times : Settings) (turns : List Turn) (before after : Seen) : Type 0 where
   pub gains : Gains turns before.left after.left
   pub grows : Grows before.kept turns after.kept
-  pub told : AreTold turns
   pub printed : after.held ≡ appended before.held (lines_of turns)
   pub came : before.coming ≡ option_map (λ later. pieces_of turns ++ later) after.coming
   pub logged : IfTold after.log (with_entries before.log turns)
@@ -112,12 +106,12 @@ pub record HasTurns (times : Settings) (turns : List Turn) (before after : Seen)
 -- ---- a turn that ended the run, or did not
 
 -- What became of the line of a connection: it was written, or a front of it that lacks something with status 3, or nothing
--- with status 8, which comes where the connection ended for want of memory.
+-- with status 8, if memory was refused for it. The line of a connection that ended for want of memory needs none.
 abbrev pub IsLined : ℕ → ConnectionEnd → ℕ → (held held' : Option (List ℕ)) → Type 0
 IsLined number how status held held' =
-    ((status ≡ 0) × (how ≢ end.OutOfMemory) × (held' ≡ appended held (connection_line number how)))
-    ⊎ ((status ≡ 3) × (how ≢ end.OutOfMemory) × HasFront held held' (connection_line number how))
-    ⊎ IsSilent 8 status held held'
+    ((status ≡ 0) × (held' ≡ appended held (connection_line number how)))
+    ⊎ ((status ≡ 3) × HasFront held held' (connection_line number how))
+    ⊎ ((how ≢ end.OutOfMemory) × IsSilent 8 status held held')
 
 -- A connection that had these pieces to give was served, and its line printed.
 pub record IsTold (versions : History) (times : Settings) (number status : ℕ) (pieces : List (List ℕ)) (log log' : Option (List Connection))

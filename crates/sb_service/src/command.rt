@@ -1,7 +1,7 @@
 ghost use Rattle.std.specs.Prelude.{◌≡◌, ◌≤◌, ◌&&◌, IfOk, IfSome, map, option_map, option_and_then, None, codes, string_bytes};
 ghost use Rattle.std.specs.Str.{bytes_eq};
 ghost use Rattle.sb_words.specs.CommandLine.{given_of};
-ghost use Rattle.sb_service.specs.Command.{answer_given, answer_of, answer_shape, connections_given, exercise_given, exercise_of, exercise_shape, generate_given, generate_of, generate_shape, kind_given, kind_of, listen_given, load_given, seconds_given, serve_given, serve_of, serve_shape, settings_given, AnswerWords, IsCommandOf, ServeWords};
+ghost use Rattle.sb_service.specs.Command.{amount_given, answer_given, answer_of, answer_shape, connections_given, exercise_given, exercise_of, exercise_shape, generate_given, generate_of, generate_shape, kind_given, kind_of, listen_given, load_given, room_given, seconds_given, serve_given, serve_of, serve_shape, settings_given, AnswerWords, IsCommandOf, ServeWords};
 
 use delta_server::Settings;
 use sb_model::OutOfMemory;
@@ -55,6 +55,14 @@ const SERVE: Shape = Shape {
             kind: OptionKind::Optional,
         },
         OptionShape {
+            name: "peers",
+            kind: OptionKind::Optional,
+        },
+        OptionShape {
+            name: "answers",
+            kind: OptionKind::Optional,
+        },
+        OptionShape {
             name: "wait",
             kind: OptionKind::Optional,
         },
@@ -98,6 +106,9 @@ const MOST_CONNECTIONS: u64 = 1_000_000;
 /// How many connections are served where the words say none.
 const CONNECTIONS_UNSAID: u32 = 4_294_967_295;
 
+/// The most connections that are open at once, and the most MiB of answers that wait to be taken.
+const MOST_ROOM: u64 = 4_096;
+
 /// The most seconds of a duration: a day.
 const MOST_SECONDS: u64 = 86_400;
 
@@ -116,6 +127,15 @@ pub(crate) struct Load {
     /// How many changes or URLs, from 1 to 65,536.
     pub count: u32,
     pub seed: u64,
+}
+
+/// How much a door holds at most.
+#[derive(Clone, Copy, Debug)]
+pub struct DoorRoom {
+    /// How many connections are open at once, from 1 to 4,096.
+    pub peers: u32,
+    /// How many MiB of answers wait to be taken, from 1 to 4,096.
+    pub answers: u32,
 }
 
 /// What the words ask for.
@@ -157,6 +177,7 @@ pub(crate) struct ServeLine<'a> {
     /// The address at which connections come in.
     pub listen: &'a str,
     pub connections: u32,
+    pub room: DoorRoom,
     pub settings: Settings,
 }
 
@@ -290,19 +311,43 @@ fn connections_in(given: &Words<'_>) -> Option<u32>
     }
 }
 
+/// The number that the words give an option of the door's room, or its default.
+fn amount(given: &Words<'_>, name: &str, default: u32) -> Option<u32>
+    ensures { result ≡ amount_given name.now default given.now.named }
+{
+    let Some(text) = given.value(name) else {
+        return Some(default);
+    };
+    let Some(amount) = number(text, 1, MOST_ROOM) else {
+        return None;
+    };
+    Some(amount as u32)
+}
+
+/// The room of the door that the words give, or leave open.
+fn room_in(given: &Words<'_>) -> Option<DoorRoom>
+    ensures { result ≡ room_given given.now.named }
+{
+    let peers = amount(given, "peers", 1024)?;
+    let answers = amount(given, "answers", 512)?;
+    Some(DoorRoom { peers, answers })
+}
+
 /// What the words after `serve` say, by what they give.
 fn serve_line_in<'a>(given: &Words<'a>) -> Option<ServeLine<'a>>
-    ensures { option_map (λ line. record { journal = line.journal.now; listen = line.listen.now; connections = line.connections; settings = line.settings }) result
+    ensures { option_map (λ line. record { journal = line.journal.now; listen = line.listen.now; connections = line.connections; room = line.room; settings = line.settings }) result
         ≡ serve_given given.now }
 {
     let journal = given.value("journal")?;
     let listen = listen_in(given)?;
     let connections = connections_in(given)?;
+    let room = room_in(given)?;
     let settings = settings_in(given)?;
     Some(ServeLine {
         journal,
         listen,
         connections,
+        room,
         settings,
     })
 }
@@ -312,7 +357,7 @@ fn serve_line_of<'a>(
     alloc: Global,
     words: &'a [String],
 ) -> Result<Option<ServeLine<'a>>, OutOfMemory>
-    ensures { IfOk result (λ line. option_map (λ line. record { journal = line.journal.now; listen = line.listen.now; connections = line.connections; settings = line.settings }) line
+    ensures { IfOk result (λ line. option_map (λ line. record { journal = line.journal.now; listen = line.listen.now; connections = line.connections; room = line.room; settings = line.settings }) line
         ≡ option_and_then serve_given (given_of serve_shape (map string_bytes words.entry.now))) }
 {
     match read_words(alloc, &SERVE, words) {
@@ -335,7 +380,7 @@ pub(crate) fn serve_line<'a>(
     alloc: Global,
     words: &'a [String],
 ) -> Result<Option<ServeLine<'a>>, OutOfMemory>
-    ensures { IfOk result (λ line. option_map (λ line. record { journal = line.journal.now; listen = line.listen.now; connections = line.connections; settings = line.settings }) line
+    ensures { IfOk result (λ line. option_map (λ line. record { journal = line.journal.now; listen = line.listen.now; connections = line.connections; room = line.room; settings = line.settings }) line
         ≡ serve_of (map string_bytes words.entry.now)) }
 {
     let [program, command, rest @ ..] = words else {

@@ -1,11 +1,12 @@
 ghost use Rattle.std.specs.Prelude.{◌≡◌, ◌≢◌, ◌≤◌, ℕ, List, IfOk, IfSome, refl};
 ghost use Rattle.sb_outside.specs.Outside.{Rose, next_piece};
 ghost use Rattle.sb_model.specs.History.{History as Versions};
+ghost use Rattle.http_edge.specs.Responses.{response_text};
 ghost use Rattle.http_edge.specs.declared.messages.Allow.{Allow};
 ghost use Rattle.http_edge.specs.declared.messages.HttpRequest.{HttpRequest};
 ghost use Rattle.http_edge.specs.declared.messages.Status.{Status};
 ghost use Rattle.http_serving.specs.Law.{HasOneAnswer};
-ghost use Rattle.http_serving.specs.Serving.{AnswersAtMost, Serves};
+ghost use Rattle.http_serving.specs.Serving.{unavailable_text, AnswersAtMost, IsWholeOrFault, Serves};
 ghost use Rattle.http_serving.specs.Written.{IsRightAnswer};
 ghost use Rattle.delta_server.specs.declared.answering.Settings.{Settings as Times};
 ghost use Rattle.sb_service.specs.Connection.{list_routes, ListServed, matches_text, IsResponseAt, IsResponseTo, HasGoodRequest};
@@ -21,12 +22,12 @@ use delta_server::{ServeFault, Settings, answer_fetch, answer_find};
 use hash_messages::{FindRequest, find_values_read_one_way, read_find, write_matches};
 use http_edge::{Allow, HttpRequest, Status, path_of};
 use http_serving::{
-    Answer, Answers, ConnectionEnd, Response, Route, Routed, WrittenResponse,
+    Answer, Answers, ConnectionEnd, Response, Route, Routed, SharedResponse,
     answers_follow_requests, bare, find_route, requests_have_one_answer, write_out,
 };
 use list_versions::History;
 use sb_json::MessageFault;
-use sb_model::{OutOfMemory, Row, names_go_by_their_codes};
+use sb_model::{Bytes, OutOfMemory, Row, names_go_by_their_codes};
 use sb_outside::{Kind, Wire};
 use std::alloc::Global;
 use std::marker::Model;
@@ -102,6 +103,30 @@ fn answer_hashes_body(
     }
 }
 
+/// The answer that a response with the status 200 is whose text is written out. It may be kept. If memory to share it is refused,
+/// it is sent all the same.
+fn keep_written(
+    kept: &mut KeptAnswers,
+    asked: &[u8],
+    wishes: Option<Row<Wish>>,
+    response: Response,
+    text: Bytes,
+) -> Answer
+    requires status { response.status ≡ Status.Success }
+    requires text { text ≡ response_text response.status response.allow response.body }
+    ensures answer { IsSentAs response result }
+    ensures kept { MayBeKept asked.now wishes response kept.old kept.new }
+{
+    let Ok(text) = kept.shared(text) else {
+        return Answer::Made(response);
+    };
+    kept.keep(asked, wishes, &text);
+    Answer::Shared(SharedResponse {
+        status: response.status,
+        text,
+    })
+}
+
 /// The answer that a response is. One with the status 200 is written out and may be kept. If it is too long for that or memory
 /// is refused, it is sent all the same.
 fn keep_made(
@@ -121,10 +146,7 @@ fn keep_made(
         return Answer::Made(response);
     }
     match write_out(alloc, &response) {
-        Ok(written) => {
-            kept.keep(asked, wishes, written.text.as_slice());
-            Answer::Written(written)
-        }
+        Ok(written) => keep_written(kept, asked, wishes, response, written.text),
         Err(OutOfMemory) => Answer::Made(response),
     }
 }
@@ -150,7 +172,7 @@ fn answer_wishes(
     let wishes = wishes_of(alloc, history, message.items.as_slice())?;
     let found = kept.text_by_wishes(&wishes)?;
     if let Some(text) = found {
-        return Ok(Answer::Written(WrittenResponse {
+        return Ok(Answer::Shared(SharedResponse {
             status: Status::Success,
             text,
         }));
@@ -175,7 +197,7 @@ fn answer_updates(
     let asked = request.body.as_slice();
     let found = kept.text_by_body(asked)?;
     if let Some(text) = found {
-        return Ok(Answer::Written(WrittenResponse {
+        return Ok(Answer::Shared(SharedResponse {
             status: Status::Success,
             text,
         }));
@@ -295,8 +317,9 @@ impl<'a> Answers for ListServer<'a> {
 /// for, and one to `/v4/fullHashes:find` with the full hashes that it asks for. Other responses have no body: 400 where the request is malformed or cut off, where its body
 /// is no message, and where it asks for a list that is not declared; 404 for another path; 405 for
 /// another method; 411 where the length of the body is not given; 413 where it is more than
-/// 1,048,576 bytes; 431 where the head is too long. What follows a `?` in the target is not looked
-/// at, nor what follows the request.
+/// 1,048,576 bytes; 431 where the head is too long; 503 if memory is refused, of which a front may be
+/// written as with any other. What follows a `?` in the target is not looked at, nor what follows the
+/// request.
 pub fn serve_connection<T: Wire>(
     alloc: Global,
     history: &History,
@@ -307,7 +330,7 @@ pub fn serve_connection<T: Wire>(
     ensures serves { Serves (IsResponseTo history.now.versions settings.now) result
         (T.left wire.old) (T.left wire.new) (T.contents wire.old) (T.contents wire.new) }
 
-    // A whole request whose body has an answer is answered with that, or not at all.
+    // A whole request whose body has an answer is answered with that or not at all, or memory was refused.
     ensures complete { IfSome (T.left wire.old) (λ pieces.
         (text : List ℕ) → HasGoodRequest history.now.versions settings.now (next_piece pieces) text
         → AnswersAtMost Status.Success Allow.Post text result (T.contents wire.old) (T.contents wire.new)) }
@@ -317,8 +340,13 @@ pub fn serve_connection<T: Wire>(
     ensures read_kept { result ≢ ConnectionEnd.ReadFault → T.Source.faults wire.new ≡ T.Source.faults wire.old }
     ensures read_counted { T.Source.faults wire.old ≤ T.Source.faults wire.new }
     ensures write_failed { result ≡ ConnectionEnd.WriteFault → Rose (T.Sink.faults wire.old) (T.Sink.faults wire.new) }
-    ensures write_kept { result ≢ ConnectionEnd.WriteFault → T.Sink.faults wire.new ≡ T.Sink.faults wire.old }
+    ensures write_kept { result ≢ ConnectionEnd.WriteFault → result ≢ ConnectionEnd.OutOfMemory
+        → T.Sink.faults wire.new ≡ T.Sink.faults wire.old }
     ensures write_counted { T.Sink.faults wire.old ≤ T.Sink.faults wire.new }
+
+    // If memory was refused, the whole 503 was written, or a write failed.
+    ensures unavailable { result ≡ ConnectionEnd.OutOfMemory → IsWholeOrFault unavailable_text
+        (T.contents wire.old) (T.contents wire.new) (T.Sink.faults wire.old) (T.Sink.faults wire.new) }
 
     // It is the same connection.
     ensures number { T.number wire.new ≡ T.number wire.old }

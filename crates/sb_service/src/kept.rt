@@ -3,6 +3,7 @@ ghost use Rattle.sb_service.specs.Kept.{after_asking, after_body, after_wishes, 
 
 use crate::wish::{Wish, are_same, are_whole};
 use sb_model::{Bytes, OutOfMemory, Row};
+use sb_outside::SharedText;
 use std::alloc::Global;
 use std::marker::Model;
 
@@ -33,12 +34,12 @@ const LEAST_KEPT: usize = 4096;
 const WISHES_SIZE: usize = 256;
 
 /// An answer that is kept: the body of a request for updates, what it wishes if it wishes something, and the whole text of the
-/// response to it.
+/// response to it, which those hold too to whom it is being sent.
 #[derive(Drop)]
 pub(crate) struct KeptAnswer {
     pub asked: Bytes,
     pub wishes: Option<Row<Wish>>,
-    pub text: Bytes,
+    pub text: SharedText,
 }
 
 impl KeptAnswer {
@@ -49,7 +50,7 @@ impl KeptAnswer {
     {
         self.asked
             .len()
-            .saturating_add(self.text.len())
+            .saturating_add(self.text.as_slice().len())
             .saturating_add(WISHES_SIZE)
     }
 
@@ -74,19 +75,19 @@ fn is_for_whole(wishes: &Option<Row<Wish>>) -> bool
     }
 }
 
-/// An answer, with its request and its text copied.
+/// An answer, with its request copied and its text shared.
 fn copied(
     alloc: Global,
     asked: &[u8],
     wishes: Option<Row<Wish>>,
-    text: &[u8],
+    text: &SharedText,
 ) -> Result<KeptAnswer, OutOfMemory>
     ensures { IfOk result (λ kept. kept ≡ record { asked = asked.now; wishes = wishes; text = text.now }) }
 {
     Ok(KeptAnswer {
         asked: Bytes::from_slice(alloc, asked)?,
         wishes,
-        text: Bytes::from_slice(alloc, text)?,
+        text: text.share()?,
     })
 }
 
@@ -148,8 +149,8 @@ impl KeptPart {
         self.answers.iter().position(|kept| kept.has_wishes(wishes))
     }
 
-    /// A copy of the text of the answer at a place, which is then the one asked for last.
-    fn ask(&mut self, place: Option<usize>) -> Result<Option<Bytes>, OutOfMemory>
+    /// The text of the answer at a place once more, which is then the one asked for last.
+    fn ask(&mut self, place: Option<usize>) -> Result<Option<SharedText>, OutOfMemory>
         ensures text { IfOk result (λ text. text ≡ text_at self.old.answers place) }
         ensures order { OnOk result (self.new ≡ record self.old { answers = after_asking self.old.answers place }) }
         ensures err { OnErr result (self.new ≡ self.old) }
@@ -160,7 +161,7 @@ impl KeptPart {
         let Some(kept) = self.answers.get(place) else {
             return Ok(None);
         };
-        let text = kept.text.copy()?;
+        let text = kept.text.share()?;
         put_last(self.answers.as_mut_slice(), place);
         Ok(Some(text))
     }
@@ -215,10 +216,12 @@ impl KeptPart {
 
 /// Answers that a server made, by the bodies of their requests and by what these wish. Those whose every item is a whole list
 /// have a part of their own: at most 16, of at most 48 MiB. Of the others there are at most 48, of at most 16 MiB. In each part
-/// the one asked for least lately goes first.
+/// the one asked for least lately goes first. Each text has a number of its own.
 #[derive(Drop)]
 pub(crate) struct KeptAnswers {
     alloc: Global,
+    // the number of the next text
+    number: u64,
     whole: KeptPart,
     others: KeptPart,
 }
@@ -241,13 +244,24 @@ impl KeptAnswers {
     {
         KeptAnswers {
             alloc,
+            number: 0,
             whole: KeptPart::new(alloc, WHOLE),
             others: KeptPart::new(alloc, OTHERS),
         }
     }
 
+    /// A text that several may hold, with the next number.
+    pub fn shared(&mut self, text: Bytes) -> Result<SharedText, OutOfMemory>
+        ensures text { IfOk result (λ shared. shared ≡ text) }
+        ensures same { self.new ≡ self.old }
+    {
+        let number = self.number;
+        self.number = number.saturating_add(1);
+        SharedText::new(self.alloc, number, text)
+    }
+
     /// The text that is kept of an answer to a request with this body.
-    pub fn text_by_body(&mut self, asked: &[u8]) -> Result<Option<Bytes>, OutOfMemory>
+    pub fn text_by_body(&mut self, asked: &[u8]) -> Result<Option<SharedText>, OutOfMemory>
         ensures text { IfOk result (λ text. text ≡ text_by_body asked.now self.old) }
         ensures order { OnOk result (self.new ≡ after_body asked.now self.old) }
         ensures err { OnErr result (self.new ≡ self.old) }
@@ -264,7 +278,7 @@ impl KeptAnswers {
     pub fn text_by_wishes(
         &mut self,
         wishes: &Option<Row<Wish>>,
-    ) -> Result<Option<Bytes>, OutOfMemory>
+    ) -> Result<Option<SharedText>, OutOfMemory>
         ensures text { IfOk result (λ text. text ≡ text_by_wishes wishes.now self.old) }
         ensures order { OnOk result (self.new ≡ after_wishes wishes.now self.old) }
         ensures err { OnErr result (self.new ≡ self.old) }
@@ -281,11 +295,11 @@ impl KeptAnswers {
     }
 
     /// Keeps an answer in its part, unless it is small and has whole lists alone. None is kept if memory is refused.
-    pub fn keep(&mut self, asked: &[u8], wishes: Option<Row<Wish>>, text: &[u8])
+    pub fn keep(&mut self, asked: &[u8], wishes: Option<Row<Wish>>, text: &SharedText)
         ensures { HasKeptIn (record { asked = asked.now; wishes = wishes; text = text.now }) (is_for_whole wishes) self.old self.new }
     {
         let is_whole = is_for_whole(&wishes);
-        if is_whole && text.len() < LEAST_KEPT {
+        if is_whole && text.as_slice().len() < LEAST_KEPT {
             return;
         }
         let Ok(answer) = copied(self.alloc, asked, wishes, text) else {

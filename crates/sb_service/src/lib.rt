@@ -4,6 +4,7 @@
 //! try and to measure servers with.
 #![tactic(auto)]
 
+pub use command::DoorRoom;
 pub use connection::{requests_have_one_response, serve_connection};
 pub use service::{USAGE, run_server};
 pub use targets::{ServerTargets, server_targets};

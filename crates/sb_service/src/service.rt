@@ -28,7 +28,7 @@ use update_messages::{values_read_one_way, values_read_or_have_a_fault};
 pub const USAGE: &str = "usage: sblistd COMMAND\n\n  \
     sblistd answer --journal PATH --kind fetch|find [--wait S] [--find-wait S] [--cache S] [--negative S]\n      \
     reads a request for updates or for full hashes, and writes the answer from the lists of a journal\n  \
-    sblistd serve --journal PATH --listen HOST:PORT [--connections N] [--wait S] [--find-wait S] [--cache S] [--negative S]\n      \
+    sblistd serve --journal PATH --listen HOST:PORT [--connections N] [--peers N] [--answers MIB] [--wait S] [--find-wait S] [--cache S] [--negative S]\n      \
     serves the lists of a journal over HTTP\n  \
     sblistd generate [--urls] N SEED\n      \
     writes the journal of N changes that a seed makes, or N URLs\n  \

@@ -5,7 +5,7 @@ use gathering::DoorLimits;
 use gathering_door::GatheringDoor;
 use real_objects::{JournalFile, StdSink, StdSource, hold_descriptors};
 use sb_model::{OutOfMemory, Text};
-use sb_service::{ServerTargets, run_server, server_targets};
+use sb_service::{DoorRoom, ServerTargets, run_server, server_targets};
 use std::alloc::Global;
 use std::fmt::Display;
 use std::io::ErrorKind;
@@ -49,14 +49,26 @@ fn journal_at<'a>(
     }
 }
 
-/// The door at an address. Without one, and where it cannot be had, each call fails.
+/// The limits of a door that has this room.
+fn limits_of(room: Option<DoorRoom>) -> DoorLimits {
+    let mut limits = DoorLimits::STANDARD;
+    if let Some(room) = room {
+        limits.connections = room.peers as usize;
+        limits.answer_bytes = u64::from(room.answers) * 1_048_576;
+    }
+    limits
+}
+
+/// The door at the address of the targets. Without one, and where it cannot be had, each call fails.
 fn door_at<'a>(
     rt: &'a HostRuntime,
     alloc: Global,
-    address: &Option<Text>,
+    targets: &ServerTargets,
 ) -> GatheringDoor<&'a HostRuntime> {
-    match address {
-        Some(address) => GatheringDoor::bind(rt, alloc, address.as_str(), DoorLimits::STANDARD),
+    match &targets.listen {
+        Some(address) => {
+            GatheringDoor::bind(rt, alloc, address.as_str(), limits_of(targets.room))
+        }
         None => GatheringDoor::unusable(rt),
     }
 }
@@ -106,7 +118,7 @@ fn run_with(
 /// answers is sent before it ends, whatever its status is.
 fn run(rt: &HostRuntime, alloc: Global, words: &[String]) -> Result<u8, OutOfMemory> {
     let targets = server_targets(alloc, words)?;
-    let mut door = door_at(rt, alloc, &targets.listen);
+    let mut door = door_at(rt, alloc, &targets);
     if targets.listen.is_some() && !door.is_usable() {
         tell(rt, "the address ", &targets.listen, door.why());
         return Ok(9);
