@@ -24,7 +24,6 @@ use Rattle.delta_server.specs.Walk.{HasSizes, may_take, held_set}
 use Rattle.delta_server.proofs.Membership.{In}
 use Rattle.delta_server.proofs.SetCounts.{in_has}
 use Rattle.delta_server.proofs.TargetFacts.{from_nothing}
-use Rattle.delta_server.proofs.UpdateFacts.{few_added}
 
 -- ---- declared lists
 
@@ -89,12 +88,6 @@ both_true false b a c = absurd (cc)
 pub told_takes : (held newer : List (List ℕ)) (max_update max_database : ℕ) → is_within max_update (difference_count held newer) ≡ true
     → is_within max_database (length newer) ≡ true → may_take held max_update max_database newer ≡ true
 told_takes held newer max_update max_database update database = both_true _ _ update database
-
--- Two sets differ in no more prefixes than they have together.
-pub surely_takes : (held newer : List (List ℕ)) (max_update max_database most : ℕ) → length (removed_places held newer) ≤ length held → most ≡ length held + length newer
-    → is_within max_update most ≡ true → is_within max_database (length newer) ≡ true → may_take held max_update max_database newer ≡ true
-surely_takes held newer max_update max_database most few is update database =
-    both_true _ _ (within_less max_update (difference_count held newer) most (omega (arith, is, few, few_added held newer)) update) database
 
 module _ (history : History) (list : ListName) (max_update max_database : ℕ) where
   later_true : (a b c d : Bool) → b ≡ true → (c && d) ≡ true → (a || b && c && d) ≡ true

@@ -290,7 +290,7 @@ module _ (laws : SetLaws) where
 
 -- ---- how many
 
-few_with : (q : List ℕ) (set : List (List ℕ)) → length (with_member q set) ≤ suc (length set)
+pub few_with : (q : List ℕ) (set : List (List ℕ)) → length (with_member q set) ≤ suc (length set)
 few_with q [] = omega arith
 few_with q (y ∷ ys) = go (bytes_cmp q y) (few_with q ys)
   where

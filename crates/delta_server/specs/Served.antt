@@ -2,6 +2,8 @@
 use Rattle.std.specs.Prelude.{◌≡◌, ℕ, true, List, Option, Some, None}
 use Rattle.sha2.specs.Sha256.{sha256}
 use Rattle.sb_model.specs.declared.names.ListName.{ListName}
+use Rattle.prefix_set.specs.declared.difference.Delta.{Delta}
+use Rattle.sb_model.specs.Difference.{removed_places, added_members}
 use Rattle.sb_model.specs.Prefixes.{concatenation}
 use Rattle.sb_model.specs.History.{History, declares, version_count, prefixes_at}
 use Rattle.update_messages.specs.Answer.{declared_size}
@@ -18,3 +20,8 @@ pub record IsServed (served : Served) (versions : History) (list : ListName) : T
 abbrev pub IsOlder : History → ListName → ℕ → Option (List (List ℕ)) → Type 0
 IsOlder versions list version None = version ≡ version_count versions
 IsOlder versions list version (Some set) = set ≡ prefixes_at versions list version
+
+-- what leads from the set of a version to the newest
+pub record LeadsToNewest (versions : History) (list : ListName) (held : ℕ) (delta : Delta) : Type 0 where
+  pub removals : delta.removals ≡ removed_places (prefixes_at versions list held) (prefixes_at versions list (version_count versions))
+  pub additions : delta.additions ≡ added_members (prefixes_at versions list held) (prefixes_at versions list (version_count versions))

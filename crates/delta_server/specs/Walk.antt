@@ -1,8 +1,9 @@
 -- The versions that a walk over changes comes by, and which of them a client may be brought to.
-use Rattle.std.specs.Prelude.{ℕ, ◌↔◌, Contains, Bool, ◌&&◌, List, [], length, take, map, fold, All, Option, Some, None}
+use Rattle.std.specs.Prelude.{ℕ, ◌+◌, ◌↔◌, if◌then◌else◌, Contains, Bool, ◌&&◌, List, [], length, take, map, fold, All, Option, Some, None}
 use Rattle.sb_model.specs.declared.history.Added.{Added}
 use Rattle.sb_model.specs.declared.history.Change.{Change}
 use Rattle.sb_model.specs.declared.names.ListName.{ListName}
+use Rattle.sb_model.specs.Names.{same_name}
 use Rattle.sb_model.specs.Difference.{difference_count}
 use Rattle.sb_model.specs.History.{IsPrefixSize, after_change, prefix_of}
 use Rattle.sb_model.specs.Prefixes.{set_of}
@@ -37,3 +38,7 @@ held_set list (Some version) changes = published (entries_after list [] changes 
 -- two lists have the same members
 abbrev pub HaveSame : List Added → List Added → Type 0
 HaveSame first second = (entry : Added) → Contains first entry ↔ Contains second entry
+
+-- how many hash lines a change of a list has
+abbrev pub lines_in : ListName → Change → ℕ
+lines_in list change = if same_name change.list list then length change.adds + length change.removes else 0

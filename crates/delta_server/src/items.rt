@@ -4,18 +4,18 @@ ghost use Rattle.sb_model.specs.Prefixes.{concatenation};
 ghost use Rattle.sb_model.specs.History.{declares, prefixes_at, version_count};
 ghost use Rattle.sb_model.specs.Target.{target_version};
 ghost use Rattle.update_messages.specs.Answer.{version_named, update_to, update_for};
-ghost use Rattle.delta_server.specs.Served.{IsOlder, IsServed};
+ghost use Rattle.delta_server.specs.Served.{IsOlder, IsServed, LeadsToNewest};
 ghost use Rattle.delta_server.specs.Tokens.{server_naming, server_token};
 
 use crate::served::{Served, older_prefixes, served_list, set_at};
-use crate::targets::{Limits, target_from};
+use crate::targets::{Limits, newest_delta, older_target, whole_target};
 use crate::tokens::{held_version, state_token};
-use crate::updates::{Sent, full_update, partial_update, unchanged_update};
+use crate::updates::{Sent, delta_update, full_update, partial_update, unchanged_update};
 use list_versions::History;
-use prefix_set::PrefixSet;
+use prefix_set::{Delta, PrefixSet};
 use sb_model::{ListName, OutOfMemory, Row};
 use std::alloc::Global;
-use update_messages::{ListRequest, ListUpdate};
+use update_messages::{ListRequest, ListUpdate, sent_numbers_rise};
 
 // The limits of an asked list.
 fn limits_of(asked: &ListRequest) -> Limits
@@ -73,16 +73,7 @@ fn whole_answer(
         (target_version history.now.versions asked.now.name None asked.now.max_update asked.now.max_database)) }
 {
     let list = asked.name;
-    let nothing = PrefixSet::empty(alloc);
-    let version = target_from(
-        alloc,
-        history,
-        list,
-        served,
-        None,
-        &nothing,
-        limits_of(asked),
-    )?;
+    let version = whole_target(alloc, history, list, served.set, limits_of(asked))?;
     let older = older_prefixes(alloc, history, list, version)?;
     let sent = sent_of(
         history,
@@ -93,6 +84,75 @@ fn whole_answer(
         older.as_ref(),
     );
     full_update(alloc, asked, &sent)
+}
+
+// The update that leads from a held version to the newest.
+fn newest_answer(
+    alloc: Global,
+    history: &History,
+    served: &Served<'_>,
+    asked: &ListRequest,
+    held: u64,
+    delta: Delta,
+) -> Result<ListUpdate, OutOfMemory>
+    requires served { IsServed served.now history.now.versions asked.now.name }
+    requires within { held ≤ version_count history.now.versions }
+    requires delta { LeadsToNewest history.now.versions asked.now.name held delta }
+    ensures { IfOk result (λ update. update ≡ update_to history.now.versions (server_naming history.now.versions) asked.now (Some held)
+        (version_count history.now.versions)) }
+{
+    sent_numbers_rise();
+    let token = state_token(history.epoch(), asked.name, history.len());
+    delta_update(alloc, asked, served.size, delta, served.digest, token)
+}
+
+// The update that leads from a held version to a later one or to itself.
+fn later_answer(
+    alloc: Global,
+    history: &History,
+    served: &Served<'_>,
+    asked: &ListRequest,
+    held: u64,
+    version: u64,
+) -> Result<ListUpdate, OutOfMemory>
+    requires served { IsServed served.now history.now.versions asked.now.name }
+    requires within { held ≤ version_count history.now.versions }
+    requires version { version ≤ version_count history.now.versions }
+    ensures { IfOk result (λ update. update ≡ update_to history.now.versions (server_naming history.now.versions) asked.now (Some held) version) }
+{
+    let list = asked.name;
+    let before = set_at(alloc, history, list, held)?;
+    let token = state_token(history.epoch(), list, version);
+    if version == held {
+        return unchanged_update(alloc, asked, before.digest(), token);
+    }
+    let set = &set_at(alloc, history, list, version)?;
+    let digest = set.digest();
+    let sent = Sent { set, digest, token };
+    partial_update(alloc, asked, served.size, &before, &sent)
+}
+
+// The update for one who holds a version of a list, and is not told to be brought to the newest
+// before the list is swept.
+fn swept_answer(
+    alloc: Global,
+    history: &History,
+    served: &Served<'_>,
+    asked: &ListRequest,
+    held: u64,
+) -> Result<ListUpdate, OutOfMemory>
+    requires served { IsServed served.now history.now.versions asked.now.name }
+    requires within { held ≤ version_count history.now.versions }
+    ensures { IfOk result (λ update. update ≡ update_to history.now.versions (server_naming history.now.versions) asked.now (Some held)
+        (target_version history.now.versions asked.now.name (Some held) asked.now.max_update asked.now.max_database)) }
+{
+    let list = asked.name;
+    let version = older_target(alloc, history, list, Some(held), limits_of(asked))?;
+    if version == history.len() {
+        let delta = history.difference(alloc, list, held)?;
+        return newest_answer(alloc, history, served, asked, held, delta);
+    }
+    later_answer(alloc, history, served, asked, held, version)
 }
 
 // The update for one who holds a version of a list: what leads from its set to another.
@@ -113,26 +173,10 @@ fn partial_answer(
         let token = state_token(history.epoch(), list, held);
         return unchanged_update(alloc, asked, served.digest, token);
     }
-    let before = set_at(alloc, history, list, held)?;
-    let version = target_from(
-        alloc,
-        history,
-        list,
-        served,
-        Some(held),
-        &before,
-        limits_of(asked),
-    )?;
-    let older = older_prefixes(alloc, history, list, version)?;
-    let sent = sent_of(
-        history,
-        list,
-        version,
-        served.set,
-        served.digest,
-        older.as_ref(),
-    );
-    partial_update(alloc, asked, served.size, &before, &sent)
+    match newest_delta(alloc, history, list, served.set, held, limits_of(asked))? {
+        Some(delta) => newest_answer(alloc, history, served, asked, held, delta),
+        None => swept_answer(alloc, history, served, asked, held),
+    }
 }
 
 // The version that the asked state names, where it names one.

@@ -14,7 +14,7 @@ pub use naming::{read_token, token_of};
 pub use sets::{addition_sets, removal_sets};
 pub use targets::target;
 pub use tokens::{held_version, read_state, state_token};
-pub use updates::{Sent, full_update, partial_update, unchanged_update};
+pub use updates::{Sent, delta_update, full_update, partial_update, unchanged_update};
 pub use walk::{changes_taken, target_of};
 
 mod answering;

@@ -1,23 +1,24 @@
-ghost use Rattle.std.specs.Prelude.{◌≡◌, ℕ, ◌≤◌, true, Option, Some, IfOk, IfSome, IsTrue};
+ghost use Rattle.std.specs.Prelude.{◌≡◌, ◌==◌, ◌||◌, ℕ, ◌-◌, ◌^◌, ◌≤◌, nat_le, min, max, drop, sum_by, true, Some, None, IfOk, IfSome};
 ghost use Rattle.std.specs.Option.{unwrap_or};
 ghost use Rattle.sb_model.specs.declared.names.ListName.{ListName as Name};
 ghost use Rattle.sb_model.specs.History.{History as Versions, declares, version_count, sizes_at, prefixes_at};
-ghost use Rattle.sb_model.specs.Difference.{difference_count};
 ghost use Rattle.sb_model.specs.Target.{target_version};
 ghost use Rattle.list_versions.specs.Stretches.{AreStretches};
 ghost use Rattle.delta_server.specs.Counts.{AreApart};
-ghost use Rattle.delta_server.specs.Served.{IsServed};
-ghost use Rattle.delta_server.specs.Walk.{HaveSame};
+ghost use Rattle.delta_server.specs.Served.{LeadsToNewest};
+ghost use Rattle.delta_server.specs.Walk.{HaveSame, lines_in};
 
-use crate::served::{Served, served_list, set_at};
+use crate::served::{served_list, set_at};
 use crate::sweeping::versions_taken;
 use crate::version::is_within;
 use crate::walk::target_of;
 use list_versions::{History, Stretch};
-use prefix_set::{PrefixSet, sets_go_by_members};
-use sb_model::{Added, ListName, OutOfMemory, targets_are_the_greatest};
+use prefix_set::{Delta, PrefixSet, sets_go_by_members};
+use sb_model::{Added, Change, ListName, OutOfMemory, targets_are_the_greatest};
 use std::alloc::Global;
-use update_messages::sent_numbers_rise;
+
+// So many hash lines are few: what they lead to is found at once.
+const FEW_LINES: u32 = 65_536;
 
 /// The most prefixes that a client takes, 0 for no limit.
 #[derive(Clone, Copy)]
@@ -28,58 +29,64 @@ pub(crate) struct Limits {
     pub(crate) database: u32,
 }
 
-// Whether one who holds a set is surely brought to the newest, told by the sizes of the two alone:
-// they differ in no more prefixes than they have together. One who holds no version holds the set
-// of version 0.
-fn surely_takes_newest(held: &PrefixSet, newest: &PrefixSet, limits: Limits) -> bool
-    ensures { IsTrue result → (versions : Versions) (list : Name) (from : Option ℕ)
-        → IfSome from (λ version. version ≤ version_count versions)
-        → held.now ≡ prefixes_at versions list (unwrap_or from 0)
-        → newest.now ≡ prefixes_at versions list (version_count versions)
-        → target_version versions list from limits.update limits.database ≡ version_count versions }
+// How many hash lines the changes of a list have, at most the greatest u64.
+fn lines_of(list: ListName, changes: &[Change]) -> u64
+    ensures { result ≡ min (sum_by (lines_in list) changes.now) (2 ^ 64 - 1) }
 {
-    sent_numbers_rise();
-    targets_are_the_greatest();
-    let most = u64::from(held.len()) + u64::from(newest.len());
-    is_within(limits.update, most) && is_within(limits.database, u64::from(newest.len()))
+    let mut lines: u64 = 0;
+    for change in changes {
+        if change.list == list {
+            lines = lines.saturating_add(change.adds.len() as u64);
+            lines = lines.saturating_add(change.removes.len() as u64);
+        }
+    }
+    lines
 }
 
-// How many prefixes are in exactly one of two sets.
-fn count_apart(alloc: Global, old: &PrefixSet, newer: &PrefixSet) -> Result<u64, OutOfMemory>
-    ensures { IfOk result (λ count. count ≡ difference_count old.now newer.now) }
+// Whether what leads from a version to the newest is looked at before the list is swept: if there is
+// no update limit, or the changes of the list after that version have no more lines than the limit,
+// or few.
+fn is_told_by_lines(history: &History, list: ListName, held: u64, max_update: u32) -> bool
+    requires { held ≤ version_count history.now.versions }
+    ensures { result ≡ (max_update == 0
+        || nat_le (min (sum_by (lines_in list) (drop held history.now.versions.changes)) (2 ^ 64 - 1)) (max max_update FEW_LINES)) }
 {
-    // looked at for the prover: what each set keeps
-    let _ = old.len();
-    let _ = newer.len();
-    sent_numbers_rise();
-    let delta = old.difference(alloc, newer)?;
-    Ok(delta.removals.len() as u64 + delta.additions.len() as u64)
+    if max_update == 0 {
+        return true;
+    }
+    let after = &history.changes()[held as usize..];
+    lines_of(list, after) <= u64::from(max_update.max(FEW_LINES))
 }
 
-// Whether one who holds a set is brought to the newest, told by the sizes of the two, or by the
-// prefixes in which they differ. The walk tells of one who holds nothing and is not surely brought
-// there.
-fn takes_newest(
+/// What leads from a version of a declared list to the newest, if one who holds the version is
+/// brought there and few lines or the limits tell it.
+pub(crate) fn newest_delta(
     alloc: Global,
-    held: &PrefixSet,
+    history: &History,
+    list: ListName,
     newest: &PrefixSet,
+    held: u64,
     limits: Limits,
-) -> Result<bool, OutOfMemory>
-    ensures { IfOk result (λ takes. IsTrue takes → (versions : Versions) (list : Name) (from : Option ℕ)
-        → IfSome from (λ version. version ≤ version_count versions)
-        → held.now ≡ prefixes_at versions list (unwrap_or from 0)
-        → newest.now ≡ prefixes_at versions list (version_count versions)
-        → target_version versions list from limits.update limits.database ≡ version_count versions) }
+) -> Result<Option<Delta>, OutOfMemory>
+    requires declared { declares history.now.versions list ≡ true }
+    requires within { held ≤ version_count history.now.versions }
+    requires newest { newest.now ≡ prefixes_at history.now.versions list (version_count history.now.versions) }
+    ensures delta { IfOk result (λ found. IfSome found (LeadsToNewest history.now.versions list held)) }
+    ensures target { IfOk result (λ found. IfSome found (λ delta.
+        target_version history.now.versions list (Some held) limits.update limits.database ≡ version_count history.now.versions)) }
 {
     targets_are_the_greatest();
-    if surely_takes_newest(held, newest, limits) {
-        return Ok(true);
+    if !is_within(limits.database, u64::from(newest.len()))
+        || !is_told_by_lines(history, list, held, limits.update)
+    {
+        return Ok(None);
     }
-    if held.is_empty() || !is_within(limits.database, u64::from(newest.len())) {
-        return Ok(false);
+    let delta = history.difference(alloc, list, held)?;
+    let count = delta.removals.len() as u64 + delta.additions.len() as u64;
+    if is_within(limits.update, count) {
+        return Ok(Some(delta));
     }
-    let count = count_apart(alloc, held, newest)?;
-    Ok(is_within(limits.update, count))
+    Ok(None)
 }
 
 // The full hashes of a list at a version with their sizes, in no order. The map that they are read
@@ -161,35 +168,6 @@ fn swept_target(
     Ok(first + taken)
 }
 
-/// The version of a list that a client is brought to, who holds a version of it or none. `held` is
-/// the set of that version, or of version 0. The stretches of the list are gone through, or its
-/// changes if it has prefixes of other sizes, only if the limits may keep the client from the newest
-/// version.
-pub(crate) fn target_from(
-    alloc: Global,
-    history: &History,
-    list: ListName,
-    served: &Served<'_>,
-    from: Option<u64>,
-    held: &PrefixSet,
-    limits: Limits,
-) -> Result<u64, OutOfMemory>
-    requires served { IsServed served.now history.now.versions list }
-    requires within { IfSome from (λ version. version ≤ version_count history.now.versions) }
-    requires held { held.now ≡ prefixes_at history.now.versions list (unwrap_or from 0) }
-    ensures target { IfOk result (λ version. version
-        ≡ target_version history.now.versions list from limits.update limits.database) }
-    ensures within { IfOk result (λ version. version ≤ version_count history.now.versions) }
-{
-    if takes_newest(alloc, held, served.set, limits)? {
-        return Ok(history.len());
-    }
-    match history.stretches(alloc, list)? {
-        Some(stretches) => swept_target(alloc, history, list, &stretches, from, limits),
-        None => walked_target(alloc, history, list, from, held, limits),
-    }
-}
-
 // The set of a declared list that a client holds, who holds a version of it or none.
 fn held_set(
     alloc: Global,
@@ -204,6 +182,84 @@ fn held_set(
     match from {
         None => Ok(PrefixSet::empty(alloc)),
         Some(version) => set_at(alloc, history, list, version),
+    }
+}
+
+/// The version of a declared list that a client is brought to, who holds a version of it or none,
+/// told by the stretches of the list, or by its changes if it has prefixes of other
+/// sizes.
+pub(crate) fn older_target(
+    alloc: Global,
+    history: &History,
+    list: ListName,
+    from: Option<u64>,
+    limits: Limits,
+) -> Result<u64, OutOfMemory>
+    requires declared { declares history.now.versions list ≡ true }
+    requires within { IfSome from (λ version. version ≤ version_count history.now.versions) }
+    ensures target { IfOk result (λ version. version
+        ≡ target_version history.now.versions list from limits.update limits.database) }
+    ensures within { IfOk result (λ version. version ≤ version_count history.now.versions) }
+{
+    match history.stretches(alloc, list)? {
+        Some(stretches) => swept_target(alloc, history, list, &stretches, from, limits),
+        None => {
+            let held = held_set(alloc, history, list, from)?;
+            walked_target(alloc, history, list, from, &held, limits)
+        }
+    }
+}
+
+/// Whether one who holds no version is brought to the newest.
+pub(crate) fn takes_whole(newest: &PrefixSet, limits: Limits) -> bool
+    ensures { result ≡ true → (versions : Versions) (list : Name)
+        → newest.now ≡ prefixes_at versions list (version_count versions)
+        → target_version versions list None limits.update limits.database ≡ version_count versions }
+{
+    targets_are_the_greatest();
+    let count = u64::from(newest.len());
+    is_within(limits.update, count) && is_within(limits.database, count)
+}
+
+/// The version of a declared list that one is brought to who holds none.
+pub(crate) fn whole_target(
+    alloc: Global,
+    history: &History,
+    list: ListName,
+    newest: &PrefixSet,
+    limits: Limits,
+) -> Result<u64, OutOfMemory>
+    requires declared { declares history.now.versions list ≡ true }
+    requires newest { newest.now ≡ prefixes_at history.now.versions list (version_count history.now.versions) }
+    ensures target { IfOk result (λ version. version
+        ≡ target_version history.now.versions list None limits.update limits.database) }
+    ensures within { IfOk result (λ version. version ≤ version_count history.now.versions) }
+{
+    if takes_whole(newest, limits) {
+        return Ok(history.len());
+    }
+    older_target(alloc, history, list, None, limits)
+}
+
+// Whether one who holds a version or none is told to be brought to the newest before the list is
+// swept.
+fn takes_newest(
+    alloc: Global,
+    history: &History,
+    list: ListName,
+    newest: &PrefixSet,
+    from: Option<u64>,
+    limits: Limits,
+) -> Result<bool, OutOfMemory>
+    requires declared { declares history.now.versions list ≡ true }
+    requires within { IfSome from (λ version. version ≤ version_count history.now.versions) }
+    requires newest { newest.now ≡ prefixes_at history.now.versions list (version_count history.now.versions) }
+    ensures { IfOk result (λ takes. takes ≡ true
+        → target_version history.now.versions list from limits.update limits.database ≡ version_count history.now.versions) }
+{
+    match from {
+        None => Ok(takes_whole(newest, limits)),
+        Some(held) => Ok(newest_delta(alloc, history, list, newest, held, limits)?.is_some()),
     }
 }
 
@@ -226,10 +282,12 @@ pub fn target(
     let Some(served) = served_list(history, list) else {
         unreachable!()
     };
-    let held = held_set(alloc, history, list, from)?;
     let limits = Limits {
         update: max_update,
         database: max_database,
     };
-    target_from(alloc, history, list, &served, from, &held, limits)
+    if takes_newest(alloc, history, list, served.set, from, limits)? {
+        return Ok(history.len());
+    }
+    older_target(alloc, history, list, from, limits)
 }

@@ -2,7 +2,7 @@ ghost use Rattle.std.specs.Prelude.{◌≡◌, ℕ, ◌≤◌, List, length, IfO
 ghost use Rattle.sha2.specs.Sha256.{sha256};
 ghost use Rattle.sb_model.specs.Difference.{removed_places, added_members};
 ghost use Rattle.sb_model.specs.Prefixes.{concatenation};
-ghost use Rattle.delta_server.specs.Updates.{whole_update, difference_update};
+ghost use Rattle.delta_server.specs.Updates.{MayBeSent, whole_update, difference_update};
 
 use crate::sets::{addition_sets, removal_sets, whole_sets};
 use prefix_set::{Delta, PrefixSet};
@@ -25,14 +25,6 @@ fn base_of(alloc: Global, asked: &ListRequest) -> Result<Bytes, OutOfMemory>
     Bytes::from_slice(alloc, asked.state.as_slice())
 }
 
-// What leads from one set to another: the places of its members that go, and the members that come.
-fn delta_of(alloc: Global, old: &PrefixSet, newer: &PrefixSet) -> Result<Delta, OutOfMemory>
-    ensures removals { IfOk result (λ delta. delta.removals ≡ removed_places old.now newer.now) }
-    ensures additions { IfOk result (λ delta. delta.additions ≡ added_members old.now newer.now) }
-{
-    old.difference(alloc, newer)
-}
-
 /// The update to the whole of a set.
 pub fn full_update(
     alloc: Global,
@@ -53,6 +45,20 @@ pub fn full_update(
     })
 }
 
+// What leads from one set to another: the places of its members that go, and the members that come.
+fn delta_of(alloc: Global, old: &PrefixSet, newer: &PrefixSet) -> Result<Delta, OutOfMemory>
+    ensures removals { IfOk result (λ delta. delta.removals ≡ removed_places old.now newer.now) }
+    ensures additions { IfOk result (λ delta. delta.additions ≡ added_members old.now newer.now) }
+    ensures sent { IfOk result (λ delta. MayBeSent delta) }
+{
+    sent_numbers_rise();
+    // looked at for the prover: what each set keeps
+    let _ = old.len();
+    let _ = newer.len();
+    let delta = old.difference(alloc, newer)?;
+    Ok(delta)
+}
+
 /// The update from the set of the asked state to a newer one, of a list with a declared size.
 pub fn partial_update(
     alloc: Global,
@@ -64,11 +70,25 @@ pub fn partial_update(
     requires { newer.now.digest ≡ sha256 (concatenation newer.now.set.now) }
     ensures { IfOk result (λ update. update ≡ difference_update asked.now size old.now newer.now.set.now newer.now.token) }
 {
-    sent_numbers_rise();
-    // looked at for the prover: what each set keeps
-    let _ = old.len();
-    let _ = newer.set.len();
     let delta = delta_of(alloc, old, newer.set)?;
+    delta_update(alloc, asked, size, delta, newer.digest, newer.token)
+}
+
+/// The update from the set of the asked state to a newer one by what leads there, of a list with a
+/// declared size. The digest is that of the newer set, and the token that of its version.
+pub fn delta_update(
+    alloc: Global,
+    asked: &ListRequest,
+    size: u8,
+    delta: Delta,
+    digest: [u8; 32],
+    token: [u8; 20],
+) -> Result<ListUpdate, OutOfMemory>
+    requires { MayBeSent delta }
+    ensures { IfOk result (λ update. (old newer : List (List ℕ)) → delta.removals ≡ removed_places old newer
+        → delta.additions ≡ added_members old newer → digest ≡ sha256 (concatenation newer)
+        → update ≡ difference_update asked.now size old newer token) }
+{
     let base = base_of(alloc, asked)?;
     Ok(ListUpdate {
         name: asked.name,
@@ -76,8 +96,8 @@ pub fn partial_update(
         base,
         additions: addition_sets(alloc, delta.additions.as_slice(), asked.rice)?,
         removals: removal_sets(alloc, delta.removals, size, asked.rice)?,
-        new_state: Bytes::from_slice(alloc, newer.token.as_slice())?,
-        checksum: newer.digest,
+        new_state: Bytes::from_slice(alloc, token.as_slice())?,
+        checksum: digest,
     })
 }
 

@@ -1,32 +1,21 @@
-use Rattle.std.proofs.Common.{◌≡◌, ℕ, List, Some, sym, ap, ◌∙◌}
+use Rattle.std.proofs.Common.{◌≡◌, ℕ, List, Option, Some, sym, ap, subst, ◌∙◌}
+use Rattle.std.specs.Prelude.{IfSome}
+use Rattle.prefix_set.specs.declared.difference.Delta.{Delta}
 use Rattle.std.proofs.lemmas.Result.{IfOk-weaker}
 use Rattle.sha2.specs.Sha256.{sha256}
-use Rattle.sb_model.specs.declared.names.ListName.{ListName}
-use Rattle.sb_model.specs.History.{History, prefixes_at}
+use Rattle.sb_model.specs.History.{History, version_count, prefixes_at}
 use Rattle.sb_model.specs.Prefixes.{concatenation}
 use Rattle.sb_model.specs.Target.{target_version}
-use Rattle.update_messages.specs.Answer.{update_to, declared_size}
+use Rattle.update_messages.specs.Answer.{update_to}
 use Rattle.update_messages.specs.Messages.{AskedList, UpdatedList}
-use Rattle.delta_server.specs.Tokens.{server_token, server_naming}
+use Rattle.delta_server.specs.Tokens.{server_naming}
 use Rattle.delta_server.specs.Updates.{difference_update}
 use Rattle.delta_server.proofs.AnswerFacts.{partial_is, token_same, target_same}
 use Rattle.delta_server.proofs.TargetFacts.{stays_newest}
 use Rattle.delta_server.proofs.items.partial_answer.Goals as goal
 
--- the answer is the update from one set to another
-module _ (history : History) (asked : AskedList) (held size : ℕ) (old set : List (List ℕ)) (token : List ℕ) (version : ℕ) where
-  abbrev target : ℕ
-  target = target_version history asked.name (Some held) asked.max_update asked.max_database
-
-  abbrev Made : UpdatedList → Type 0
-  Made update = update ≡ difference_update asked size old set token
-
-  abbrev Wanted : UpdatedList → Type 0
-  Wanted update = update ≡ update_to history (server_naming history) asked (Some held) target
-
-  wanted : size ≡ declared_size history asked.name → old ≡ prefixes_at history asked.name held → set ≡ prefixes_at history asked.name version
-      → token ≡ server_token history.epoch asked.name version → version ≡ target → (update : UpdatedList) → Made update → Wanted update
-  wanted declared from sent named is update made = partial_is history asked held size old set token version target update made declared from sent named is
+abbrev target : History → AskedList → ℕ → ℕ
+target versions asked held = target_version versions asked.name (Some held) asked.max_update asked.max_database
 
 pub returns-then-held-len : goal.returns-then-held-len
 returns-then-held-len c =
@@ -39,24 +28,24 @@ returns-then-held-len c =
     let own : set ≡ prefixes_at versions asked.name held = c.requires.served.set ∙ ap (prefixes_at versions asked.name) (sym (c.if-held-len.true ∙ c.len.ensures.count)) in
     IfOk-weaker c.unchanged_update.result
     (λ (update : UpdatedList). (n : ℕ) (s : List (List ℕ)) → c.args.served.now.digest ≡ sha256 (concatenation s) → update ≡ difference_update asked n s s token)
-    (Wanted versions asked held c.args.served.now.size set set token held)
-    (λ update made. wanted versions asked held c.args.served.now.size set set token held c.requires.served.size own own
+    (λ (update : UpdatedList). update ≡ update_to versions (server_naming versions) asked (Some held) (target versions asked held))
+    (λ update made. partial_is versions asked held c.args.served.now.size set set token held (target versions asked held) update
+    (made c.args.served.now.size set c.requires.served.digest) c.requires.served.size own own
     (c.state_token-token.ensures ∙ token_same c.epoch.result versions.epoch c.asked.inside.name asked.name held c.epoch.ensures name)
-    (sym (stays_newest versions asked.name held asked.max_update asked.max_database (sym (c.if-held-len.true ∙ c.len.ensures.count))))
-    update (made c.args.served.now.size set c.requires.served.digest))
+    (sym (stays_newest versions asked.name held asked.max_update asked.max_database (sym (c.if-held-len.true ∙ c.len.ensures.count)))))
     c.unchanged_update.ensures
 
-pub returns : goal.returns
-returns c =
+pub returns-in-Some : goal.returns-in-Some
+returns-in-Some c =
     let versions : History = c.args.history.now.versions in
     let asked : AskedList = c.args.asked.now in
     let name : c.asked.inside.name ≡ asked.name = ap (λ (a : AskedList). a.name) c.asked.view_is in
-    IfOk-weaker c.partial_update.result
-    (Made versions asked c.args.held c.args.served.now.size c.in_ok-before.before c.sent_of-sent.result.set.now c.sent_of-sent.result.token c.in_ok-version.version)
-    (Wanted versions asked c.args.held c.args.served.now.size c.in_ok-before.before c.sent_of-sent.result.set.now c.sent_of-sent.result.token c.in_ok-version.version)
-    (wanted versions asked c.args.held c.args.served.now.size c.in_ok-before.before c.sent_of-sent.result.set.now c.sent_of-sent.result.token c.in_ok-version.version
-    c.requires.served.size (c.in_ok-before.ensures ∙ ap (λ (n : ListName). prefixes_at versions n c.args.held) name)
-    (c.sent_of-sent.ensures.set ∙ ap (λ (n : ListName). prefixes_at versions n c.in_ok-version.version) name)
-    (c.sent_of-sent.ensures.token ∙ ap (λ (n : ListName). server_token versions.epoch n c.in_ok-version.version) name)
-    (c.in_ok-version.ensures.target ∙ target_same versions (Some c.args.held) c.asked.inside.name asked.name _ _ _ _ name c.limits_of.ensures.update c.limits_of.ensures.database))
-    c.partial_update.ensures
+    let told : target_version versions c.asked.inside.name (Some c.args.held) c.limits_of.result.update c.limits_of.result.database ≡ version_count versions =
+    subst (λ (found : Option Delta). IfSome found (λ _. target_version versions c.asked.inside.name (Some c.args.held) c.limits_of.result.update c.limits_of.result.database ≡ version_count versions))
+    c.in-Some.is c.in_ok-delta.ensures.target in
+    let is : version_count versions ≡ target versions asked c.args.held =
+    sym told ∙ target_same versions (Some c.args.held) c.asked.inside.name asked.name _ _ _ _ name c.limits_of.ensures.update c.limits_of.ensures.database in
+    IfOk-weaker c.newest_answer.result (λ (update : UpdatedList). update ≡ update_to versions (server_naming versions) asked (Some c.args.held) (version_count versions))
+    (λ (update : UpdatedList). update ≡ update_to versions (server_naming versions) asked (Some c.args.held) (target versions asked c.args.held))
+    (λ update made. made ∙ ap (update_to versions (server_naming versions) asked (Some c.args.held)) is)
+    c.newest_answer.ensures
