@@ -2,7 +2,7 @@
 use Rattle.std.proofs.Common.{◌≡◌, ◌⊎◌, inl, inr, ℕ, Bool, true, false, not, ◌||◌, cond, List, [], ◌∷◌, ◌++◌, ◌+◌, ◌<◌, length, get_or, take, map, Some, Result, Ok, Err, IfOk, add-one, refl, sym, ap, subst, ◌∙◌}
 use Rattle.std.specs.Prelude.{◌↔◌, All, Contains, IsTrue, filter, slice_get}
 use Rattle.std.proofs.lemmas.Bool.{false≢true}
-use Rattle.std.proofs.lemmas.List.{append-nil, map-append, take_more}
+use Rattle.std.proofs.lemmas.List.{append-nil, append_assoc, map-append, take_more}
 use Rattle.std.proofs.lemmas.List.Elements.{filter-append}
 use Rattle.std.proofs.lemmas.List.Kept.{IsStrictlySortedBy-filter}
 use Rattle.prefix_set.proofs.DifferenceFacts.{has_Contains, Contains-has}
@@ -76,6 +76,14 @@ filtered_more p entries i d old new lt before e =
     ∙ sym (filter-append p (map shown (take i entries)) (shown (get_or entries i d) ∷ []))
     ∙ ap (filter p) (sym (map-append {B = List ℕ} shown (take i entries) (get_or entries i d ∷ [])))
     ∙ ap (λ (es : List Added). filter p (map shown es)) (sym (take_more entries i d lt))
+
+-- the same behind others
+pub filtered_after : (p : List ℕ → Bool) (entries : List Added) (i : ℕ) (d : Added) (first old new : List (List ℕ)) → i < length entries → old ≡ first ++ filter p (map shown (take i entries))
+    → new ≡ old ++ filter p (shown (get_or entries i d) ∷ []) → new ≡ first ++ filter p (map shown (take (i + 1) entries))
+filtered_after p entries i d first old new lt before e =
+    let some = filter p (map shown (take i entries)) in
+    let one = filter p (shown (get_or entries i d) ∷ []) in
+    e ∙ ap (λ ps. ps ++ one) before ∙ append_assoc first some one ∙ ap (λ ps. first ++ ps) (filtered_more p entries i d some (some ++ one) lt refl refl)
 
 -- one place more
 pub placed_more : (f : List ℕ → ℕ) (set : List (List ℕ)) (i : ℕ) (x : List ℕ) (old new : List ℕ) (place : ℕ) → slice_get set i ≡ Some x → old ≡ map f (take i set) → new ≡ old ++ place ∷ [] → place ≡ f x

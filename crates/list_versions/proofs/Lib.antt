@@ -3,6 +3,7 @@ pub mod Applying
 pub mod Beginning
 pub mod Begun
 pub mod Between
+pub mod Changing
 pub mod Completing
 pub mod Crowds
 pub mod Cuts
@@ -29,6 +30,7 @@ pub mod Mapped
 pub mod Membership
 pub mod NameCodes
 pub mod Newests
+pub mod Numbered
 pub mod Parts
 pub mod Placing
 pub mod PrefixBytes
@@ -48,6 +50,7 @@ pub mod Standings
 pub mod StretchLines
 pub mod StretchOrder
 pub mod Starting
+pub mod Toggles
 pub mod Versions
 pub mod Words
 pub mod Written

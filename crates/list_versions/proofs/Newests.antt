@@ -12,6 +12,7 @@ use Rattle.list_versions.specs.declared.newest.Newest.{Newest}
 use Rattle.list_versions.specs.declared.draft.Listed.{Listed}
 use Rattle.list_versions.specs.Draft.{declared_of}
 use Rattle.list_versions.specs.Loaded.{IsNewest}
+use Rattle.list_versions.specs.Numbers.{AreNumbersOf}
 
 abbrev pub is_of : ListName → Newest → Bool
 is_of list newest = same_name newest.name list
@@ -58,6 +59,7 @@ pub record IsReady (versions : History) (list : ListName) (found : Newest) : Typ
   pub declared : declares versions list ≡ true
   pub set : found.set ≡ prefixes_at versions list (version_count versions)
   pub digest : found.digest ≡ sha256 (concatenation found.set)
+  pub numbers : AreNumbersOf found.set found.numbers.items
 
 abbrev pub Answers : History → ListName → Option (Bor Newest) → Type 0
 Answers versions list None = declares versions list ≡ false
@@ -75,4 +77,5 @@ answers same versions list newest lists (Some found) each names declared h =
       declared = ap (list_any (λ (declared : ListName × ℕ). same_name declared.0 list)) declared ∙ found_declared list newest lists names ∙ ap is_found (sym h);
       set = is.1.set ∙ ap (λ name. prefixes_at versions name (version_count versions)) name;
       digest = is.1.digest;
+      numbers = is.1.numbers;
     }

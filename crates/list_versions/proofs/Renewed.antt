@@ -88,6 +88,7 @@ stays_new : (old new : Draft) (newest : Newest) → KeepsFront old new → conce
 stays_new old new newest keeps none h = record {
   set = h.set ∙ ap (λ es. set_of (map prefix_of es)) (sym (sizes_unchanged old new newest.name keeps none));
   digest = h.digest;
+  numbers = h.numbers;
 }
 
 -- what is known of the sets that are taken from those before
@@ -202,6 +203,7 @@ was_newest old new newest keeps each names k l d lt =
     ap (fold (after_change (get_or newest k d).name) []) (take_all n old.changes.items (omega arith) ∙ sym keeps.changes) in
     record {
       name = name;
+      numbers = (each k d lt).numbers;
       set = (each k d lt).set ∙ ap (λ es. set_of (map prefix_of es)) sizes ∙ ap (λ (nm : ListName). prefixes_at (history_of new) nm n) name;
     }
 

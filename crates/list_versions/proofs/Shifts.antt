@@ -3,7 +3,7 @@ use Rattle.std.proofs.Common.{◌≡◌, ◌⊎◌, inl, inr, ℕ, ◌<◌, ◌�
 use Rattle.std.specs.Prelude.{◌==◌, All, Contains}
 use Rattle.std.proofs.lemmas.Bool.{eqb-true}
 use Rattle.std.proofs.lemmas.Bool.Decides.{nat_tests}
-use Rattle.std.proofs.lemmas.List.{take-append-drop, take_all}
+use Rattle.std.proofs.lemmas.List.{map-append, take-append-drop, take_all}
 use Rattle.std.proofs.lemmas.List.Elements.{All-contains, Contains-get_or}
 use Rattle.prefix_set.proofs.SetFacts.{set_unique}
 use Rattle.sb_model.specs.declared.history.Added.{Added}
@@ -14,13 +14,15 @@ use Rattle.sb_model.specs.Prefixes.{set_of}
 use Rattle.list_versions.specs.Draft.{history_of}
 use Rattle.list_versions.specs.Ends.{Line, adds_of, lasting, never, standing, unended}
 use Rattle.list_versions.specs.Folding.{after_changes}
-use Rattle.list_versions.specs.Live.{HasPlaced, IsPlaced, IsPublishable}
+use Rattle.list_versions.specs.Live.{HasPlaced, IsPlaced, IsPublishable, shown}
 use Rattle.list_versions.specs.Loaded.{IsStem}
+use Rattle.list_versions.specs.Shifting.{AreShifted}
 use Rattle.list_versions.specs.declared.draft.Draft.{Draft}
 use Rattle.list_versions.specs.declared.live.Live.{Live}
 use Rattle.list_versions.proofs.Ended.{unended_append}
 use Rattle.list_versions.proofs.Folds.{publishable_at}
 use Rattle.list_versions.proofs.Membership.{In, contains_in, in_contained, in_left, in_right, in_either, in_map, from_map}
+use Rattle.list_versions.proofs.Shown.{all_shown}
 use Rattle.list_versions.proofs.Versions.{newest_lines}
 
 -- ---- those that stand are those that have no end and those that end later
@@ -137,3 +139,12 @@ pub shift_to : {E : Type 0} (result : Result (List (List ℕ)) E) (live : Live) 
 shift_to (Err fault) live lines count from to leaving coming gone come placed first g c f t h = tt
 shift_to (Ok next) live lines count from to leaving coming gone come placed first g c f t h =
     h lines placed first (f ∙ ap (λ es. set_of (map prefix_of (unended (take count lines) ++ es))) (sym g)) ∙ ap (λ es. set_of (map prefix_of (unended (take count lines) ++ es))) c ∙ sym t
+
+-- the sets of two versions, by what is published of the full hashes that went and came
+pub sets_shifted : (first gone come leaving coming : List Added) (from to : List (List ℕ)) → All IsPublishable gone → All IsPublishable come → leaving ≡ gone → coming ≡ come
+    → from ≡ set_of (map prefix_of (first ++ gone)) → to ≡ set_of (map prefix_of (first ++ come)) → AreShifted from to (map shown leaving) (map shown coming)
+sets_shifted first gone come leaving coming from to well_gone well_come g c f t = record {
+  both = map prefix_of first;
+  before = f ∙ ap set_of (map-append {B = List ℕ} prefix_of first gone ∙ ap (λ ps. map prefix_of first ++ ps) (sym (ap (map shown) g ∙ all_shown gone well_gone)));
+  after = t ∙ ap set_of (map-append {B = List ℕ} prefix_of first come ∙ ap (λ ps. map prefix_of first ++ ps) (sym (ap (map shown) c ∙ all_shown come well_come)));
+}

@@ -11,6 +11,7 @@ pub mod Lines
 pub mod Live
 pub mod Loaded
 pub mod Lookup
+pub mod Numbers
 pub mod Pieces
 pub mod Printed
 pub mod Renewing

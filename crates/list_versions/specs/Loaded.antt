@@ -13,6 +13,7 @@ use Rattle.list_versions.specs.Live.{HasRead}
 use Rattle.list_versions.specs.Draft.{history_of, kept_of_draft, before_record, IsDraft}
 use Rattle.list_versions.specs.Journal.{Kept, kept_of, read_on}
 use Rattle.list_versions.specs.Limits.{most_lists, most_changes, most_hash_lines, hash_lines, WithinLimits}
+use Rattle.list_versions.specs.Numbers.{AreNumbersOf}
 use Rattle.list_versions.specs.Split.{IsFront}
 
 -- ---- what bytes of a source come to
@@ -68,10 +69,11 @@ pub record IsStem (draft : Draft) : Type 0 where
   pub well_formed : IsWellFormed (history_of draft)
   pub read : All (λ list. HasRead list.name draft.changes.items list.live) draft.lists.items
 
--- the newest prefixes of a list stand ready, with their digest
+-- the newest prefixes of a list stand ready, with their digest and their numbers
 pub record IsNewest (versions : History) (newest : Newest) : Type 0 where
   pub set : newest.set ≡ prefixes_at versions newest.name (version_count versions)
   pub digest : newest.digest ≡ sha256 (concatenation newest.set)
+  pub numbers : AreNumbersOf newest.set newest.numbers.items
 
 -- The newest prefixes of each declared list stand ready, and so do its newest full hashes unless these are stale.
 pub record IsLoaded (draft : Draft) (newest : List Newest) (rest : List ℕ) (stale : Bool) : Type 0 where

@@ -6,6 +6,7 @@ use Rattle.sb_model.specs.declared.names.ListName.{ListName}
 use Rattle.sb_model.specs.Names.{same_name}
 use Rattle.sb_model.specs.History.{prefixes_at}
 use Rattle.list_versions.specs.Draft.{history_of}
+use Rattle.list_versions.specs.Numbers.{AreNumbersOf}
 use Rattle.list_versions.specs.declared.draft.Draft.{Draft}
 use Rattle.list_versions.specs.declared.draft.Listed.{Listed}
 use Rattle.list_versions.specs.declared.newest.Newest.{Newest}
@@ -19,7 +20,8 @@ concerns changes list = list_any (λ change. same_name change.list list) changes
 abbrev pub stays : List Change → Before → ℕ → ListName → Bool
 stays changes before i list = nat_lt i before.lists && not (concerns (drop before.changes changes) list)
 
--- A set was the newest of a list when there were these changes alone.
+-- A set was the newest of a list when there were these changes alone. Its numbers stand beside it.
 pub record WasNewest (draft : Draft) (before : Before) (listed : Listed) (newest : Newest) : Type 0 where
   pub name : newest.name ≡ listed.name
   pub set : newest.set ≡ prefixes_at (history_of draft) listed.name before.changes
+  pub numbers : AreNumbersOf newest.set newest.numbers.items

@@ -4,7 +4,7 @@ use Rattle.std.specs.List.{list_any}
 use Rattle.std.specs.Str.{bytes_eq}
 use Rattle.std.specs.declared.cmp.Ordering.TheVariants.{Less}
 use Rattle.sb_model.specs.History.{prefix_of}
-use Rattle.sb_model.specs.Prefixes.{bytes_cmp}
+use Rattle.sb_model.specs.Prefixes.{bytes_cmp, set_of}
 use Rattle.prefix_set.specs.Search.{AreBefore}
 use Rattle.list_versions.specs.Live.{Buckets, lines_in}
 use Rattle.list_versions.specs.declared.bucket.Standing.{Standing}
@@ -36,3 +36,9 @@ pub record AreGoing (set : List (List ℕ)) (buckets : Buckets) (count : ℕ) (l
       → is_published count (lines_in buckets (take 4 prefix)) prefix ≡ false
   pub all : (place : ℕ) (prefix : List ℕ) → Contains leaving prefix → slice_get set place ≡ Some prefix
       → is_published count (lines_in buckets (take 4 prefix)) prefix ≡ false → Contains places place
+
+-- Two sets share some prefixes. The older one has those that went besides, and the newer one those that came.
+pub record AreShifted (older newer went came : List (List ℕ)) : Type 0 where
+  pub both : List (List ℕ)
+  pub before : older ≡ set_of (both ++ went)
+  pub after : newer ≡ set_of (both ++ came)

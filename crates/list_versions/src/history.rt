@@ -16,6 +16,7 @@ ghost use Rattle.sb_model.specs.Difference.{removed_places, added_members};
 ghost use Rattle.list_versions.specs.Ends.{adds_of};
 ghost use Rattle.list_versions.specs.Stretches.{AreStretches};
 ghost use Rattle.list_versions.specs.Loaded.{Gives, JournalOutcome, FurtherFault, IsNewest};
+ghost use Rattle.list_versions.specs.Numbers.{AreNumbersOf};
 ghost use Rattle.list_versions.specs.Pieces.{ReadsAll, StopsAt};
 
 use crate::JournalFault;
@@ -301,11 +302,12 @@ impl History {
         size_of(self.draft.lists.as_slice(), list)
     }
 
-    /// The newest prefixes of a list with their digest, where the list is declared.
+    /// The newest prefixes of a list with their digest and their numbers, where the list is declared.
     pub fn newest(&self, list: ListName) -> Option<&Newest>
         ensures declared { IfSome result (λ newest. declares self.now.versions list ≡ true) }
         ensures set { IfSome result (λ newest. newest.now.set ≡ prefixes_at self.now.versions list (version_count self.now.versions)) }
         ensures digest { IfSome result (λ newest. newest.now.digest ≡ sha256 (concatenation newest.now.set)) }
+        ensures numbers { IfSome result (λ newest. AreNumbersOf newest.now.set newest.now.numbers.items) }
         ensures none { IfNone result (declares self.now.versions list ≡ false) }
     {
         names_go_by_their_codes();

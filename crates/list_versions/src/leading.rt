@@ -18,8 +18,8 @@ use prefix_set::{Delta, PrefixSet};
 use sb_model::{Added, ListName, OutOfMemory, Row};
 use std::alloc::Global;
 
-// The set of some prefixes.
-fn set_from(alloc: Global, prefixes: &[Prefix]) -> Result<PrefixSet, OutOfMemory>
+/// The set of some prefixes.
+pub(crate) fn set_from(alloc: Global, prefixes: &[Prefix]) -> Result<PrefixSet, OutOfMemory>
     ensures { IfOk result (λ set. set ≡ set_of prefixes.now) }
 {
     match PrefixSet::from_prefixes(alloc, prefixes) {
@@ -39,14 +39,26 @@ fn push_lost(lost: &mut Vec<Prefix>, newest: &PrefixSet, entry: &Added) -> Resul
     Ok(())
 }
 
+/// Appends what is published of full hashes that went, but for what the newest set has.
+pub(crate) fn push_lost_of(
+    lost: &mut Vec<Prefix>,
+    newest: &PrefixSet,
+    went: &[Added],
+) -> Result<(), OutOfMemory>
+    ensures { OnOk result (lost.new.items ≡ lost.old.items ++ added_members newest.now (map shown went.now)) }
+{
+    for entry in went {
+        push_lost(lost, newest, entry)?;
+    }
+    Ok(())
+}
+
 // The prefixes of the full hashes that went which the newest set does not have.
 fn lost_of(alloc: Global, newest: &PrefixSet, went: &[Added]) -> Result<PrefixSet, OutOfMemory>
     ensures { IfOk result (λ lost. lost ≡ set_of (added_members newest.now (map shown went.now))) }
 {
     let mut lost = Vec::new(alloc);
-    for entry in went {
-        push_lost(&mut lost, newest, entry)?;
-    }
+    push_lost_of(&mut lost, newest, went)?;
     set_from(alloc, lost.as_slice())
 }
 

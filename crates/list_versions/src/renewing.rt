@@ -2,6 +2,7 @@ ghost use Rattle.std.specs.Prelude.{◌≡◌, ◌≢◌, ℕ, ◌<◌, ◌≤�
 ghost use Rattle.sb_model.specs.declared.names.ListName.{ListName as Name};
 ghost use Rattle.list_versions.specs.Draft.{history_of, IsDraft};
 ghost use Rattle.list_versions.specs.Loaded.{IsNewest};
+ghost use Rattle.list_versions.specs.Numbers.{AreNumbersOf};
 ghost use Rattle.list_versions.specs.Renewing.{WasNewest, concerns, stays};
 ghost use Rattle.sb_model.specs.History.{prefixes_at};
 ghost use Rattle.list_versions.specs.declared.draft.Listed.{Listed as List'};
@@ -9,7 +10,8 @@ ghost use Rattle.list_versions.specs.declared.newest.Newest.{Newest as Ready};
 
 use crate::draft::{Draft, Listed};
 use crate::lists::same;
-use crate::newest::Newest;
+use crate::newest::{Newest, Numbered};
+use crate::numbers::numbers_of;
 use crate::published::published_set;
 use crate::shifting::{is_near, newer_set};
 use prefix_set::PrefixSet;
@@ -39,19 +41,20 @@ fn is_kept(changes: &[Change], before: Before, i: usize, list: ListName) -> bool
     i < before.lists && !is_concerned(&changes[before.changes..], list)
 }
 
-// The newest prefixes of a list: those that it had before, changed by what came, or else all anew.
+// The newest prefixes of a list with their numbers: those that it had before, changed by what came, or else all anew.
 fn newest_set(
     alloc: Global,
     draft: &Draft,
     before: Before,
     old: &[Newest],
     i: usize,
-) -> Result<PrefixSet, OutOfMemory>
+) -> Result<Numbered, OutOfMemory>
     requires draft { IsDraft draft.now }
     requires within { i < length draft.now.lists.items }
     requires before { before.changes ≤ length draft.now.changes.items }
     requires old { (k : ℕ) (list : List') (d : Ready) → k < length old.now → WasNewest draft.now before (slice_index_or draft.now.lists.items k list) (slice_index_or old.now k d) }
-    ensures { IfOk result (λ set. (list : List') → set ≡ prefixes_at (history_of draft.now) (slice_index_or draft.now.lists.items i list).name (length draft.now.changes.items)) }
+    ensures set { IfOk result (λ found. (list : List') → found.set ≡ prefixes_at (history_of draft.now) (slice_index_or draft.now.lists.items i list).name (length draft.now.changes.items)) }
+    ensures numbers { IfOk result (λ found. AreNumbersOf found.set found.numbers.items) }
 {
     let listed = &draft.lists[i];
     if i < old.len() && is_near(draft.changes.as_slice(), before.changes) {
@@ -60,11 +63,13 @@ fn newest_set(
             draft,
             listed.name,
             &listed.live,
-            &old[i].set,
+            &old[i],
             before.changes,
         );
     }
-    published_set(alloc, &listed.live)
+    let set = published_set(alloc, &listed.live)?;
+    let numbers = numbers_of(alloc, &set)?;
+    Ok(Numbered { set, numbers })
 }
 
 // The newest set of a list that is made anew, and else an empty set.
@@ -88,11 +93,17 @@ fn renewed(
             name,
             set: PrefixSet::empty(alloc),
             digest: [0; 32],
+            numbers: Vec::new(alloc),
         });
     }
-    let set = newest_set(alloc, draft, before, old, i)?;
+    let Numbered { set, numbers } = newest_set(alloc, draft, before, old, i)?;
     let digest = set.digest();
-    Ok(Newest { name, set, digest })
+    Ok(Newest {
+        name,
+        set,
+        digest,
+        numbers,
+    })
 }
 
 /// The newest sets of all lists, by those that they had before. Those that stay are empty here.

@@ -6,6 +6,7 @@ ghost use Rattle.list_versions.specs.Ends.{Line, adds_of, lasting, unended};
 ghost use Rattle.list_versions.specs.Limits.{hash_lines, most_hash_lines};
 ghost use Rattle.list_versions.specs.Live.{HasPlaced, IsPlaced, IsPublishable, lines_in};
 ghost use Rattle.list_versions.specs.Loaded.{IsStem};
+ghost use Rattle.list_versions.specs.Numbers.{AreNumbersOf};
 ghost use Rattle.list_versions.specs.Shifting.{AreGoing, Goes, is_published};
 
 use crate::bucket::published;
@@ -15,8 +16,10 @@ use crate::ends::NEVER;
 use crate::lists::adds_count;
 use crate::live::Live;
 use crate::lookup::head_of;
+use crate::newest::{Newest, Numbered};
 use crate::places::place_of;
 use crate::published::{prefixes_in, shown_prefix};
+use crate::renumbering::renumbered;
 use crate::standing::lasting_in;
 use hash_prefixes::Prefix;
 use prefix_set::{PrefixSet, sets_go_by_members};
@@ -180,23 +183,30 @@ pub(crate) fn older_set(
     shifted(alloc, newest, live, count, came.as_slice(), went.as_slice())
 }
 
-/// The newest prefixes of a list, of those at an earlier version.
+/// The newest prefixes of a list with their numbers, of those at an earlier version.
 pub(crate) fn newer_set(
     alloc: Global,
     draft: &Draft,
     list: ListName,
     live: &Live,
-    older: &PrefixSet,
+    older: &Newest,
     version: usize,
-) -> Result<PrefixSet, OutOfMemory>
+) -> Result<Numbered, OutOfMemory>
     requires stem { IsStem draft.now }
     requires version { version ≤ length draft.now.changes.items }
     requires placed { HasPlaced list draft.now.changes.items live.now }
-    requires older { older.now ≡ prefixes_at (history_of draft.now) list version }
-    ensures { IfOk result (λ set. set ≡ prefixes_at (history_of draft.now) list (length draft.now.changes.items)) }
+    requires older { older.now.set ≡ prefixes_at (history_of draft.now) list version }
+    requires numbers { AreNumbersOf older.now.set older.now.numbers.items }
+    ensures set { IfOk result (λ newer. newer.set ≡ prefixes_at (history_of draft.now) list (length draft.now.changes.items)) }
+    ensures numbers { IfOk result (λ newer. AreNumbersOf newer.set newer.numbers.items) }
 {
     let changes = draft.changes.as_slice();
     let shift = shift_since(alloc, changes, list, live.ends.as_slice(), version)?;
     let Shift { went, came, count } = shift;
-    shifted(alloc, older, live, count, went.as_slice(), came.as_slice())
+    let went = went.as_slice();
+    let came = came.as_slice();
+    let set = shifted(alloc, &older.set, live, count, went, came)?;
+    let held = older.numbers.as_slice();
+    let numbers = renumbered(alloc, held, &older.set, &set, went, came)?;
+    Ok(Numbered { set, numbers })
 }

@@ -1,13 +1,14 @@
-use Rattle.std.proofs.Common.{◌∙◌, List, length, take, drop, sym, ap, subst, arith, false}
+use Rattle.std.proofs.Common.{◌∙◌, List, ℕ, length, take, drop, sym, ap, subst, arith, false, Ok}
 use Rattle.std.specs.Prelude.{All}
 use Rattle.sb_model.specs.declared.history.Added.{Added}
 use Rattle.sb_model.specs.declared.history.Change.{Change}
 use Rattle.list_versions.specs.Ends.{adds_of, lasting, unended}
 use Rattle.list_versions.specs.Limits.{hash_lines}
 use Rattle.list_versions.specs.Live.{IsPublishable}
+use Rattle.list_versions.specs.Numbers.{AreNumbersOf}
 use Rattle.list_versions.proofs.Folds.{read_placed}
 use Rattle.list_versions.proofs.ReadBack.{ends_long}
-use Rattle.list_versions.proofs.Shifts.{found_of, shift_to, shifts}
+use Rattle.list_versions.proofs.Shifts.{found_of, sets_shifted, shift_to, shifts}
 use Rattle.list_versions.proofs.shifting.newer_set.Goals as goal
 
 pub shift_since-requires : goal.shift_since-requires
@@ -26,17 +27,34 @@ shifted-requires c =
     let fact = shifts c.args.draft.now c.args.list c.args.version count c.args.live.now c.requires.placed c.requires.stem c.requires.version
     (c.in_ok-shift.ensures.count ∙ ap (λ (cs : List Change). length (adds_of c.args.list (take c.args.version cs))) c.as_slice-changes.ensures.value) in
     record {
-      leaving = subst (λ (es : List Added). All IsPublishable es) (sym (c.as_slice-2.ensures.value ∙ found.went)) fact.went;
-      coming = subst (λ (es : List Added). All IsPublishable es) (sym (c.as_slice-3.ensures.value ∙ found.came)) fact.came;
+      leaving = subst (λ (es : List Added). All IsPublishable es) (sym (c.as_slice-went.ensures.value ∙ found.went)) fact.went;
+      coming = subst (λ (es : List Added). All IsPublishable es) (sym (c.as_slice-came.ensures.value ∙ found.came)) fact.came;
     }
 
-pub returns : goal.returns
-returns c =
+pub renumbered-requires : goal.renumbered-requires
+renumbered-requires c =
     let count = c.in_ok-shift.shift.count in
     let found = found_of c.args.list c.args.draft.now.changes.items c.args.live.now c.requires.placed c.args.version count c.in_ok-shift.shift.went.items c.in_ok-shift.shift.came.items c.as_slice-changes.result.now c.as_slice.result.now
     c.as_slice-changes.ensures.value c.as_slice.ensures.value c.in_ok-shift.ensures.went c.in_ok-shift.ensures.came in
     let fact = shifts c.args.draft.now c.args.list c.args.version count c.args.live.now c.requires.placed c.requires.stem c.requires.version
     (c.in_ok-shift.ensures.count ∙ ap (λ (cs : List Change). length (adds_of c.args.list (take c.args.version cs))) c.as_slice-changes.ensures.value) in
-    shift_to c.shifted.result c.args.live.now c.requires.placed.lines count c.args.older.now _ c.as_slice-2.result.now c.as_slice-3.result.now
+    let set = shift_to {E = ℕ} (Ok c.in_ok-set.set) c.args.live.now c.requires.placed.lines count c.args.older.now.set _ c.as_slice-went.result.now c.as_slice-came.result.now
     (lasting c.args.version false (take count c.requires.placed.lines)) (unended (drop count c.requires.placed.lines))
-    c.requires.placed.placed fact.first (c.as_slice-2.ensures.value ∙ found.went) (c.as_slice-3.ensures.value ∙ found.came) (c.requires.older ∙ fact.older) fact.newer c.shifted.ensures
+    c.requires.placed.placed fact.first (c.as_slice-went.ensures.value ∙ found.went) (c.as_slice-came.ensures.value ∙ found.came) (c.requires.older ∙ fact.older) fact.newer c.in_ok-set.ensures in
+    record {
+      numbers = subst (AreNumbersOf c.args.older.now.set) (sym c.as_slice-held.ensures.value) c.requires.numbers;
+      shifted = sets_shifted (unended (take count c.requires.placed.lines)) (lasting c.args.version false (take count c.requires.placed.lines)) (unended (drop count c.requires.placed.lines))
+          c.as_slice-went.result.now c.as_slice-came.result.now c.args.older.now.set c.in_ok-set.set fact.went fact.came (c.as_slice-went.ensures.value ∙ found.went) (c.as_slice-came.ensures.value ∙ found.came)
+          (c.requires.older ∙ fact.older) (set ∙ fact.newer);
+    }
+
+pub returns-clause-set : goal.returns-clause-set
+returns-clause-set c =
+    let count = c.in_ok-shift.shift.count in
+    let found = found_of c.args.list c.args.draft.now.changes.items c.args.live.now c.requires.placed c.args.version count c.in_ok-shift.shift.went.items c.in_ok-shift.shift.came.items c.as_slice-changes.result.now c.as_slice.result.now
+    c.as_slice-changes.ensures.value c.as_slice.ensures.value c.in_ok-shift.ensures.went c.in_ok-shift.ensures.came in
+    let fact = shifts c.args.draft.now c.args.list c.args.version count c.args.live.now c.requires.placed c.requires.stem c.requires.version
+    (c.in_ok-shift.ensures.count ∙ ap (λ (cs : List Change). length (adds_of c.args.list (take c.args.version cs))) c.as_slice-changes.ensures.value) in
+    shift_to {E = ℕ} (Ok c.in_ok-set.set) c.args.live.now c.requires.placed.lines count c.args.older.now.set _ c.as_slice-went.result.now c.as_slice-came.result.now
+    (lasting c.args.version false (take count c.requires.placed.lines)) (unended (drop count c.requires.placed.lines))
+    c.requires.placed.placed fact.first (c.as_slice-went.ensures.value ∙ found.went) (c.as_slice-came.ensures.value ∙ found.came) (c.requires.older ∙ fact.older) fact.newer c.in_ok-set.ensures

@@ -6,6 +6,7 @@ use Rattle.sb_model.specs.Prefixes.{concatenation}
 use Rattle.sha2.specs.Sha256.{sha256}
 use Rattle.std.specs.Prelude.{find}
 use Rattle.list_versions.specs.Draft.{history_of}
+use Rattle.list_versions.specs.Numbers.{AreNumbersOf}
 use Rattle.list_versions.proofs.Newests.{Answers, answers, is_of}
 use Rattle.list_versions.proofs.history.History.newest.Goals as goal
 
@@ -20,6 +21,10 @@ set_in versions list (Some found) h = h.set
 digest_in : (versions : History) (list : ListName) (result : Option (Bor Newest)) → Answers versions list result → IfSome result (λ newest. newest.now.digest ≡ sha256 (concatenation newest.now.set))
 digest_in versions list None h = tt
 digest_in versions list (Some found) h = h.digest
+
+numbers_in : (versions : History) (list : ListName) (result : Option (Bor Newest)) → Answers versions list result → IfSome result (λ newest. AreNumbersOf newest.now.set newest.now.numbers.items)
+numbers_in versions list None h = tt
+numbers_in versions list (Some found) h = h.numbers
 
 none_in : (versions : History) (list : ListName) (result : Option (Bor Newest)) → Answers versions list result → IfNone result (declares versions list ≡ false)
 none_in versions list None h = h
@@ -40,6 +45,9 @@ returns-clause-set c = set_in c.args.self.now.versions c.args.list c.newest_of.r
 
 pub returns-clause-digest : goal.returns-clause-digest
 returns-clause-digest c = digest_in c.args.self.now.versions c.args.list c.newest_of.result (found c)
+
+pub returns-clause-numbers : goal.returns-clause-numbers
+returns-clause-numbers c = numbers_in c.args.self.now.versions c.args.list c.newest_of.result (found c)
 
 pub returns-clause-none : goal.returns-clause-none
 returns-clause-none c = none_in c.args.self.now.versions c.args.list c.newest_of.result (found c)
