@@ -40,11 +40,10 @@ fn tell<W: Display + Drop>(rt: &HostRuntime, object: &str, target: &Option<Text>
 /// The journal at a path. Without one, and where it cannot be opened, each read fails.
 fn journal_at<'a>(
     rt: &'a HostRuntime,
-    alloc: Global,
     path: &Option<Text>,
 ) -> Result<JournalFile<&'a HostRuntime>, OutOfMemory> {
     match path {
-        Some(path) => JournalFile::open(rt, alloc, path.as_str()),
+        Some(path) => JournalFile::open(rt, rt.alloc(), path.as_str()),
         None => Ok(JournalFile::unusable(rt)),
     }
 }
@@ -60,33 +59,21 @@ fn limits_of(room: Option<DoorRoom>) -> DoorLimits {
 }
 
 /// The door at the address of the targets. Without one, and where it cannot be had, each call fails.
-fn door_at<'a>(
-    rt: &'a HostRuntime,
-    alloc: Global,
-    targets: &ServerTargets,
-) -> GatheringDoor<&'a HostRuntime> {
-    match &targets.listen {
-        Some(address) => {
-            GatheringDoor::bind(rt, alloc, address.as_str(), limits_of(targets.room))
-        }
-        None => GatheringDoor::unusable(rt),
-    }
+fn door_at<'a>(rt: &'a HostRuntime, targets: &ServerTargets) -> GatheringDoor<&'a HostRuntime> {
+    let Some(address) = &targets.listen else {
+        return GatheringDoor::unusable(rt);
+    };
+    GatheringDoor::bind(rt, rt.alloc(), address.as_str(), limits_of(targets.room))
 }
 
-/// Whether an address leaves its port to the system.
-fn has_free_port(address: &str) -> bool {
-    match address.rsplit_once(':') {
-        Some((_, port)) => port.parse::<u16>() == Ok(0),
-        None => false,
-    }
-}
-
-/// Says which port the system chose, where it was left to it.
+/// Says which port the system chose, where an address leaves it to the system.
 fn tell_port(rt: &HostRuntime, address: &Option<Text>, door: &GatheringDoor<&HostRuntime>) {
-    if has_free_port(text_of(address))
+    let address = text_of(address);
+    if let Some((_, port)) = address.rsplit_once(':')
+        && port.parse::<u16>() == Ok(0)
         && let Some(chosen) = door.local_addr()
     {
-        let _ = eprintln!(rt; "sblistd: the address {} is {chosen}", text_of(address));
+        let _ = eprintln!(rt; "sblistd: the address {address} is {chosen}");
     }
 }
 
@@ -98,7 +85,7 @@ fn run_with(
     targets: &ServerTargets,
     door: &mut GatheringDoor<&HostRuntime>,
 ) -> Result<u8, OutOfMemory> {
-    let mut journal = journal_at(rt, alloc, &targets.journal)?;
+    let mut journal = journal_at(rt, &targets.journal)?;
     let mut input = StdSource::new(rt.stdin());
     let mut out = StdSink::new(rt.stdout());
     let status = run_server(alloc, words, &mut journal, &mut input, &mut out, door);
@@ -118,7 +105,7 @@ fn run_with(
 /// answers is sent before it ends, whatever its status is.
 fn run(rt: &HostRuntime, alloc: Global, words: &[String]) -> Result<u8, OutOfMemory> {
     let targets = server_targets(alloc, words)?;
-    let mut door = door_at(rt, alloc, &targets);
+    let mut door = door_at(rt, &targets);
     if targets.listen.is_some() && !door.is_usable() {
         tell(rt, "the address ", &targets.listen, door.why());
         return Ok(9);
