@@ -3,6 +3,7 @@ pub mod Counts
 pub mod Finding
 pub mod Served
 pub mod Sweeping
+pub mod Swept
 pub mod Tokens
 pub mod Updates
 pub mod Version

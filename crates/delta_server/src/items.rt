@@ -1,13 +1,15 @@
-ghost use Rattle.std.specs.Prelude.{◌≡◌, ◌≤◌, true, Some, None, map, option_copied, All, IfOk, IfSome};
+ghost use Rattle.std.specs.Prelude.{◌≡◌, ◌≤◌, true, Some, None, map, option_copied, All, IfOk, OnOk, IfSome};
 ghost use Rattle.sha2.specs.Sha256.{sha256};
 ghost use Rattle.sb_model.specs.Prefixes.{concatenation};
 ghost use Rattle.sb_model.specs.History.{declares, prefixes_at, version_count};
 ghost use Rattle.sb_model.specs.Target.{target_version};
 ghost use Rattle.update_messages.specs.Answer.{version_named, update_to, update_for};
 ghost use Rattle.delta_server.specs.Served.{IsOlder, IsServed, LeadsToNewest};
+ghost use Rattle.delta_server.specs.Swept.{AreOf};
 ghost use Rattle.delta_server.specs.Tokens.{server_naming, server_token};
 
 use crate::served::{Served, older_prefixes, served_list, set_at};
+use crate::swept::Swept;
 use crate::targets::{Limits, newest_delta, older_target, whole_target};
 use crate::tokens::{held_version, state_token};
 use crate::updates::{Sent, delta_update, full_update, partial_update, unchanged_update};
@@ -65,15 +67,18 @@ fn sent_of<'a>(
 fn whole_answer(
     alloc: Global,
     history: &History,
+    swept: &mut Swept,
     served: &Served<'_>,
     asked: &ListRequest,
 ) -> Result<ListUpdate, OutOfMemory>
-    requires { IsServed served.now history.now.versions asked.now.name }
-    ensures { IfOk result (λ update. update ≡ update_to history.now.versions (server_naming history.now.versions) asked.now None
+    requires served { IsServed served.now history.now.versions asked.now.name }
+    requires swept { AreOf history.now.versions swept.old }
+    ensures update { IfOk result (λ update. update ≡ update_to history.now.versions (server_naming history.now.versions) asked.now None
         (target_version history.now.versions asked.now.name None asked.now.max_update asked.now.max_database)) }
+    ensures swept { OnOk result (AreOf history.now.versions swept.new) }
 {
     let list = asked.name;
-    let version = whole_target(alloc, history, list, served.set, limits_of(asked))?;
+    let version = whole_target(alloc, history, swept, list, served.set, limits_of(asked))?;
     let older = older_prefixes(alloc, history, list, version)?;
     let sent = sent_of(
         history,
@@ -137,17 +142,20 @@ fn later_answer(
 fn swept_answer(
     alloc: Global,
     history: &History,
+    swept: &mut Swept,
     served: &Served<'_>,
     asked: &ListRequest,
     held: u64,
 ) -> Result<ListUpdate, OutOfMemory>
     requires served { IsServed served.now history.now.versions asked.now.name }
     requires within { held ≤ version_count history.now.versions }
-    ensures { IfOk result (λ update. update ≡ update_to history.now.versions (server_naming history.now.versions) asked.now (Some held)
+    requires swept { AreOf history.now.versions swept.old }
+    ensures update { IfOk result (λ update. update ≡ update_to history.now.versions (server_naming history.now.versions) asked.now (Some held)
         (target_version history.now.versions asked.now.name (Some held) asked.now.max_update asked.now.max_database)) }
+    ensures swept { OnOk result (AreOf history.now.versions swept.new) }
 {
     let list = asked.name;
-    let version = older_target(alloc, history, list, Some(held), limits_of(asked))?;
+    let version = older_target(alloc, history, swept, list, Some(held), limits_of(asked))?;
     if version == history.len() {
         let delta = history.difference(alloc, list, held)?;
         return newest_answer(alloc, history, served, asked, held, delta);
@@ -159,14 +167,17 @@ fn swept_answer(
 fn partial_answer(
     alloc: Global,
     history: &History,
+    swept: &mut Swept,
     served: &Served<'_>,
     asked: &ListRequest,
     held: u64,
 ) -> Result<ListUpdate, OutOfMemory>
     requires served { IsServed served.now history.now.versions asked.now.name }
     requires within { held ≤ version_count history.now.versions }
-    ensures { IfOk result (λ update. update ≡ update_to history.now.versions (server_naming history.now.versions) asked.now (Some held)
+    requires swept { AreOf history.now.versions swept.old }
+    ensures update { IfOk result (λ update. update ≡ update_to history.now.versions (server_naming history.now.versions) asked.now (Some held)
         (target_version history.now.versions asked.now.name (Some held) asked.now.max_update asked.now.max_database)) }
+    ensures swept { OnOk result (AreOf history.now.versions swept.new) }
 {
     let list = asked.name;
     if held == history.len() {
@@ -175,7 +186,7 @@ fn partial_answer(
     }
     match newest_delta(alloc, history, list, served.set, held, limits_of(asked))? {
         Some(delta) => newest_answer(alloc, history, served, asked, held, delta),
-        None => swept_answer(alloc, history, served, asked, held),
+        None => swept_answer(alloc, history, swept, served, asked, held),
     }
 }
 
@@ -192,22 +203,25 @@ fn asked_version(history: &History, asked: &ListRequest) -> Option<u64>
 fn answer_item(
     alloc: Global,
     history: &History,
+    swept: &mut Swept,
     asked: &ListRequest,
 ) -> Result<ListUpdate, OutOfMemory>
-    requires { declares history.now.versions asked.now.name ≡ true }
-    ensures { IfOk result (λ update. update
+    requires declared { declares history.now.versions asked.now.name ≡ true }
+    requires swept { AreOf history.now.versions swept.old }
+    ensures update { IfOk result (λ update. update
         ≡ update_for history.now.versions (server_naming history.now.versions) asked.now) }
+    ensures swept { OnOk result (AreOf history.now.versions swept.new) }
 {
     let Some(served) = served_list(history, asked.name) else {
         unreachable!()
     };
     match asked_version(history, asked) {
-        None => whole_answer(alloc, history, &served, asked),
-        Some(held) => partial_answer(alloc, history, &served, asked, held),
+        None => whole_answer(alloc, history, swept, &served, asked),
+        Some(held) => partial_answer(alloc, history, swept, &served, asked, held),
     }
 }
 
-/// The updates of asked lists that are declared, in order.
+/// The updates of asked lists that are declared, in order. A list is swept at most once.
 pub(crate) fn answer_items(
     alloc: Global,
     history: &History,
@@ -218,8 +232,9 @@ pub(crate) fn answer_items(
         ≡ map (update_for history.now.versions (server_naming history.now.versions)) items.now) }
 {
     let mut updates = Row::with_capacity(alloc, items.len())?;
+    let mut swept = Swept::new(alloc);
     for asked in items {
-        updates.push(answer_item(alloc, history, asked)?)?;
+        updates.push(answer_item(alloc, history, &mut swept, asked)?)?;
     }
     Ok(updates)
 }

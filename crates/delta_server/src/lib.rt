@@ -31,6 +31,7 @@ mod numbers;
 mod served;
 mod sets;
 mod sweeping;
+mod swept;
 mod targets;
 mod tokens;
 mod updates;

@@ -1,4 +1,4 @@
-ghost use Rattle.std.specs.Prelude.{◌≡◌, ◌==◌, ◌||◌, ℕ, ◌-◌, ◌^◌, ◌≤◌, nat_le, min, max, drop, sum_by, true, Some, None, IfOk, IfSome};
+ghost use Rattle.std.specs.Prelude.{◌≡◌, ◌==◌, ◌||◌, ℕ, ◌-◌, ◌^◌, ◌≤◌, nat_le, min, max, drop, sum_by, true, Some, None, IfOk, OnOk, IfSome};
 ghost use Rattle.std.specs.Option.{unwrap_or};
 ghost use Rattle.sb_model.specs.declared.names.ListName.{ListName as Name};
 ghost use Rattle.sb_model.specs.History.{History as Versions, declares, version_count, sizes_at, prefixes_at};
@@ -6,10 +6,12 @@ ghost use Rattle.sb_model.specs.Target.{target_version};
 ghost use Rattle.list_versions.specs.Stretches.{AreStretches};
 ghost use Rattle.delta_server.specs.Counts.{AreApart};
 ghost use Rattle.delta_server.specs.Served.{LeadsToNewest};
+ghost use Rattle.delta_server.specs.Swept.{AreOf};
 ghost use Rattle.delta_server.specs.Walk.{HaveSame, lines_in};
 
 use crate::served::{served_list, set_at};
 use crate::sweeping::versions_taken;
+use crate::swept::Swept;
 use crate::version::is_within;
 use crate::walk::target_of;
 use list_versions::{History, Stretch};
@@ -186,23 +188,33 @@ fn held_set(
 }
 
 /// The version of a declared list that a client is brought to, who holds a version of it or none,
-/// told by the stretches of the list, or by its changes if it has prefixes of other
+/// told by the stretches of the list, which are kept, or by its changes if it has prefixes of other
 /// sizes.
 pub(crate) fn older_target(
     alloc: Global,
     history: &History,
+    swept: &mut Swept,
     list: ListName,
     from: Option<u64>,
     limits: Limits,
 ) -> Result<u64, OutOfMemory>
     requires declared { declares history.now.versions list ≡ true }
     requires within { IfSome from (λ version. version ≤ version_count history.now.versions) }
+    requires swept { AreOf history.now.versions swept.old }
     ensures target { IfOk result (λ version. version
         ≡ target_version history.now.versions list from limits.update limits.database) }
     ensures within { IfOk result (λ version. version ≤ version_count history.now.versions) }
+    ensures swept { OnOk result (AreOf history.now.versions swept.new) }
 {
+    if let Some(stretches) = swept.find(list) {
+        return swept_target(alloc, history, list, stretches, from, limits);
+    }
     match history.stretches(alloc, list)? {
-        Some(stretches) => swept_target(alloc, history, list, &stretches, from, limits),
+        Some(stretches) => {
+            let version = swept_target(alloc, history, list, &stretches, from, limits)?;
+            swept.keep(list, stretches)?;
+            Ok(version)
+        }
         None => {
             let held = held_set(alloc, history, list, from)?;
             walked_target(alloc, history, list, from, &held, limits)
@@ -225,20 +237,23 @@ pub(crate) fn takes_whole(newest: &PrefixSet, limits: Limits) -> bool
 pub(crate) fn whole_target(
     alloc: Global,
     history: &History,
+    swept: &mut Swept,
     list: ListName,
     newest: &PrefixSet,
     limits: Limits,
 ) -> Result<u64, OutOfMemory>
     requires declared { declares history.now.versions list ≡ true }
     requires newest { newest.now ≡ prefixes_at history.now.versions list (version_count history.now.versions) }
+    requires swept { AreOf history.now.versions swept.old }
     ensures target { IfOk result (λ version. version
         ≡ target_version history.now.versions list None limits.update limits.database) }
     ensures within { IfOk result (λ version. version ≤ version_count history.now.versions) }
+    ensures swept { OnOk result (AreOf history.now.versions swept.new) }
 {
     if takes_whole(newest, limits) {
         return Ok(history.len());
     }
-    older_target(alloc, history, list, None, limits)
+    older_target(alloc, history, swept, list, None, limits)
 }
 
 // Whether one who holds a version or none is told to be brought to the newest before the list is
@@ -289,5 +304,6 @@ pub fn target(
     if takes_newest(alloc, history, list, served.set, from, limits)? {
         return Ok(history.len());
     }
-    older_target(alloc, history, list, from, limits)
+    let mut swept = Swept::new(alloc);
+    older_target(alloc, history, &mut swept, list, from, limits)
 }

@@ -16,14 +16,14 @@ Made history asked held update =
 abbrev Wanted : History → AskedList → UpdatedList → Type 0
 Wanted history asked update = update ≡ update_for history (server_naming history) asked
 
-pub returns-in-None : goal.returns-in-None
-returns-in-None c =
+pub returns-in-None-clause-update : goal.returns-in-None-clause-update
+returns-in-None-clause-update c =
     IfOk-weaker c.whole_answer.result (Made c.args.history.now.versions c.args.asked.now None) (Wanted c.args.history.now.versions c.args.asked.now)
-    (λ update made. for_is c.args.history.now.versions c.args.asked.now None update (sym c.in-None.is ∙ c.asked_version.ensures.named) made) c.whole_answer.ensures
+    (λ update made. for_is c.args.history.now.versions c.args.asked.now None update (sym c.in-None.is ∙ c.asked_version.ensures.named) made) c.whole_answer.ensures.update
 
-pub returns-in-Some-asked_version : goal.returns-in-Some-asked_version
-returns-in-Some-asked_version c =
+pub returns-in-Some-asked_version-clause-update : goal.returns-in-Some-asked_version-clause-update
+returns-in-Some-asked_version-clause-update c =
     IfOk-weaker c.partial_answer.result (Made c.args.history.now.versions c.args.asked.now (Some c.in-Some-asked_version.held))
     (Wanted c.args.history.now.versions c.args.asked.now)
     (λ update made. for_is c.args.history.now.versions c.args.asked.now (Some c.in-Some-asked_version.held) update
-    (sym c.in-Some-asked_version.is ∙ c.asked_version.ensures.named) made) c.partial_answer.ensures
+    (sym c.in-Some-asked_version.is ∙ c.asked_version.ensures.named) made) c.partial_answer.ensures.update

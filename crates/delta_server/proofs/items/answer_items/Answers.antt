@@ -7,5 +7,9 @@ use Rattle.delta_server.proofs.items.answer_items.Goals as goal
 pub loop-asked-preserved : goal.loop-asked-preserved
 loop-asked-preserved c =
     let versions : History = c.args.history.now.versions in
-    answered_more (update_for versions (server_naming versions)) c.args.items.now c.loop-asked.asked-index c.asked-item.result c.loop-asked.updates c.push.new.self
-    c.in_ok-answer_item.field-0 c.loop-asked-test.true c.asked-item.is c.loop-asked.invariant c.in_ok-answer_item.ensures c.in_ok-push.ensures.ok
+    record {
+      swept = c.in_ok-answer_item.ensures.swept;
+      updates =
+          answered_more (update_for versions (server_naming versions)) c.args.items.now c.loop-asked.asked-index c.asked-item.result c.loop-asked.updates c.push.new.self
+          c.in_ok-answer_item.field-0 c.loop-asked-test.true c.asked-item.is c.loop-asked.invariant.updates c.in_ok-answer_item.ensures.update c.in_ok-push.ensures.ok;
+    }

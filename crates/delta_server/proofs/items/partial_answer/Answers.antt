@@ -17,8 +17,8 @@ use Rattle.delta_server.proofs.items.partial_answer.Goals as goal
 abbrev target : History → AskedList → ℕ → ℕ
 target versions asked held = target_version versions asked.name (Some held) asked.max_update asked.max_database
 
-pub returns-then-held-len : goal.returns-then-held-len
-returns-then-held-len c =
+pub returns-then-held-len-clause-update : goal.returns-then-held-len-clause-update
+returns-then-held-len-clause-update c =
     let versions : History = c.args.history.now.versions in
     let asked : AskedList = c.args.asked.now in
     let set : List (List ℕ) = c.args.served.now.set.now in
@@ -35,8 +35,8 @@ returns-then-held-len c =
     (sym (stays_newest versions asked.name held asked.max_update asked.max_database (sym (c.if-held-len.true ∙ c.len.ensures.count)))))
     c.unchanged_update.ensures
 
-pub returns-in-Some : goal.returns-in-Some
-returns-in-Some c =
+pub returns-in-Some-clause-update : goal.returns-in-Some-clause-update
+returns-in-Some-clause-update c =
     let versions : History = c.args.history.now.versions in
     let asked : AskedList = c.args.asked.now in
     let name : c.asked.inside.name ≡ asked.name = ap (λ (a : AskedList). a.name) c.asked.view_is in

@@ -14,8 +14,8 @@ target versions asked held = target_version versions asked.name (Some held) aske
 abbrev Leads : History → AskedList → ℕ → ℕ → UpdatedList → Type 0
 Leads versions asked held version update = update ≡ update_to versions (server_naming versions) asked (Some held) version
 
-pub returns-then-version-len : goal.returns-then-version-len
-returns-then-version-len c =
+pub returns-then-version-len-clause-update : goal.returns-then-version-len-clause-update
+returns-then-version-len-clause-update c =
     let versions : History = c.args.history.now.versions in
     let asked : AskedList = c.args.asked.now in
     let name : c.asked.inside.name ≡ asked.name = ap (λ (a : AskedList). a.name) c.asked.view_is in
@@ -25,8 +25,8 @@ returns-then-version-len c =
     (λ update made. made ∙ ap (update_to versions (server_naming versions) asked (Some c.args.held)) (sym c.len.ensures.count ∙ sym c.if-version-len.true ∙ is))
     c.newest_answer.ensures
 
-pub returns : goal.returns
-returns c =
+pub returns-clause-update : goal.returns-clause-update
+returns-clause-update c =
     let versions : History = c.args.history.now.versions in
     let asked : AskedList = c.args.asked.now in
     let name : c.asked.inside.name ≡ asked.name = ap (λ (a : AskedList). a.name) c.asked.view_is in

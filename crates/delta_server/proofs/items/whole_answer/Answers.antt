@@ -25,8 +25,8 @@ module _ (history : History) (asked : AskedList) (set : List (List ℕ)) (token 
       → (update : UpdatedList) → Made update → Wanted update
   wanted sent named is update made = whole_is history asked set token version (target_for history asked) update made sent named is
 
-pub returns : goal.returns
-returns c =
+pub returns-clause-update : goal.returns-clause-update
+returns-clause-update c =
     let versions : History = c.args.history.now.versions in
     let asked : AskedList = c.args.asked.now in
     let name : c.asked.inside.name ≡ asked.name = ap (λ (a : AskedList). a.name) c.asked.view_is in
