@@ -5,9 +5,11 @@
    client asks once a second. Each has to be answered within a second.
 2. A flood: one address asks for 200 dear answers at one moment, no two of one wish. Good clients of another address have to
    be answered within the longest of such answers and 0.2 seconds, each.
-3. An end: 100 peers are sent the whole list and read it slowly, and then the journal gets a bad line. The run has to end
+3. Gone: 100 dear answers are asked for at one moment by peers that reset their connections at once. None but those that have
+   their turn then is made, so a good client of the same address has to be answered within two of such answers and 0.2 seconds.
+4. An end: 100 peers are sent the whole list and read it slowly, and then the journal gets a bad line. The run has to end
    within 10 seconds and a half.
-4. Memory: the server is put under a limit of memory that refuses an answer. That one connection ends so, and the next is
+5. Memory: the server is put under a limit of memory that refuses an answer. That one connection ends so, and the next is
    answered.
 
 It prints a row for each and fails if one does not hold. It raises its own limit of open files, and the server's only where
@@ -28,12 +30,13 @@ import sys
 import tempfile
 import time
 
-from slow import GOOD, LIST, MANY_HASHES, REPOSITORY, SOME_HASHES, Peer, Server, raise_limit, write_journal
+from slow import GOOD, LIST, MANY_HASHES, REPOSITORY, SOME_HASHES, Peer, Server, close_by_reset, raise_limit, write_journal
 
 SILENT = 3_000
 FILES = 1_024
 DEAR = 200
 READERS = 100
+GONE = 100
 FIRST_DEAR = 300
 FAR = "127.0.0.2"
 A_SECOND = 4_096
@@ -135,6 +138,31 @@ def flood(program, _some, many, _seconds):
     return tell(f"{DEAR} requests of one address, {max(costs) * 1e3:.0f} ms each", waits, max(costs) + 0.2)
 
 
+def gone(program, _some, many, _seconds):
+    server = Server(program, many, stdout=subprocess.PIPE)
+    with server as port:
+        begun = time.monotonic()
+        with connect(port) as stream:
+            stream.sendall(request(token(FIRST_DEAR - 1)))
+            answer_to(stream)
+        cost = time.monotonic() - begun
+        streams = []
+        for at in range(GONE):
+            stream = connect(port)
+            stream.sendall(request(token(FIRST_DEAR + at)))
+            streams.append(stream)
+        for stream in streams:
+            close_by_reset(stream)
+        wait = good_wait(port)
+        server.ran.kill()
+        lines = len(server.ran.stdout.read().splitlines())
+    held = tell(f"{GONE} requests, reset at once, {cost * 1e3:.0f} ms each", [wait], 2 * cost + 0.2)
+    if lines > GONE // 4:
+        print(f"attack: {lines} connections had a turn")
+        return False
+    return held
+
+
 def end(program, _some, many, _seconds):
     server = Server(program, many, stdout=subprocess.PIPE)
     with server as port:
@@ -202,7 +230,7 @@ def memory(program, _some, many, _seconds):
     return tell("one behind a request that memory was refused to", [wait], 1)
 
 
-ATTACKS = {"silence": silence, "flood": flood, "end": end, "memory": memory}
+ATTACKS = {"silence": silence, "flood": flood, "gone": gone, "end": end, "memory": memory}
 
 
 def main():
