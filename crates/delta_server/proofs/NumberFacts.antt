@@ -1,13 +1,18 @@
 -- Rising numbers: those of prefixes of four bytes, and the places that a newer set lacks.
-use Rattle.std.proofs.Common.{◌≡◌, ℕ, suc, ◌<◌, ◌≤◌, inl, inr, List, [], ◌∷◌, length, map, get_or, refl, sym, arith}
+use Rattle.std.proofs.Common.{◌≡◌, ℕ, suc, ◌<◌, ◌≤◌, inl, inr, List, [], ◌∷◌, length, map, get_or, refl, sym, subst, arith}
 use Rattle.std.specs.Prelude.{Contains}
 use Rattle.std.specs.Int.{w32, from_le_bytes}
 use Rattle.std.specs.List.{All, AllByRecursion, AllPairs}
 use Rattle.std.specs.List.Sorted.{IsStrictlyIncreasing}
 use Rattle.std.proofs.lemmas.List.Elements.{recursion_from_All}
 use Rattle.std.proofs.lemmas.List.Kept.{AllPairs-from_increasing}
+use Rattle.list_versions.specs.Numbers.{AreNumbersOf, numbers_in, quads_in}
+use Rattle.rice_coding.specs.Codes.{running_sums}
+use Rattle.rice_coding.specs.Rice.{AreInRange, IsRiceRecordOf}
+use Rattle.rice_coding.specs.declared.record.RiceRecord.{RiceRecord}
 use Rattle.sb_model.specs.Difference.{removed_places}
 use Rattle.update_messages.specs.Answer.{numbers_of}
+use Rattle.update_messages.specs.Messages.{IsRiceSet}
 use Rattle.update_messages.specs.Rising.{AreRisingPlaces, AreRisingNumbers}
 use Rattle.delta_server.proofs.Membership.{In, contains_in, in_contained, of_each}
 
@@ -62,3 +67,24 @@ pub removed_under : (old newer : List (List ℕ)) (limit : ℕ) → AreRisingPla
 removed_under old newer limit places few = λ k d below.
     let at : get_or (removed_places old newer) k d < length old = places.within k d below in
     omega (arith, at, few)
+
+-- numbers that stand ready are those of an answer
+pub ready_numbers : (set : List (List ℕ)) (ns : List ℕ) → AreRisingNumbers (quads_in set) (numbers_of (quads_in set)) → AreNumbersOf set ns → ns ≡ numbers_of (quads_in set)
+ready_numbers set ns own h =
+    same_numbers (quads_in set) ns own h.rising
+    (λ n i. in_contained n (numbers_in set) ((h.same n).0 (contains_in n ns i)))
+    (λ n i. in_contained n ns ((h.same n).1 (contains_in n (numbers_in set) i)))
+
+-- what a record of few numbers keeps to
+pub rice_kept : (rice : RiceRecord) (values : List ℕ) → length values ≤ 1048576 → IsRiceRecordOf rice values → (length values ≡ 1 → (rice.parameter ≡ 0) × (rice.coded ≡ []))
+    → IsRiceSet rice
+rice_kept rice values few stands single =
+    let range : AreInRange (rice.first ∷ running_sums rice.first stands.bits.deltas) = subst (λ (ns : List ℕ). AreInRange ns) stands.bits.sums stands.range in
+    record {
+      first = omega (arith, range.0);
+      parameter = elim stands.parameter [
+        | inl none ↦ let zero : rice.parameter ≡ 0 = (single (omega (arith, none, stands.count))).0 in omega (arith, zero)
+        | inr some ↦ omega (arith, some.1)
+      ];
+      count = omega (arith, few, stands.count);
+    }

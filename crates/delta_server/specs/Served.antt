@@ -6,15 +6,17 @@ use Rattle.prefix_set.specs.declared.difference.Delta.{Delta}
 use Rattle.sb_model.specs.Difference.{removed_places, added_members}
 use Rattle.sb_model.specs.Prefixes.{concatenation}
 use Rattle.sb_model.specs.History.{History, declares, version_count, prefixes_at}
+use Rattle.list_versions.specs.Numbers.{AreNumbersOf}
 use Rattle.update_messages.specs.Answer.{declared_size}
 use Rattle.delta_server.specs.declared.served.Served.{Served}
 
--- its declared size, and its newest prefixes with their digest
+-- its declared size, and its newest prefixes with their digest and their numbers
 pub record IsServed (served : Served) (versions : History) (list : ListName) : Type 0 where
   pub declared : declares versions list ≡ true
   pub size : served.size ≡ declared_size versions list
   pub set : served.set.now ≡ prefixes_at versions list (version_count versions)
   pub digest : served.digest ≡ sha256 (concatenation served.set.now)
+  pub numbers : AreNumbersOf served.set.now served.numbers.now
 
 -- the set of a version, and none where it is the newest
 abbrev pub IsOlder : History → ListName → ℕ → Option (List (List ℕ)) → Type 0

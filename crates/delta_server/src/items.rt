@@ -12,7 +12,9 @@ use crate::served::{Served, older_prefixes, served_list, set_at};
 use crate::swept::Swept;
 use crate::targets::{Limits, newest_delta, older_target, whole_target};
 use crate::tokens::{held_version, state_token};
-use crate::updates::{Sent, delta_update, full_update, partial_update, unchanged_update};
+use crate::updates::{
+    Sent, delta_update, full_update, numbered_update, partial_update, unchanged_update,
+};
 use list_versions::History;
 use prefix_set::{Delta, PrefixSet};
 use sb_model::{ListName, OutOfMemory, Row};
@@ -63,6 +65,26 @@ fn sent_of<'a>(
     }
 }
 
+// The whole of the newest set. Its numbers stand ready.
+fn newest_whole(
+    alloc: Global,
+    history: &History,
+    served: &Served<'_>,
+    asked: &ListRequest,
+) -> Result<ListUpdate, OutOfMemory>
+    requires { IsServed served.now history.now.versions asked.now.name }
+    ensures { IfOk result (λ update. update ≡ update_to history.now.versions (server_naming history.now.versions) asked.now None
+        (version_count history.now.versions)) }
+{
+    let token = state_token(history.epoch(), asked.name, history.len());
+    let sent = Sent {
+        set: served.set,
+        digest: served.digest,
+        token,
+    };
+    numbered_update(alloc, asked, &sent, served.numbers)
+}
+
 // The update for one who holds no version of a list: a whole set.
 fn whole_answer(
     alloc: Global,
@@ -79,6 +101,9 @@ fn whole_answer(
 {
     let list = asked.name;
     let version = whole_target(alloc, history, swept, list, served.set, limits_of(asked))?;
+    if version == history.len() {
+        return newest_whole(alloc, history, served, asked);
+    }
     let older = older_prefixes(alloc, history, list, version)?;
     let sent = sent_of(
         history,

@@ -7,11 +7,13 @@ use prefix_set::PrefixSet;
 use sb_model::{ListName, OutOfMemory};
 use std::alloc::Global;
 
-/// A declared list: its newest prefixes with their digest, and its declared prefix size in bytes.
+/// A declared list: its newest prefixes with their digest and the numbers of those of four bytes,
+/// and its declared prefix size in bytes.
 #[derive(Clone, Copy)]
 pub(crate) struct Served<'a> {
     pub(crate) set: &'a PrefixSet,
     pub(crate) digest: [u8; 32],
+    pub(crate) numbers: &'a [u32],
     pub(crate) size: u8,
 }
 
@@ -29,6 +31,7 @@ pub(crate) fn served_list(history: &History, list: ListName) -> Option<Served<'_
     Some(Served {
         set: &newest.set,
         digest: newest.digest,
+        numbers: newest.numbers.as_slice(),
         size,
     })
 }

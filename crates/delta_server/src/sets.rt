@@ -1,8 +1,9 @@
-ghost use Rattle.std.specs.Prelude.{◌≡◌, ℕ, ◌<◌, ◌≤◌, List, [], ◌∷◌, false, length, filter, slice_index_or, IfOk, IsTrue, All};
+ghost use Rattle.std.specs.Prelude.{◌≡◌, ℕ, ◌<◌, ◌≤◌, List, [], ◌∷◌, true, false, length, filter, slice_index_or, IfOk, IfSome, IsTrue, All};
 ghost use Rattle.std.specs.List.{list_any};
 ghost use Rattle.std.specs.List.Sorted.{IsStrictlyIncreasing};
 ghost use Rattle.sb_model.specs.Prefixes.{concatenation};
 ghost use Rattle.sb_model.specs.History.{IsPrefixSize};
+ghost use Rattle.list_versions.specs.Numbers.{AreNumbersOf};
 ghost use Rattle.prefix_set.specs.declared.set.TheConstants.{MAX_PREFIXES};
 ghost use Rattle.update_messages.specs.Answer.{has_size, addition_set, addition_sets, removal_sets};
 ghost use Rattle.update_messages.specs.Messages.{IsAddition, IsRemoval};
@@ -67,25 +68,64 @@ fn addition_set(alloc: Global, size: u8, bytes: Bytes, rice: bool) -> Result<Add
     }
 }
 
-/// The additions of a full update, those of all members of a set: one set for each size that occurs,
-/// rising. Prefixes of four bytes are Rice coded where the client takes that. No list of the members
-/// is made.
-pub(crate) fn whole_sets(
+// The Rice record of the members of four bytes, from their numbers.
+fn rice_set(alloc: Global, set: &PrefixSet, numbers: &[u32]) -> Result<Additions, OutOfMemory>
+    requires numbers { AreNumbersOf set.now numbers.now }
+    requires some { IsTrue (list_any (has_size 4) set.now) }
+    ensures set { IfOk result (λ made. made ≡ addition_set true set.now 4) }
+    ensures keeps { IfOk result IsAddition }
+{
+    sent_numbers_rise();
+    // looked at for the prover: what each set keeps
+    let _ = set.len();
+    Ok(Additions::Rice(encode(alloc, numbers)?))
+}
+
+// The additions of one size that occurs. The numbers of the members are made if they do not stand
+// ready.
+fn whole_set(
     alloc: Global,
     set: &PrefixSet,
+    numbers: Option<&[u32]>,
+    size: u8,
     rice: bool,
-) -> Result<Row<Additions>, OutOfMemory>
-    ensures sets { IfOk result (λ sets. sets ≡ addition_sets rice set.now) }
-    ensures keep { IfOk result (All IsAddition) }
+) -> Result<Additions, OutOfMemory>
+    requires numbers { IfSome numbers (λ numbers. AreNumbersOf set.now numbers.now) }
+    requires size { IsPrefixSize size }
+    requires some { IsTrue (list_any (has_size size) set.now) }
+    ensures set { IfOk result (λ made. made ≡ addition_set rice set.now size) }
+    ensures keeps { IfOk result IsAddition }
 {
     // looked at for the prover: what each set keeps
     let _ = set.len();
+    if size == 4
+        && rice
+        && let Some(numbers) = numbers
+    {
+        return rice_set(alloc, set, numbers);
+    }
+    let bytes = set.bytes_of_size(alloc, size)?;
+    addition_set(alloc, size, bytes, rice)
+}
+
+/// The additions of a full update, those of all members of a set: one set for each size that occurs,
+/// rising. Prefixes of four bytes are Rice coded where the client takes that, and their numbers are
+/// made if they do not stand ready. No list of the members is made.
+pub(crate) fn whole_sets(
+    alloc: Global,
+    set: &PrefixSet,
+    numbers: Option<&[u32]>,
+    rice: bool,
+) -> Result<Row<Additions>, OutOfMemory>
+    requires { IfSome numbers (λ numbers. AreNumbersOf set.now numbers.now) }
+    ensures sets { IfOk result (λ sets. sets ≡ addition_sets rice set.now) }
+    ensures keep { IfOk result (All IsAddition) }
+{
     let sizes = set.sizes();
     let mut sets = Row::new(alloc);
     for size in 4..33 {
         if sizes[size as usize] {
-            let bytes = set.bytes_of_size(alloc, size)?;
-            sets.push(addition_set(alloc, size, bytes, rice)?)?;
+            sets.push(whole_set(alloc, set, numbers, size, rice)?)?;
         }
     }
     Ok(sets)

@@ -1,7 +1,8 @@
-ghost use Rattle.std.specs.Prelude.{◌≡◌, ℕ, ◌≤◌, List, length, IfOk};
+ghost use Rattle.std.specs.Prelude.{◌≡◌, ℕ, ◌≤◌, List, length, IfOk, IfSome};
 ghost use Rattle.sha2.specs.Sha256.{sha256};
 ghost use Rattle.sb_model.specs.Difference.{removed_places, added_members};
 ghost use Rattle.sb_model.specs.Prefixes.{concatenation};
+ghost use Rattle.list_versions.specs.Numbers.{AreNumbersOf};
 ghost use Rattle.delta_server.specs.Updates.{MayBeSent, whole_update, difference_update};
 
 use crate::sets::{addition_sets, removal_sets, whole_sets};
@@ -34,11 +35,40 @@ pub fn full_update(
     requires { newer.now.digest ≡ sha256 (concatenation newer.now.set.now) }
     ensures { IfOk result (λ update. update ≡ whole_update asked.now newer.now.set.now newer.now.token) }
 {
+    whole_of(alloc, asked, newer, None)
+}
+
+/// The update to the whole of a set, if the numbers of its members of four bytes stand ready. They
+/// are not sorted again.
+pub(crate) fn numbered_update(
+    alloc: Global,
+    asked: &ListRequest,
+    newer: &Sent<'_>,
+    numbers: &[u32],
+) -> Result<ListUpdate, OutOfMemory>
+    requires digest { newer.now.digest ≡ sha256 (concatenation newer.now.set.now) }
+    requires numbers { AreNumbersOf newer.now.set.now numbers.now }
+    ensures { IfOk result (λ update. update ≡ whole_update asked.now newer.now.set.now newer.now.token) }
+{
+    whole_of(alloc, asked, newer, Some(numbers))
+}
+
+// The update to the whole of a set, whose numbers may stand ready.
+fn whole_of(
+    alloc: Global,
+    asked: &ListRequest,
+    newer: &Sent<'_>,
+    numbers: Option<&[u32]>,
+) -> Result<ListUpdate, OutOfMemory>
+    requires digest { newer.now.digest ≡ sha256 (concatenation newer.now.set.now) }
+    requires numbers { IfSome numbers (λ numbers. AreNumbersOf newer.now.set.now numbers.now) }
+    ensures { IfOk result (λ update. update ≡ whole_update asked.now newer.now.set.now newer.now.token) }
+{
     Ok(ListUpdate {
         name: asked.name,
         full: true,
         base: Bytes::new(alloc),
-        additions: whole_sets(alloc, newer.set, asked.rice)?,
+        additions: whole_sets(alloc, newer.set, numbers, asked.rice)?,
         removals: Row::new(alloc),
         new_state: Bytes::from_slice(alloc, newer.token.as_slice())?,
         checksum: newer.digest,

@@ -1,7 +1,7 @@
-use Rattle.std.proofs.Common.{◌≡◌, ℕ, List, None, ap, ◌∙◌}
+use Rattle.std.proofs.Common.{◌≡◌, ℕ, List, None, IfOk, ap, arith, sym, subst, ◌∙◌}
 use Rattle.std.proofs.lemmas.Result.{IfOk-weaker}
 use Rattle.sb_model.specs.declared.names.ListName.{ListName}
-use Rattle.sb_model.specs.History.{History, prefixes_at}
+use Rattle.sb_model.specs.History.{History, prefixes_at, version_count}
 use Rattle.sb_model.specs.Target.{target_version}
 use Rattle.update_messages.specs.Answer.{update_to}
 use Rattle.update_messages.specs.Messages.{AskedList, UpdatedList}
@@ -37,3 +37,13 @@ returns-clause-update c =
     (c.sent_of-sent.ensures.token ∙ ap (λ (n : ListName). server_token versions.epoch n c.in_ok-version.version) name)
     (c.in_ok-version.ensures.target ∙ target_same versions None c.asked.inside.name asked.name _ _ _ _ name c.limits_of.ensures.update c.limits_of.ensures.database))
     c.full_update.ensures
+
+pub returns-then-version-len-clause-update : goal.returns-then-version-len-clause-update
+returns-then-version-len-clause-update c =
+    let versions : History = c.args.history.now.versions in
+    let asked : AskedList = c.args.asked.now in
+    let name : c.asked.inside.name ≡ asked.name = ap (λ (a : AskedList). a.name) c.asked.view_is in
+    let newest : c.in_ok-version.version ≡ version_count versions = omega (arith, c.if-version-len.true, c.len.ensures.count) in
+    let last : version_count versions ≡ target_for versions asked =
+    sym newest ∙ c.in_ok-version.ensures.target ∙ target_same versions None c.asked.inside.name asked.name _ _ _ _ name c.limits_of.ensures.update c.limits_of.ensures.database in
+    subst (λ v. IfOk c.newest_whole.result (λ update. update ≡ update_to versions (server_naming versions) asked None v)) last c.newest_whole.ensures

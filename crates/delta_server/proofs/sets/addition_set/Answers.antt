@@ -1,13 +1,9 @@
-use Rattle.std.proofs.Common.{◌≡◌, inl, inr, ℕ, ◌<◌, ◌≤◌, ◌%◌, List, [], ◌∷◌, length, true, ◌∙◌, ap, arith, sym, subst}
+use Rattle.std.proofs.Common.{◌≡◌, ℕ, ◌<◌, ◌%◌, List, length, true, ◌∙◌, ap, arith, sym, subst}
 use Rattle.std.specs.Prelude.{filter}
 use Rattle.std.specs.List.{list_any}
 use Rattle.sb_model.specs.Prefixes.{concatenation}
-use Rattle.rice_coding.specs.Codes.{running_sums}
-use Rattle.rice_coding.specs.Rice.{AreInRange, IsRiceRecordOf}
-use Rattle.rice_coding.specs.declared.record.RiceRecord.{RiceRecord}
 use Rattle.update_messages.specs.Answer.{has_size, numbers_of}
-use Rattle.update_messages.specs.Messages.{IsRiceSet}
-use Rattle.delta_server.proofs.NumberFacts.{some_numbers}
+use Rattle.delta_server.proofs.NumberFacts.{rice_kept, some_numbers}
 use Rattle.delta_server.proofs.SetFacts.{few_kept, some_kept, whole_pieces}
 use Rattle.delta_server.proofs.sets.addition_set.Goals as goal
 
@@ -29,20 +25,6 @@ encode-requires-clause-few c =
     let quads : c.quads_of.result.now ≡ filter (has_size 4) ms
     = c.quads_of.ensures ms (c.as_slice.ensures ∙ c.requires.members.1 ∙ ap (λ n. concatenation (filter (has_size n) ms)) four) in
     omega (arith, ap length c.deref.ensures.value, c.in_ok-numbers.ensures.few, ap length quads, few_kept (has_size 4) ms, c.requires.members.3)
-
--- what a record of few numbers keeps to
-rice_kept : (rice : RiceRecord) (values : List ℕ) → length values ≤ 1048576 → IsRiceRecordOf rice values → (length values ≡ 1 → (rice.parameter ≡ 0) × (rice.coded ≡ []))
-    → IsRiceSet rice
-rice_kept rice values few stands single =
-    let range : AreInRange (rice.first ∷ running_sums rice.first stands.bits.deltas) = subst (λ (ns : List ℕ). AreInRange ns) stands.bits.sums stands.range in
-    record {
-      first = omega (arith, range.0);
-      parameter = elim stands.parameter [
-        | inl none ↦ let zero : rice.parameter ≡ 0 = (single (omega (arith, none, stands.count))).0 in omega (arith, zero)
-        | inr some ↦ omega (arith, some.1)
-      ];
-      count = omega (arith, few, stands.count);
-    }
 
 pub returns-in_ok-encode-clause-keeps : goal.returns-in_ok-encode-clause-keeps
 returns-in_ok-encode-clause-keeps c =

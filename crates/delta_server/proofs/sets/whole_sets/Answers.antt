@@ -4,21 +4,20 @@ use Rattle.std.proofs.lemmas.List.Elements.{All-push}
 use Rattle.update_messages.specs.Messages.{IsAddition}
 use Rattle.delta_server.proofs.SetFacts.{sets_up_to, sets_pushed, sets_kept}
 use Rattle.delta_server.proofs.sets.whole_sets.Goals as goal
-use Rattle.delta_server.proofs.sets.whole_sets.Goals.{then-sizes-size+in_ok-bytes+in_ok-addition_set+in_ok-push, else-sizes-size}
+use Rattle.delta_server.proofs.sets.whole_sets.Goals.{then-sizes-size+in_ok-whole_set+in_ok-push, else-sizes-size}
 
-pub addition_set-requires-clause-members : goal.addition_set-requires-clause-members
-addition_set-requires-clause-members c =
-    (c.args.set.now, c.in_ok-bytes.ensures, sym (c.sizes-sizes.ensures.occurs c.loop-size.size (omega arith)) ∙ c.if-sizes-size.true, c.len.ensures.count)
+pub whole_set-requires-clause-some : goal.whole_set-requires-clause-some
+whole_set-requires-clause-some c = sym (c.sizes-sizes.ensures.occurs c.loop-size.size (omega arith)) ∙ c.if-sizes-size.true
 
 pub loop-size-preserved : goal.loop-size-preserved
 loop-size-preserved c =
     elim c.if-sizes-size.branch [
-      | then-sizes-size+in_ok-bytes+in_ok-addition_set+in_ok-push w ↦ (
-        sets_pushed c.args.rice c.args.set.now c.loop-size.size c.loop-size.sets c.if-sizes-size.sets w.in_ok-addition_set.field-0 c.loop-size.auto.size
+      | then-sizes-size+in_ok-whole_set+in_ok-push w ↦ (
+        sets_pushed c.args.rice c.args.set.now c.loop-size.size c.loop-size.sets c.if-sizes-size.sets w.in_ok-whole_set.field-0 c.loop-size.auto.size
             (sym (c.sizes-sizes.ensures.occurs c.loop-size.size (omega arith)) ∙ w.if-sizes-size.true) c.loop-size.invariant.0
-            (w.in_ok-addition_set.ensures.set c.args.set.now w.in_ok-bytes.ensures) (w.sets-is ∙ w.in_ok-push.ensures.ok),
+            w.in_ok-whole_set.ensures.set (w.sets-is ∙ w.in_ok-push.ensures.ok),
         subst (All IsAddition) (sym (w.sets-is ∙ w.in_ok-push.ensures.ok))
-            (All-push IsAddition c.loop-size.sets w.in_ok-addition_set.field-0 c.loop-size.invariant.1 w.in_ok-addition_set.ensures.keeps),
+            (All-push IsAddition c.loop-size.sets w.in_ok-whole_set.field-0 c.loop-size.invariant.1 w.in_ok-whole_set.ensures.keeps),
       )
       | else-sizes-size w ↦ (
         w.sets-is ∙ sets_kept c.args.rice c.args.set.now c.loop-size.size c.loop-size.sets c.loop-size.auto.size (sym (c.sizes-sizes.ensures.occurs c.loop-size.size (omega arith)) ∙ w.if-sizes-size.false) c.loop-size.invariant.0,
