@@ -30,7 +30,7 @@ import sys
 import tempfile
 import time
 
-from slow import GOOD, LIST, MANY_HASHES, REPOSITORY, SOME_HASHES, Peer, Server, close_by_reset, raise_limit, write_journal
+from slow import GOOD, LIST, MANY_HASHES, REPOSITORY, SOME_HASHES, Peer, Server, close_by_reset, raise_limit, wait_of_good, write_journal
 
 SILENT = 3_000
 FILES = 1_024
@@ -58,8 +58,8 @@ def request(state, update=0):
     return head.encode() + body
 
 
-def connect(port, source=None):
-    return socket.create_connection(("127.0.0.1", port), timeout=60, source_address=(source, 0) if source else None)
+def connect(port):
+    return socket.create_connection(("127.0.0.1", port), timeout=60)
 
 
 def answer_to(stream):
@@ -68,19 +68,6 @@ def answer_to(stream):
     while piece := stream.recv(1 << 20):
         pieces.append(piece)
     return b"".join(pieces)
-
-
-def good_wait(port, source=None):
-    """How long a good client waits, or `None` if it is not answered."""
-    begun = time.monotonic()
-    try:
-        with connect(port, source) as stream:
-            stream.sendall(GOOD)
-            if not stream.recv(64).startswith(b"HTTP/1.1 404"):
-                return None
-    except OSError:
-        return None
-    return time.monotonic() - begun
 
 
 def tell(what, waits, bound):
@@ -107,7 +94,7 @@ def silence(program, some, _many, seconds):
             for peer in peers:
                 if time.monotonic() < begun + turn + 0.8:
                     peer.step()
-            waits.append(good_wait(port))
+            waits.append(wait_of_good(port))
             time.sleep(max(0, begun + turn + 1 - time.monotonic()))
         for peer in peers:
             peer.close()
@@ -117,7 +104,7 @@ def silence(program, some, _many, seconds):
 def flood(program, _some, many, _seconds):
     with Server(program, many) as port:
         # (the journal is read before the first is answered)
-        good_wait(port)
+        wait_of_good(port)
         costs = []
         for version in range(FIRST_DEAR - 10, FIRST_DEAR):
             begun = time.monotonic()
@@ -130,7 +117,7 @@ def flood(program, _some, many, _seconds):
             stream = connect(port)
             stream.sendall(request(token(FIRST_DEAR + at)))
             streams.append(stream)
-        waits = [good_wait(port, FAR) for _ in range(20)]
+        waits = [wait_of_good(port, FAR) for _ in range(20)]
         still = len(select.select(streams, [], [], 0)[0])
         for stream in streams:
             stream.close()
@@ -143,7 +130,7 @@ def flood(program, _some, many, _seconds):
 def gone(program, _some, many, _seconds):
     server = Server(program, many, stdout=subprocess.PIPE)
     with server as port:
-        good_wait(port)
+        wait_of_good(port)
         begun = time.monotonic()
         with connect(port) as stream:
             stream.sendall(request(token(FIRST_DEAR - 1)))
@@ -156,7 +143,7 @@ def gone(program, _some, many, _seconds):
             streams.append(stream)
         for stream in streams:
             close_by_reset(stream)
-        wait = good_wait(port)
+        wait = wait_of_good(port)
         server.ran.kill()
         lines = len(server.ran.stdout.read().splitlines())
     held = tell(f"{GONE} requests, reset at once, {cost * 1e3:.0f} ms each", [wait], 2 * cost + 0.2)
@@ -211,7 +198,7 @@ def size_of(pid):
 def memory(program, _some, many, _seconds):
     server = Server(program, many, "--connections", "3", stdout=subprocess.PIPE)
     with server as port:
-        if good_wait(port) is None:
+        if wait_of_good(port) is None:
             print("attack: the server answers nobody")
             return False
         most = size_of(server.ran.pid) + (1 << 21)
@@ -222,7 +209,7 @@ def memory(program, _some, many, _seconds):
                 answer = answer_to(stream)
             except OSError:
                 answer = b""
-        wait = good_wait(port)
+        wait = wait_of_good(port)
         lines = server.ran.stdout.read().split("\n")
     if answer and not b"HTTP/1.1 503 Service Unavailable".startswith(answer[:32]):
         print(f"attack: an answer for which there was no memory begins {answer[:32]!r}")

@@ -147,10 +147,11 @@ class Peer:
             self.connect()
 
 
-def wait_of_good(port):
+def wait_of_good(port, source=None):
+    """How long a good client waits, which may come from another address, or `None` if it is not answered."""
     begun = time.monotonic()
     try:
-        with socket.create_connection(("127.0.0.1", port), timeout=30) as stream:
+        with socket.create_connection(("127.0.0.1", port), timeout=30, source_address=source and (source, 0)) as stream:
             stream.sendall(GOOD)
             if not stream.recv(64).startswith(b"HTTP/1.1 404"):
                 return None

@@ -13,8 +13,8 @@ use std::net::{Net, SocketAddr};
 use std::time::Duration;
 use std::{io, time};
 
-/// How many connections are taken in one turn.
-const TAKEN_A_TURN: usize = 64;
+/// How many connections are taken in one turn: who waits at the port is to be in line before the next answer is made.
+const TAKEN_A_TURN: usize = 1_024;
 
 /// For how long the port rests where there was no room for a connection even after one gave way, in milliseconds.
 const PORT_REST: u64 = 100;
