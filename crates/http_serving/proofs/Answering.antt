@@ -12,7 +12,7 @@ use Rattle.http_edge.specs.declared.messages.HttpRequest.{HttpRequest}
 use Rattle.http_edge.specs.declared.messages.Status.{Status}
 use Rattle.http_serving.specs.Law.{HasOneAnswer, IsAnsweredAsRead}
 use Rattle.http_serving.specs.Serving.{IsAnswerAfter, HasWritten, Serves, HasAnswer, AnswersAtMost, IsComplete}
-use Rattle.http_serving.specs.Steps.{answer_status, answer_text, IsStopAfter, IsSent}
+use Rattle.http_serving.specs.Steps.{answer_cause, answer_status, answer_text, IsStopAfter, IsSent}
 use Rattle.http_serving.specs.Written.{IsRightAnswer, IsTextOfRight}
 use Rattle.http_serving.specs.declared.ends.ConnectionEnd.{ConnectionEnd}
 use Rattle.http_serving.specs.declared.ends.ConnectionEnd.TheVariants as end
@@ -23,46 +23,49 @@ use Rattle.http_serving.proofs.Requests.{IsFrontOf, front_of_gives, no_status, s
 
 -- ---- a response on its way
 
-written_of_sent : (Right : HttpRequest → Status → Allow → List ℕ → Type 0) (received : Result HttpRequest RequestFault) (status : Status) (allow : Allow) (body : List ℕ) (how : ConnectionEnd)
-    → (before after : Option (List ℕ)) → IsAnswerAfter Right received status allow body → IsSent status (response_text status allow body) how before after → HasWritten Right received how before after
-written_of_sent Right received status allow body (end.Answered told) before after answer sent = record {
+written_of_sent : (Right : HttpRequest → Status → Allow → (body cause : List ℕ) → Type 0) (received : Result HttpRequest RequestFault) (status : Status) (allow : Allow) (body cause : List ℕ) (how : ConnectionEnd)
+    → (before after : Option (List ℕ)) → IsAnswerAfter Right received status allow body cause → IsSent status (response_text status allow body) cause how before after → HasWritten Right received how before after
+written_of_sent Right received status allow body cause (end.Answered told why) before after answer sent = record {
   allow = allow;
   body = body;
-  answer = subst (λ (s : Status). IsAnswerAfter Right received s allow body) (sym sent.0) answer;
-  written = subst (λ (s : Status). after ≡ appended before (response_text s allow body)) (sym sent.0) sent.1;
+  answer = subst (λ (c : List ℕ). IsAnswerAfter Right received told allow body c) (sym sent.1)
+      (subst (λ (s : Status). IsAnswerAfter Right received s allow body cause) (sym sent.0) answer);
+  written = subst (λ (s : Status). after ≡ appended before (response_text s allow body)) (sym sent.0) sent.2;
 }
-written_of_sent Right received status allow body end.WriteFault before after answer sent = record {
+written_of_sent Right received status allow body cause end.WriteFault before after answer sent = record {
   status = status;
   allow = allow;
   body = body;
+  cause = cause;
   answer = answer;
   written = sent;
 }
-written_of_sent Right received status allow body end.ReadFault before after answer sent = absurd sent
-written_of_sent Right received status allow body end.OutOfMemory before after answer sent = nothing_of before after sent
+written_of_sent Right received status allow body cause end.ReadFault before after answer sent = absurd sent
+written_of_sent Right received status allow body cause end.OutOfMemory before after answer sent = nothing_of before after sent
 
 -- the text of a right answer is that of a right response
-text_right : (Right : Status → Allow → List ℕ → Type 0) (answer : Answer) → IsRightAnswer Right answer → IsTextOfRight Right (answer_status answer) (answer_text answer)
+text_right : (Right : Status → Allow → (body cause : List ℕ) → Type 0) (answer : Answer) → IsRightAnswer Right answer
+    → IsTextOfRight Right (answer_status answer) (answer_cause answer) (answer_text answer)
 text_right Right (Made response) right = record { allow = response.allow; body = response.body; right = right; whole = refl }
 text_right Right (Written written) right = right
 text_right Right (Shared shared) right = right
 
 -- a fault of reading has no answer
-none_of_fault : (Right : HttpRequest → Status → Allow → List ℕ → Type 0) (received : Result HttpRequest RequestFault) (status : Status) (allow : Allow) (body : List ℕ)
-    → IsAnswerAfter Right received status allow body → received ≢ Err fault.ReadFault
-none_of_fault Right received status allow body right is =
-    let none = subst (λ (r : Result HttpRequest RequestFault). IsAnswerAfter Right r status allow body) is right in
+none_of_fault : (Right : HttpRequest → Status → Allow → (body cause : List ℕ) → Type 0) (received : Result HttpRequest RequestFault) (status : Status) (allow : Allow) (body cause : List ℕ)
+    → IsAnswerAfter Right received status allow body cause → received ≢ Err fault.ReadFault
+none_of_fault Right received status allow body cause right is =
+    let none = subst (λ (r : Result HttpRequest RequestFault). IsAnswerAfter Right r status allow body cause) is right in
     let e : None ≡ Some status = none.0 in absurd (cc)
 
-pub no_fault : (Right : HttpRequest → Status → Allow → List ℕ → Type 0) (received : Result HttpRequest RequestFault) (answer : Answer)
+pub no_fault : (Right : HttpRequest → Status → Allow → (body cause : List ℕ) → Type 0) (received : Result HttpRequest RequestFault) (answer : Answer)
     → IsRightAnswer (IsAnswerAfter Right received) answer → received ≢ Err fault.ReadFault
 no_fault Right received answer right =
-    let text = text_right (IsAnswerAfter Right received) answer right in none_of_fault Right received (answer_status answer) text.allow text.body text.right
+    let text = text_right (IsAnswerAfter Right received) answer right in none_of_fault Right received (answer_status answer) text.allow text.body (answer_cause answer) text.right
 
-pub served : (Right : HttpRequest → Status → Allow → List ℕ → Type 0) (received : Result HttpRequest RequestFault) (answer : Answer) (how : ConnectionEnd)
+pub served : (Right : HttpRequest → Status → Allow → (body cause : List ℕ) → Type 0) (received : Result HttpRequest RequestFault) (answer : Answer) (how : ConnectionEnd)
     → (left later last : Option (List (List ℕ))) (before between after : Option (List ℕ))
     → (bytes : List ℕ) × (ended : Bool) × Gives bytes ended left later × RequestOutcome bytes ended received × ReadsToRequest bytes ended received
-    → last ≡ later → between ≡ before → IsRightAnswer (IsAnswerAfter Right received) answer → IsSent (answer_status answer) (answer_text answer) how between after
+    → last ≡ later → between ≡ before → IsRightAnswer (IsAnswerAfter Right received) answer → IsSent (answer_status answer) (answer_text answer) (answer_cause answer) how between after
     → Serves Right how left last before after
 served Right received answer how left later last before between after (bytes, ended, gives, read, prompt) same-left same-contents response sent =
     let text = text_right (IsAnswerAfter Right received) answer response in record {
@@ -72,16 +75,16 @@ served Right received answer how left later last before between after (bytes, en
       gives = subst (Gives bytes ended left) (sym same-left) gives;
       outcome = read;
       prompt = prompt;
-      written = written_of_sent Right received (answer_status answer) text.allow text.body how before after text.right
-          (subst (λ (t : List ℕ). IsSent (answer_status answer) t how before after) text.whole
-          (subst (λ (held : Option (List ℕ)). IsSent (answer_status answer) (answer_text answer) how held after) same-contents sent));
+      written = written_of_sent Right received (answer_status answer) text.allow text.body (answer_cause answer) how before after text.right
+          (subst (λ (t : List ℕ). IsSent (answer_status answer) t (answer_cause answer) how before after) text.whole
+          (subst (λ (held : Option (List ℕ)). IsSent (answer_status answer) (answer_text answer) (answer_cause answer) how held after) same-contents sent));
     }
 
-pub stopped : (Right : HttpRequest → Status → Allow → List ℕ → Type 0) (received : Result HttpRequest RequestFault) (how : ConnectionEnd)
+pub stopped : (Right : HttpRequest → Status → Allow → (body cause : List ℕ) → Type 0) (received : Result HttpRequest RequestFault) (how : ConnectionEnd)
     → (left later : Option (List (List ℕ))) (before after : Option (List ℕ))
     → (bytes : List ℕ) × (ended : Bool) × Gives bytes ended left later × RequestOutcome bytes ended received × ReadsToRequest bytes ended received
     → after ≡ before → IsStopAfter received how → Serves Right how left later before after
-stopped Right received (end.Answered status) left later before after given same stop = absurd stop
+stopped Right received (end.Answered status cause) left later before after given same stop = absurd stop
 stopped Right received end.WriteFault left later before after given same stop = absurd stop
 stopped Right received end.ReadFault left later before after (bytes, ended, gives, read, prompt) same stop =
     record { bytes = bytes; ended = ended; received = received; gives = gives; outcome = read; prompt = prompt; written = (stop, same) }
@@ -91,17 +94,17 @@ stopped Right received end.OutOfMemory left later before after (bytes, ended, gi
 -- ---- a whole request has one answer
 
 -- the first bytes of a whole request, or more, are answered as the request is
-response_after : (Right : HttpRequest → Status → Allow → List ℕ → Type 0) (bytes whole : List ℕ) (ended : Bool) (received : Result HttpRequest RequestFault) (status : Status) (allow : Allow) (body : List ℕ) (request : HttpRequest)
-    → ReadsAs whole request → IsFrontOf bytes whole ended → RequestOutcome bytes ended received → IsAnswerAfter Right received status allow body
-    → Right request status allow body
-response_after Right bytes whole ended (Ok heard) status allow body request reads front read response =
-    subst (λ (r : HttpRequest). Right r status allow body) (same_request bytes whole ended heard request read reads front) response
-response_after Right bytes whole ended (Err refusal) status allow body request reads front read response =
+response_after : (Right : HttpRequest → Status → Allow → (body cause : List ℕ) → Type 0) (bytes whole : List ℕ) (ended : Bool) (received : Result HttpRequest RequestFault) (status : Status) (allow : Allow) (body cause : List ℕ) (request : HttpRequest)
+    → ReadsAs whole request → IsFrontOf bytes whole ended → RequestOutcome bytes ended received → IsAnswerAfter Right received status allow body cause
+    → Right request status allow body cause
+response_after Right bytes whole ended (Ok heard) status allow body cause request reads front read response =
+    subst (λ (r : HttpRequest). Right r status allow body cause) (same_request bytes whole ended heard request read reads front) response
+response_after Right bytes whole ended (Err refusal) status allow body cause request reads front read response =
     absurd (no_status bytes whole ended request refusal status reads front read response.0)
 
-pub response_of_whole : (Right : HttpRequest → Status → Allow → List ℕ → Type 0) (bytes : List ℕ) (request : HttpRequest) → IsAnsweredAsRead Right bytes request
-response_of_whole Right bytes request reads ended received status allow body read response =
-    response_after Right bytes bytes ended received status allow body request reads
+pub response_of_whole : (Right : HttpRequest → Status → Allow → (body cause : List ℕ) → Type 0) (bytes : List ℕ) (request : HttpRequest) → IsAnsweredAsRead Right bytes request
+response_of_whole Right bytes request reads ended received status allow body cause read response =
+    response_after Right bytes bytes ended received status allow body cause request reads
     (record { lost = []; parts = append-nil bytes; all = λ _. refl }) read response
 
 -- a response, by the text of its line of the allowed method
@@ -124,36 +127,36 @@ same_text first second allow other a b status allowed body =
     one ∙ ap (λ (s : Status). text_of s (allow_line first allow) a) status ∙ ap (λ (l : List ℕ). text_of second l a) allowed
     ∙ ap (text_of second (allow_line second other)) body ∙ sym two
 
-at_most : (Right : HttpRequest → Status → Allow → List ℕ → Type 0) (bytes whole : List ℕ) (ended : Bool) (received : Result HttpRequest RequestFault) (how : ConnectionEnd) (before after : Option (List ℕ))
-    → (status : Status) (allow : Allow) (body : List ℕ) → ((request : HttpRequest) → HasOneAnswer Right request)
-    → HasAnswer Right whole status allow body → IsFrontOf bytes whole ended → RequestOutcome bytes ended received → HasWritten Right received how before after
-    → AnswersAtMost status allow body how before after
-at_most Right bytes whole ended received (end.Answered told) before after status allow body one good front read is =
-    let response = response_after Right bytes whole ended received told is.allow is.body good.request good.reads front read is.answer in
-    let right = one good.request told status is.allow allow is.body body response good.right in
-    (right.0, is.written ∙ ap (appended before) (same_text told status is.allow allow is.body body right.0 right.1 right.2))
-at_most Right bytes whole ended received end.WriteFault before after status allow body one good front read is = tt
-at_most Right bytes whole ended received end.ReadFault before after status allow body one good front read is = tt
-at_most Right bytes whole ended received end.OutOfMemory before after status allow body one good front read is = tt
+at_most : (Right : HttpRequest → Status → Allow → (body cause : List ℕ) → Type 0) (bytes whole : List ℕ) (ended : Bool) (received : Result HttpRequest RequestFault) (how : ConnectionEnd) (before after : Option (List ℕ))
+    → (status : Status) (allow : Allow) (body cause : List ℕ) → ((request : HttpRequest) → HasOneAnswer Right request)
+    → HasAnswer Right whole status allow body cause → IsFrontOf bytes whole ended → RequestOutcome bytes ended received → HasWritten Right received how before after
+    → AnswersAtMost status allow body cause how before after
+at_most Right bytes whole ended received (end.Answered told why) before after status allow body cause one good front read is =
+    let response = response_after Right bytes whole ended received told is.allow is.body why good.request good.reads front read is.answer in
+    let right = one good.request told status is.allow allow is.body body why cause response good.right in
+    (right.0, right.3, is.written ∙ ap (appended before) (same_text told status is.allow allow is.body body right.0 right.1 right.2))
+at_most Right bytes whole ended received end.WriteFault before after status allow body cause one good front read is = tt
+at_most Right bytes whole ended received end.ReadFault before after status allow body cause one good front read is = tt
+at_most Right bytes whole ended received end.OutOfMemory before after status allow body cause one good front read is = tt
 
-pub complete_of : (Right : HttpRequest → Status → Allow → List ℕ → Type 0) (how : ConnectionEnd) (left later : Option (List (List ℕ))) (before after : Option (List ℕ))
+pub complete_of : (Right : HttpRequest → Status → Allow → (body cause : List ℕ) → Type 0) (how : ConnectionEnd) (left later : Option (List (List ℕ))) (before after : Option (List ℕ))
     → ((request : HttpRequest) → HasOneAnswer Right request) → Serves Right how left later before after
     → IfSome left (λ pieces. IsComplete Right pieces how before after)
 complete_of Right how None later before after one serves = tt
-complete_of Right how (Some pieces) later before after one serves = λ status allow body good.
-    at_most Right serves.bytes (next_piece pieces) serves.ended serves.received how before after status allow body one good
+complete_of Right how (Some pieces) later before after one serves = λ status allow body cause good.
+    at_most Right serves.bytes (next_piece pieces) serves.ended serves.received how before after status allow body cause one good
     (front_of_gives serves.bytes serves.ended pieces later serves.gives) serves.outcome serves.written
 
 -- ---- a stop is no answer
 
-no_answer : (received : Result HttpRequest RequestFault) (how : ConnectionEnd) (before after : Option (List ℕ)) (status : Status) (allow : Allow) (body : List ℕ)
-    → IsStopAfter received how → AnswersAtMost status allow body how before after
-no_answer received (end.Answered told) before after status allow body stop = absurd stop
-no_answer received end.WriteFault before after status allow body stop = tt
-no_answer received end.ReadFault before after status allow body stop = tt
-no_answer received end.OutOfMemory before after status allow body stop = tt
+no_answer : (received : Result HttpRequest RequestFault) (how : ConnectionEnd) (before after : Option (List ℕ)) (status : Status) (allow : Allow) (body cause : List ℕ)
+    → IsStopAfter received how → AnswersAtMost status allow body cause how before after
+no_answer received (end.Answered told why) before after status allow body cause stop = absurd stop
+no_answer received end.WriteFault before after status allow body cause stop = tt
+no_answer received end.ReadFault before after status allow body cause stop = tt
+no_answer received end.OutOfMemory before after status allow body cause stop = tt
 
-pub complete_of_stop : (Right : HttpRequest → Status → Allow → List ℕ → Type 0) (received : Result HttpRequest RequestFault) (how : ConnectionEnd) (left : Option (List (List ℕ))) (before after : Option (List ℕ))
+pub complete_of_stop : (Right : HttpRequest → Status → Allow → (body cause : List ℕ) → Type 0) (received : Result HttpRequest RequestFault) (how : ConnectionEnd) (left : Option (List (List ℕ))) (before after : Option (List ℕ))
     → IsStopAfter received how → IfSome left (λ pieces. IsComplete Right pieces how before after)
 complete_of_stop Right received how None before after stop = tt
-complete_of_stop Right received how (Some pieces) before after stop = λ status allow body good. no_answer received how before after status allow body stop
+complete_of_stop Right received how (Some pieces) before after stop = λ status allow body cause good. no_answer received how before after status allow body cause stop

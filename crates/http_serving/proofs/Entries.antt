@@ -65,9 +65,9 @@ has_ended bytes false pieces rest some gives is = absurd (cc)
 
 -- ---- what was written
 
-before_told : (Right : HttpRequest → Status → Allow → List ℕ → Type 0) (received : Result HttpRequest RequestFault) (how : ConnectionEnd) (before : Option (List ℕ)) (text : List ℕ)
+before_told : (Right : HttpRequest → Status → Allow → (body cause : List ℕ) → Type 0) (received : Result HttpRequest RequestFault) (how : ConnectionEnd) (before : Option (List ℕ)) (text : List ℕ)
     → HasWritten Right received how before (Some text) → before ≢ None
-before_told Right received (end.Answered status) before text written none = let e = written.written in absurd (cc)
+before_told Right received (end.Answered status cause) before text written none = let e = written.written in absurd (cc)
 before_told Right received end.WriteFault before text written none = let e = written.written.has in absurd (cc)
 before_told Right received end.ReadFault before text written none = let e = written.1 in absurd (cc)
 before_told Right received end.OutOfMemory before text written none = let e = written.written in absurd (cc)
@@ -79,14 +79,14 @@ told_contents (Some other) text some told = sym told
 -- ---- faults
 
 counted_read : (how : ConnectionEnd) (faults faults' : ℕ) → faults ≡ 0 → (how ≡ end.ReadFault → Rose faults faults') → (how ≢ end.ReadFault → faults' ≡ faults) → (0 < faults') ↔ (how ≡ end.ReadFault)
-counted_read (end.Answered status) faults faults' none rose kept = (λ some. absurd (let k : faults' ≡ faults = kept (λ e. cc) in omega (arith, none, k, some)), λ e. absurd (cc))
+counted_read (end.Answered status cause) faults faults' none rose kept = (λ some. absurd (let k : faults' ≡ faults = kept (λ e. cc) in omega (arith, none, k, some)), λ e. absurd (cc))
 counted_read end.ReadFault faults faults' none rose kept = (λ some. refl, λ e. let r : Rose faults faults' = rose refl in omega (arith, none, r))
 counted_read end.WriteFault faults faults' none rose kept = (λ some. absurd (let k : faults' ≡ faults = kept (λ e. cc) in omega (arith, none, k, some)), λ e. absurd (cc))
 counted_read end.OutOfMemory faults faults' none rose kept = (λ some. absurd (let k : faults' ≡ faults = kept (λ e. cc) in omega (arith, none, k, some)), λ e. absurd (cc))
 
 counted_write : (how : ConnectionEnd) (faults faults' : ℕ) → faults ≡ 0 → (how ≡ end.WriteFault → Rose faults faults') → (how ≢ end.WriteFault → how ≢ end.OutOfMemory → faults' ≡ faults)
     → how ≢ end.OutOfMemory → (0 < faults') ↔ (how ≡ end.WriteFault)
-counted_write (end.Answered status) faults faults' none rose kept other = (λ some. absurd (let k : faults' ≡ faults = kept (λ e. cc) other in omega (arith, none, k, some)), λ e. absurd (cc))
+counted_write (end.Answered status cause) faults faults' none rose kept other = (λ some. absurd (let k : faults' ≡ faults = kept (λ e. cc) other in omega (arith, none, k, some)), λ e. absurd (cc))
 counted_write end.ReadFault faults faults' none rose kept other = (λ some. absurd (let k : faults' ≡ faults = kept (λ e. cc) other in omega (arith, none, k, some)), λ e. absurd (cc))
 counted_write end.WriteFault faults faults' none rose kept other = (λ some. refl, λ e. let r : Rose faults faults' = rose refl in omega (arith, none, r))
 counted_write end.OutOfMemory faults faults' none rose kept other = absurd (other refl)
@@ -101,7 +101,7 @@ whole_text text written contents contents' faults faults' none held is (inr rose
 
 -- ---- an entry
 
-pub entry_served : (Right : HttpRequest → Status → Allow → List ℕ → Type 0) (how : ConnectionEnd) (entry : Connection) (pieces : List (List ℕ))
+pub entry_served : (Right : HttpRequest → Status → Allow → (body cause : List ℕ) → Type 0) (how : ConnectionEnd) (entry : Connection) (pieces : List (List ℕ))
     → (start start' left left' : Option (List (List ℕ))) (contents contents' : Option (List ℕ)) (reads reads' writes writes' : ℕ)
     → IsFresh pieces start left contents reads writes → (serves : Serves Right how left left' contents contents')
     → IfSome left (λ given. IsComplete Right given how contents contents') → start' ≡ start

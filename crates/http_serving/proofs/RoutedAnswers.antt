@@ -36,25 +36,25 @@ same_line first second a b s e = ap (λ (t : Status). allow_line t a) s ∙ ap (
 no_line : (status : Status) (allow : Allow) → status ≡ NotFound → allow_line status allow ≡ []
 no_line status allow is = ap (λ (s : Status). allow_line s allow) is
 
-pub one_routed : (routes : List Route) (Right : ℕ → HttpRequest → Status → Allow → List ℕ → Type 0) (request : HttpRequest)
+pub one_routed : (routes : List Route) (Right : ℕ → HttpRequest → Status → Allow → (body cause : List ℕ) → Type 0) (request : HttpRequest)
     → ((place : ℕ) → HasOneAnswer (Right place) request) → HasOneAnswer (RoutedAnswer routes Right) request
-one_routed routes Right request one first second allow other a b (inl (p, asks, right)) (inl (q, asks', right')) =
+one_routed routes Right request one first second allow other a b why because (inl (p, asks, right)) (inl (q, asks', right')) =
     let same : q ≡ p = one_place routes request q p asks'.route asks.route asks'.at asks.at in
-    one p first second allow other a b right (subst (λ (k : ℕ). Right k request second other b) same right')
-one_routed routes Right request one first second allow other a b (inl (p, asks, right)) (inr (inl (wrong, code, bare))) =
+    one p first second allow other a b why because right (subst (λ (k : ℕ). Right k request second other b because) same right')
+one_routed routes Right request one first second allow other a b why because (inl (p, asks, right)) (inr (inl (wrong, code, bare, untold))) =
     absurd (by_its_method routes request p other asks wrong)
-one_routed routes Right request one first second allow other a b (inl (p, asks, right)) (inr (inr (none, code, bare))) =
+one_routed routes Right request one first second allow other a b why because (inl (p, asks, right)) (inr (inr (none, code, bare, untold))) =
     absurd (no_route routes request p asks.route asks.at none)
-one_routed routes Right request one first second allow other a b (inr (inl (wrong, code, bare))) (inl (p, asks, right)) =
+one_routed routes Right request one first second allow other a b why because (inr (inl (wrong, code, bare, untold))) (inl (p, asks, right)) =
     absurd (by_its_method routes request p allow asks wrong)
-one_routed routes Right request one first second allow other a b (inr (inl (wrong, code, bare))) (inr (inl (wrong', code', bare'))) =
+one_routed routes Right request one first second allow other a b why because (inr (inl (wrong, code, bare, untold))) (inr (inl (wrong', code', bare', untold'))) =
     let same : first ≡ second = code ∙ sym code' in
-    (same, same_line first second allow other same (same_allow routes request allow other wrong wrong'), bare ∙ sym bare')
-one_routed routes Right request one first second allow other a b (inr (inl (wrong, code, bare))) (inr (inr (none', code', bare'))) =
+    (same, same_line first second allow other same (same_allow routes request allow other wrong wrong'), bare ∙ sym bare', untold ∙ sym untold')
+one_routed routes Right request one first second allow other a b why because (inr (inl (wrong, code, bare, untold))) (inr (inr (none', code', bare', untold'))) =
     absurd (no_route routes request wrong.place wrong.route wrong.at none')
-one_routed routes Right request one first second allow other a b (inr (inr (none, code, bare))) (inl (p, asks, right)) =
+one_routed routes Right request one first second allow other a b why because (inr (inr (none, code, bare, untold))) (inl (p, asks, right)) =
     absurd (no_route routes request p asks.route asks.at none)
-one_routed routes Right request one first second allow other a b (inr (inr (none, code, bare))) (inr (inl (wrong', code', bare'))) =
+one_routed routes Right request one first second allow other a b why because (inr (inr (none, code, bare, untold))) (inr (inl (wrong', code', bare', untold'))) =
     absurd (no_route routes request wrong'.place wrong'.route wrong'.at none)
-one_routed routes Right request one first second allow other a b (inr (inr (none, code, bare))) (inr (inr (none', code', bare'))) =
-    (code ∙ sym code', no_line first allow code ∙ sym (no_line second other code'), bare ∙ sym bare')
+one_routed routes Right request one first second allow other a b why because (inr (inr (none, code, bare, untold))) (inr (inr (none', code', bare', untold'))) =
+    (code ∙ sym code', no_line first allow code ∙ sym (no_line second other code'), bare ∙ sym bare', untold ∙ sym untold')

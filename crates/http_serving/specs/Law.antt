@@ -8,17 +8,17 @@ use Rattle.http_edge.specs.declared.messages.HttpRequest.{HttpRequest}
 use Rattle.http_edge.specs.declared.messages.Status.{Status}
 use Rattle.http_serving.specs.Serving.{IsAnswerAfter}
 
--- No two statuses, no two methods that a 405 allows, and no two bodies are right for one request.
-abbrev pub HasOneAnswer : (HttpRequest → Status → Allow → List ℕ → Type 0) → HttpRequest → Type 0
+-- No two statuses, no two methods that a 405 allows, no two bodies and no two causes are right for one request.
+abbrev pub HasOneAnswer : (HttpRequest → Status → Allow → (body cause : List ℕ) → Type 0) → HttpRequest → Type 0
 HasOneAnswer Right request =
-    (first second : Status) (allow other : Allow) (a b : List ℕ)
-    → Right request first allow a → Right request second other b
-    → (first ≡ second) × (allow_line first allow ≡ allow_line second other) × (a ≡ b)
+    (first second : Status) (allow other : Allow) (a b why because : List ℕ)
+    → Right request first allow a why → Right request second other b because
+    → (first ≡ second) × (allow_line first allow ≡ allow_line second other) × (a ≡ b) × (why ≡ because)
 
 -- Bytes that begin with a whole request are answered as that request is, and never as a refusal.
-abbrev pub IsAnsweredAsRead : (HttpRequest → Status → Allow → List ℕ → Type 0) → List ℕ → HttpRequest → Type 0
+abbrev pub IsAnsweredAsRead : (HttpRequest → Status → Allow → (body cause : List ℕ) → Type 0) → List ℕ → HttpRequest → Type 0
 IsAnsweredAsRead Right bytes request =
     ReadsAs bytes request
-    → (ended : Bool) (received : Result HttpRequest RequestFault) (status : Status) (allow : Allow) (body : List ℕ)
-    → RequestOutcome bytes ended received → IsAnswerAfter Right received status allow body
-    → Right request status allow body
+    → (ended : Bool) (received : Result HttpRequest RequestFault) (status : Status) (allow : Allow) (body cause : List ℕ)
+    → RequestOutcome bytes ended received → IsAnswerAfter Right received status allow body cause
+    → Right request status allow body cause

@@ -1,12 +1,17 @@
 -- What is printed of a connection.
-use Rattle.std.specs.Prelude.{ℕ, List, ◌++◌, codes, decimal}
+use Rattle.std.specs.Prelude.{ℕ, List, [], ◌∷◌, ◌++◌, codes, decimal}
 use Rattle.http_edge.specs.Responses.{status_code}
 use Rattle.http_serving.specs.declared.ends.ConnectionEnd.{ConnectionEnd}
 use Rattle.http_serving.specs.declared.ends.ConnectionEnd.TheVariants as end
 
+-- a cause behind a status, where there is one
+abbrev pub cause_part : List ℕ → List ℕ
+cause_part [] = []
+cause_part (first ∷ rest) = codes " " ++ (first ∷ rest)
+
 -- how a connection ended
 abbrev pub end_text : ConnectionEnd → List ℕ
-end_text (end.Answered status) = codes "answered " ++ decimal (status_code status)
+end_text (end.Answered status cause) = codes "answered " ++ decimal (status_code status) ++ cause_part cause
 end_text end.ReadFault = codes "read-fault"
 end_text end.WriteFault = codes "write-fault"
 end_text end.OutOfMemory = codes "out-of-memory"

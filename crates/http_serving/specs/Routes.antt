@@ -50,9 +50,9 @@ IsRouted routes request NoPath = HasNoRoute routes request
 
 -- What a right answer is of a server with a table of routes, where `Right` says it of each place: a request that asks for
 -- a route is answered as that route does, 405 with the method of its path where it has another, and 404 where no route
--- has its path (RFC 9110, sections 15.5.5 and 15.5.6).
-abbrev pub RoutedAnswer : List Route → (ℕ → HttpRequest → Status → Allow → List ℕ → Type 0) → HttpRequest → Status → Allow → List ℕ → Type 0
-RoutedAnswer routes Right request status allow body =
-    ((place : ℕ) × AsksAt routes request place × Right place request status allow body)
-    ⊎ (HasOtherMethod routes request allow × (status ≡ MethodNotAllowed) × (body ≡ []))
-    ⊎ (HasNoRoute routes request × (status ≡ NotFound) × (body ≡ []))
+-- has its path (RFC 9110, sections 15.5.5 and 15.5.6). The last two have no body, and no cause is told of them.
+abbrev pub RoutedAnswer : List Route → (ℕ → HttpRequest → Status → Allow → (body cause : List ℕ) → Type 0) → HttpRequest → Status → Allow → (body cause : List ℕ) → Type 0
+RoutedAnswer routes Right request status allow body cause =
+    ((place : ℕ) × AsksAt routes request place × Right place request status allow body cause)
+    ⊎ (HasOtherMethod routes request allow × (status ≡ MethodNotAllowed) × (body ≡ []) × (cause ≡ []))
+    ⊎ (HasNoRoute routes request × (status ≡ NotFound) × (body ≡ []) × (cause ≡ []))

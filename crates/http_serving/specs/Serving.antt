@@ -1,6 +1,7 @@
 -- What a connection is answered: one response to the request that it gives, or a 503 if memory is refused. What a right answer to
--- a request is, is a parameter: a relation `Right` of a request, a status, the method that a 405 allows, and a body. It may be any
--- relation, so also one of what a session of the server's own brought.
+-- a request is, is a parameter: a relation `Right` of a request, a status, the method that a 405 allows, a body, and a cause. It may
+-- be any relation, so also one of what a session of the server's own brought. The cause is a text that the server tells whoever runs
+-- it, empty for none, and no part of the response.
 use Rattle.std.specs.Prelude.{◌≡◌, ◌≢◌, ◌↔◌, ◌⊎◌, ℕ, Bool, List, [], take, Option, Some, None, Result, Ok, Err, ⊤, IsTrue}
 use Rattle.sb_outside.specs.Outside.{Rose, appended, next_piece}
 use Rattle.sb_outside.specs.Writing.{HasFront}
@@ -30,28 +31,30 @@ refusal_status (fault.BodyLimit length) = Some ContentTooLarge
 refusal_status fault.Cut = Some BadRequest
 refusal_status fault.OutOfMemory = None
 
--- A right answer to what was received: to a request, or to bytes that are none.
-abbrev pub IsAnswerAfter : (HttpRequest → Status → Allow → List ℕ → Type 0) → Result HttpRequest RequestFault → Status → Allow → List ℕ → Type 0
-IsAnswerAfter Right (Ok request) status allow body = Right request status allow body
-IsAnswerAfter Right (Err refusal) status allow body = (refusal_status refusal ≡ Some status) × (body ≡ [])
+-- A right answer to what was received: to a request, or to bytes that are none. Of the latter no cause is told.
+abbrev pub IsAnswerAfter : (HttpRequest → Status → Allow → (body cause : List ℕ) → Type 0) → Result HttpRequest RequestFault → Status → Allow
+    → (body cause : List ℕ) → Type 0
+IsAnswerAfter Right (Ok request) status allow body cause = Right request status allow body cause
+IsAnswerAfter Right (Err refusal) status allow body cause = (refusal_status refusal ≡ Some status) × (body ≡ []) × (cause ≡ [])
 
 -- ---- what is written
 
--- A right response was written.
-pub record IsAnswered (Right : HttpRequest → Status → Allow → List ℕ → Type 0) (received : Result HttpRequest RequestFault) (status : Status)
-    (before after : Option (List ℕ)) : Type 0 where
+-- A right response was written, and this is its cause.
+pub record IsAnswered (Right : HttpRequest → Status → Allow → (body cause : List ℕ) → Type 0) (received : Result HttpRequest RequestFault) (status : Status)
+    (cause : List ℕ) (before after : Option (List ℕ)) : Type 0 where
   pub allow : Allow
   pub body : List ℕ
-  pub answer : IsAnswerAfter Right received status allow body
+  pub answer : IsAnswerAfter Right received status allow body cause
   pub written : after ≡ appended before (response_text status allow body)
 
 -- A front of a right response was written, and not the whole.
-pub record IsPartlyAnswered (Right : HttpRequest → Status → Allow → List ℕ → Type 0) (received : Result HttpRequest RequestFault)
+pub record IsPartlyAnswered (Right : HttpRequest → Status → Allow → (body cause : List ℕ) → Type 0) (received : Result HttpRequest RequestFault)
     (before after : Option (List ℕ)) : Type 0 where
   pub status : Status
   pub allow : Allow
   pub body : List ℕ
-  pub answer : IsAnswerAfter Right received status allow body
+  pub cause : List ℕ
+  pub answer : IsAnswerAfter Right received status allow body cause
   pub written : HasFront before after (response_text status allow body)
 
 -- the text of the response to a request for which memory was refused (RFC 9110, section 15.6.4): it has no body
@@ -69,16 +72,16 @@ IsWholeOrFault text before after faults faults' =
     ((after ≡ appended before text) × (faults' ≡ faults)) ⊎ Rose faults faults'
 
 -- what was written, by how the connection ended
-abbrev pub HasWritten : (HttpRequest → Status → Allow → List ℕ → Type 0) → Result HttpRequest RequestFault → ConnectionEnd
+abbrev pub HasWritten : (HttpRequest → Status → Allow → (body cause : List ℕ) → Type 0) → Result HttpRequest RequestFault → ConnectionEnd
     → (before after : Option (List ℕ)) → Type 0
-HasWritten Right received (end.Answered status) before after = IsAnswered Right received status before after
+HasWritten Right received (end.Answered status cause) before after = IsAnswered Right received status cause before after
 HasWritten Right received end.WriteFault before after = IsPartlyAnswered Right received before after
 HasWritten Right received end.ReadFault before after = (received ≡ Err fault.ReadFault) × (after ≡ before)
 HasWritten Right received end.OutOfMemory before after = IsUnavailable before after
 
 -- A connection was served: the bytes that it gave, with its end or without, what these come to, and what was written of the
 -- answer. No more was read than decides what they come to.
-pub record Serves (Right : HttpRequest → Status → Allow → List ℕ → Type 0) (how : ConnectionEnd) (left left' : Option (List (List ℕ)))
+pub record Serves (Right : HttpRequest → Status → Allow → (body cause : List ℕ) → Type 0) (how : ConnectionEnd) (left left' : Option (List (List ℕ)))
     (before after : Option (List ℕ)) : Type 0 where
   pub bytes : List ℕ
   pub ended : Bool
@@ -91,30 +94,31 @@ pub record Serves (Right : HttpRequest → Status → Allow → List ℕ → Typ
 -- ---- what has to be answered
 
 -- The bytes begin with a whole request, and this is a right answer to it.
-pub record HasAnswer (Right : HttpRequest → Status → Allow → List ℕ → Type 0) (bytes : List ℕ) (status : Status) (allow : Allow) (body : List ℕ) : Type 0 where
+pub record HasAnswer (Right : HttpRequest → Status → Allow → (body cause : List ℕ) → Type 0) (bytes : List ℕ) (status : Status) (allow : Allow)
+    (body cause : List ℕ) : Type 0 where
   pub request : HttpRequest
   pub reads : ReadsAs bytes request
-  pub right : Right request status allow body
+  pub right : Right request status allow body cause
 
--- Where the connection was answered, this response was written. It is not answered where a read or a write failed, or memory
--- was refused.
-abbrev pub AnswersAtMost : Status → Allow → List ℕ → ConnectionEnd → (before after : Option (List ℕ)) → Type 0
-AnswersAtMost status allow body (end.Answered told) before after =
-    (told ≡ status) × (after ≡ appended before (response_text status allow body))
-AnswersAtMost status allow body how before after = ⊤
+-- Where the connection was answered, this response was written and this cause is told. It is not answered where a read or a
+-- write failed, or memory was refused.
+abbrev pub AnswersAtMost : Status → Allow → (body cause : List ℕ) → ConnectionEnd → (before after : Option (List ℕ)) → Type 0
+AnswersAtMost status allow body cause (end.Answered told why) before after =
+    (told ≡ status) × (why ≡ cause) × (after ≡ appended before (response_text status allow body))
+AnswersAtMost status allow body cause how before after = ⊤
 
 -- Where a whole request was to come, with a right answer, the connection was answered so or not at all.
-abbrev pub IsComplete : (HttpRequest → Status → Allow → List ℕ → Type 0) → List (List ℕ) → ConnectionEnd → (before after : Option (List ℕ)) → Type 0
+abbrev pub IsComplete : (HttpRequest → Status → Allow → (body cause : List ℕ) → Type 0) → List (List ℕ) → ConnectionEnd → (before after : Option (List ℕ)) → Type 0
 IsComplete Right pieces how before after =
-    (status : Status) (allow : Allow) (body : List ℕ) → HasAnswer Right (next_piece pieces) status allow body
-    → AnswersAtMost status allow body how before after
+    (status : Status) (allow : Allow) (body cause : List ℕ) → HasAnswer Right (next_piece pieces) status allow body cause
+    → AnswersAtMost status allow body cause how before after
 
 -- ---- what a door's log says of it
 
 -- A connection that had these pieces to give was served, by its entry in the door's log: what was written to it is right for
 -- the bytes that it gave, and the entry says where its end was read. A whole request that it had to give was answered, where no
 -- fault was counted and memory was not refused. If memory was refused and no write failed, the whole 503 was written.
-pub record IsServed (Right : HttpRequest → Status → Allow → List ℕ → Type 0) (how : ConnectionEnd) (pieces : List (List ℕ)) (entry : Connection) : Type 0 where
+pub record IsServed (Right : HttpRequest → Status → Allow → (body cause : List ℕ) → Type 0) (how : ConnectionEnd) (pieces : List (List ℕ)) (entry : Connection) : Type 0 where
   pub rest : List (List ℕ)
   pub serves : Serves Right how (Some pieces) (Some rest) (Some []) (Some entry.written)
   pub given : entry.given ≡ serves.bytes

@@ -1,5 +1,5 @@
 -- The steps on the way to a response: a stop without one, and a response on its way.
-use Rattle.std.specs.Prelude.{◌≡◌, ◌≢◌, ℕ, List, Option, Result, Err}
+use Rattle.std.specs.Prelude.{◌≡◌, ◌≢◌, ℕ, List, [], Option, Result, Err}
 use Rattle.sb_outside.specs.Outside.{appended}
 use Rattle.sb_outside.specs.Writing.{HasFront}
 use Rattle.http_edge.specs.Responses.{response_text}
@@ -18,7 +18,7 @@ IsStopAfter received end.ReadFault = received ≡ Err fault.ReadFault
 IsStopAfter received end.OutOfMemory = received ≢ Err fault.ReadFault
 IsStopAfter received how = ⊥
 
--- an answer as it is sent: its status, and its whole text
+-- an answer as it is sent: its status, its whole text, and the cause that is told of it
 abbrev pub answer_status : Answer → Status
 answer_status (Made response) = response.status
 answer_status (Written written) = written.status
@@ -29,9 +29,14 @@ answer_text (Made response) = response_text response.status response.allow respo
 answer_text (Written written) = written.text
 answer_text (Shared shared) = shared.text
 
+abbrev pub answer_cause : Answer → List ℕ
+answer_cause (Made response) = response.cause
+answer_cause (Written written) = []
+answer_cause (Shared shared) = []
+
 -- what was written of the text of a response, by how the connection ended: nothing of it where memory was refused
-abbrev pub IsSent : Status → List ℕ → ConnectionEnd → (before after : Option (List ℕ)) → Type 0
-IsSent status text (end.Answered told) before after = (told ≡ status) × (after ≡ appended before text)
-IsSent status text end.WriteFault before after = HasFront before after text
-IsSent status text end.OutOfMemory before after = after ≡ before
-IsSent status text end.ReadFault before after = ⊥
+abbrev pub IsSent : Status → (text cause : List ℕ) → ConnectionEnd → (before after : Option (List ℕ)) → Type 0
+IsSent status text cause (end.Answered told why) before after = (told ≡ status) × (why ≡ cause) × (after ≡ appended before text)
+IsSent status text cause end.WriteFault before after = HasFront before after text
+IsSent status text cause end.OutOfMemory before after = after ≡ before
+IsSent status text cause end.ReadFault before after = ⊥

@@ -1,7 +1,7 @@
 ghost use Rattle.std.specs.Prelude.{◌≡◌, ◌≢◌, ◌++◌, Err, IfOk, OnOk, OnErr, IsErrOf, codes, decimal};
 ghost use Rattle.sb_outside.specs.Outside.{Rose, appended};
 ghost use Rattle.sb_outside.specs.Writing.{HasFront};
-ghost use Rattle.http_serving.specs.Printed.{connection_line, end_text};
+ghost use Rattle.http_serving.specs.Printed.{cause_part, connection_line, end_text};
 
 use http_edge::{ResponseFault, Status};
 use itoa::Buffer;
@@ -10,10 +10,11 @@ use sb_outside::{Failed, Sink, write_all};
 use std::alloc::Global;
 
 /// How a connection ended.
-#[derive(Clone, Copy, Debug, PartialEq, Eq, Hash)]
+#[derive(Debug, Drop)]
 pub enum ConnectionEnd {
-    /// A whole response with this status was written.
-    Answered(Status),
+    /// A whole response with this status was written. The cause is what the server tells of it whoever runs it, empty for
+    /// nothing.
+    Answered(Status, Bytes),
     /// The request could not be received. Nothing was written.
     ReadFault,
     /// The response could not be sent as a whole.
@@ -23,15 +24,32 @@ pub enum ConnectionEnd {
     OutOfMemory,
 }
 
+/// Appends a cause behind a status, if there is one.
+fn push_cause(line: &mut Bytes, cause: &[u8]) -> Result<(), OutOfMemory>
+    ensures { OnOk result (line.new ≡ line.old ++ cause_part cause.now) }
+{
+    if cause.is_empty() {
+        return Ok(());
+    }
+    line.append(b" ")?;
+    line.append(cause)
+}
+
+/// Appends the status of a response that was written, and its cause.
+fn push_answered(line: &mut Bytes, status: Status, cause: &[u8]) -> Result<(), OutOfMemory>
+    ensures { OnOk result (line.new ≡ line.old ++ end_text (ConnectionEnd.Answered status cause.now)) }
+{
+    line.append(b"answered ")?;
+    line.append_decimal(u64::from(status.code()))?;
+    push_cause(line, cause)
+}
+
 /// Appends how a connection ended.
-fn push_end(line: &mut Bytes, end: ConnectionEnd) -> Result<(), OutOfMemory>
-    ensures { OnOk result (line.new ≡ line.old ++ end_text end) }
+fn push_end(line: &mut Bytes, end: &ConnectionEnd) -> Result<(), OutOfMemory>
+    ensures { OnOk result (line.new ≡ line.old ++ end_text end.now) }
 {
     match end {
-        ConnectionEnd::Answered(status) => {
-            line.append(b"answered ")?;
-            line.append_decimal(u64::from(status.code()))
-        }
+        ConnectionEnd::Answered(status, cause) => push_answered(line, *status, cause.as_slice()),
         ConnectionEnd::ReadFault => line.append(b"read-fault"),
         ConnectionEnd::WriteFault => line.append(b"write-fault"),
         ConnectionEnd::OutOfMemory => line.append(b"out-of-memory"),
@@ -39,8 +57,8 @@ fn push_end(line: &mut Bytes, end: ConnectionEnd) -> Result<(), OutOfMemory>
 }
 
 /// The line of a connection that ended, by its number.
-fn line_of(alloc: Global, number: u32, end: ConnectionEnd) -> Result<Bytes, OutOfMemory>
-    ensures { IfOk result (λ line. line ≡ connection_line number end) }
+fn line_of(alloc: Global, number: u32, end: &ConnectionEnd) -> Result<Bytes, OutOfMemory>
+    ensures { IfOk result (λ line. line ≡ connection_line number end.now) }
 {
     let mut line = Bytes::new(alloc);
     line.append(b"connection ")?;
@@ -55,12 +73,12 @@ fn line_of(alloc: Global, number: u32, end: ConnectionEnd) -> Result<Bytes, OutO
 fn print_line<O: Sink>(
     alloc: Global,
     number: u32,
-    end: ConnectionEnd,
+    end: &ConnectionEnd,
     out: &mut O,
 ) -> Result<(), ResponseFault>
-    ensures whole { OnOk result (O.contents out.new ≡ appended (O.contents out.old) (connection_line number end)) }
+    ensures whole { OnOk result (O.contents out.new ≡ appended (O.contents out.old) (connection_line number end.now)) }
     ensures cut { IsErrOf result ResponseFault.WriteFault →
-        HasFront (O.contents out.old) (O.contents out.new) (connection_line number end) }
+        HasFront (O.contents out.old) (O.contents out.new) (connection_line number end.now) }
     ensures memory { IsErrOf result ResponseFault.OutOfMemory → out.new ≡ out.old }
 
     // A fault is counted, and nothing else is.
@@ -113,20 +131,20 @@ fn print_without_memory<O: Sink>(number: u32, out: &mut O) -> Result<(), Respons
     }
 }
 
-/// Prints the line of a connection that ended, by its number, counted from 1: `connection I answered S`,
-/// `connection I read-fault`, `connection I write-fault` or `connection I out-of-memory`. The last takes no memory. `OutOfMemory`
-/// says that memory was refused for another line, and then nothing is written.
+/// Prints the line of a connection that ended, by its number, counted from 1: `connection I answered S`, with a blank and the
+/// cause behind it if there is one, `connection I read-fault`, `connection I write-fault` or `connection I out-of-memory`. The
+/// last takes no memory. `OutOfMemory` says that memory was refused for another line, and then nothing is written.
 pub fn print_connection<O: Sink>(
     alloc: Global,
     number: u32,
-    end: ConnectionEnd,
+    end: &ConnectionEnd,
     out: &mut O,
 ) -> Result<(), ResponseFault>
-    ensures whole { OnOk result (O.contents out.new ≡ appended (O.contents out.old) (connection_line number end)) }
+    ensures whole { OnOk result (O.contents out.new ≡ appended (O.contents out.old) (connection_line number end.now)) }
     ensures cut { IsErrOf result ResponseFault.WriteFault →
-        HasFront (O.contents out.old) (O.contents out.new) (connection_line number end) }
+        HasFront (O.contents out.old) (O.contents out.new) (connection_line number end.now) }
     ensures memory { IsErrOf result ResponseFault.OutOfMemory → out.new ≡ out.old }
-    ensures some { end ≡ ConnectionEnd.OutOfMemory → result ≢ Err ResponseFault.OutOfMemory }
+    ensures some { end.now ≡ ConnectionEnd.OutOfMemory → result ≢ Err ResponseFault.OutOfMemory }
 
     // A fault is counted, and nothing else is.
     ensures failed { IsErrOf result ResponseFault.WriteFault → Rose (O.faults out.old) (O.faults out.new) }
@@ -134,6 +152,6 @@ pub fn print_connection<O: Sink>(
 {
     match end {
         ConnectionEnd::OutOfMemory => print_without_memory(number, out),
-        end => print_line(alloc, number, end, out),
+        _ => print_line(alloc, number, end, out),
     }
 }

@@ -2,7 +2,7 @@ ghost use Rattle.std.specs.Prelude.{◌≡◌, ◌≢◌, ◌≤◌, [], IfOk};
 ghost use Rattle.sb_outside.specs.Outside.{Rose};
 ghost use Rattle.http_edge.specs.Responses.{response_text};
 ghost use Rattle.http_serving.specs.Serving.{refusal_status, unavailable_text, IsUnavailable, IsWholeOrFault};
-ghost use Rattle.http_serving.specs.Steps.{answer_status, answer_text, IsSent};
+ghost use Rattle.http_serving.specs.Steps.{answer_cause, answer_status, answer_text, IsSent};
 
 use crate::ends::ConnectionEnd;
 use crate::text_sink::TextSink;
@@ -15,23 +15,26 @@ use std::alloc::Global;
 const UNAVAILABLE: &[u8] =
     b"HTTP/1.1 503 Service Unavailable\r\nContent-Type: application/json\r\nContent-Length: 0\r\nContent-Digest: sha-256=:47DEQpj8HBSa+/TImW+5JCeuQeRkm5NMpJWZG3hSuFU=:\r\nConnection: close\r\n\r\n";
 
-/// A response: a status, the method that a 405 allows, and the body that goes with it.
+/// A response: a status, the method that a 405 allows, and the body that goes with it. Beside it stands its cause, which is not
+/// sent.
 #[derive(Debug, Drop)]
 pub struct Response {
     pub status: Status,
     /// The method that `Allow` names where the status is 405. With another status it has no meaning.
     pub allow: Allow,
     pub body: Bytes,
+    /// What the server tells of it whoever runs it, empty for nothing.
+    pub cause: Bytes,
 }
 
-/// A response that is written out: its status, and its whole text, with the head before the body.
+/// A response that is written out: its status, and its whole text, with the head before the body. It has no cause.
 #[derive(Debug, Drop)]
 pub struct WrittenResponse {
     pub status: Status,
     pub text: Bytes,
 }
 
-/// A response that is written out, as a text that others may hold too.
+/// A response that is written out, as a text that others may hold too. It has no cause.
 #[derive(Debug, Drop)]
 pub struct SharedResponse {
     pub status: Status,
@@ -49,16 +52,18 @@ pub enum Answer {
     Shared(SharedResponse),
 }
 
-/// A response without a body. The method is named where the status is 405, and nowhere else.
+/// A response without a body and without a cause. The method is named where the status is 405, and nowhere else.
 pub fn bare(alloc: Global, status: Status, allow: Allow) -> Response
     ensures status { result.status ≡ status }
     ensures allow { result.allow ≡ allow }
     ensures body { result.body ≡ [] }
+    ensures cause { result.cause ≡ [] }
 {
     Response {
         status,
         allow,
         body: Bytes::new(alloc),
+        cause: Bytes::new(alloc),
     }
 }
 
@@ -75,7 +80,7 @@ pub(crate) fn refusal_status(fault: RequestFault) -> Option<Status>
     }
 }
 
-/// Writes a response out, as it is sent.
+/// Writes a response out, as it is sent. Its cause is no part of it.
 pub fn write_out(alloc: Global, response: &Response) -> Result<WrittenResponse, OutOfMemory>
     ensures status { IfOk result (λ written. written.status ≡ response.now.status) }
     ensures text { IfOk result (λ written. written.text ≡ response_text response.now.status response.now.allow response.now.body) }
@@ -84,6 +89,7 @@ pub fn write_out(alloc: Global, response: &Response) -> Result<WrittenResponse, 
         status,
         allow,
         body,
+        cause: _,
     } = response;
     let mut sink = TextSink::new(alloc);
     match write_response(alloc, &mut sink, *status, *allow, body.as_slice()) {
@@ -96,8 +102,8 @@ pub fn write_out(alloc: Global, response: &Response) -> Result<WrittenResponse, 
 }
 
 /// Writes a response.
-fn send_made<O: Sink>(alloc: Global, sink: &mut O, response: &Response) -> ConnectionEnd
-    ensures sent { IsSent response.now.status (response_text response.now.status response.now.allow response.now.body) result
+fn send_made<O: Sink>(alloc: Global, sink: &mut O, response: Response) -> ConnectionEnd
+    ensures sent { IsSent response.status (response_text response.status response.allow response.body) response.cause result
         (O.contents sink.old) (O.contents sink.new) }
     ensures failed { result ≡ ConnectionEnd.WriteFault → Rose (O.faults sink.old) (O.faults sink.new) }
     ensures kept { result ≢ ConnectionEnd.WriteFault → O.faults sink.new ≡ O.faults sink.old }
@@ -108,38 +114,39 @@ fn send_made<O: Sink>(alloc: Global, sink: &mut O, response: &Response) -> Conne
         status,
         allow,
         body,
+        cause,
     } = response;
-    match write_response(alloc, sink, *status, *allow, body.as_slice()) {
-        Ok(()) => ConnectionEnd::Answered(*status),
+    match write_response(alloc, sink, status, allow, body.as_slice()) {
+        Ok(()) => ConnectionEnd::Answered(status, cause),
         Err(ResponseFault::WriteFault) => ConnectionEnd::WriteFault,
         Err(ResponseFault::OutOfMemory) => ConnectionEnd::OutOfMemory,
     }
 }
 
 /// Writes the text of a response.
-fn send_written<O: Sink>(sink: &mut O, written: &WrittenResponse) -> ConnectionEnd
-    ensures sent { IsSent written.now.status written.now.text result (O.contents sink.old) (O.contents sink.new) }
+fn send_written<O: Sink>(alloc: Global, sink: &mut O, written: &WrittenResponse) -> ConnectionEnd
+    ensures sent { IsSent written.now.status written.now.text [] result (O.contents sink.old) (O.contents sink.new) }
     ensures failed { result ≡ ConnectionEnd.WriteFault → Rose (O.faults sink.old) (O.faults sink.new) }
     ensures kept { result ≢ ConnectionEnd.WriteFault → O.faults sink.new ≡ O.faults sink.old }
     ensures counted { O.faults sink.old ≤ O.faults sink.new }
     ensures other { O.front sink.new ≡ O.front sink.old }
 {
     match write_all(sink, written.text.as_slice()) {
-        Ok(()) => ConnectionEnd::Answered(written.status),
+        Ok(()) => ConnectionEnd::Answered(written.status, Bytes::new(alloc)),
         Err(Failed) => ConnectionEnd::WriteFault,
     }
 }
 
 /// Writes the text of a response that others may hold too.
-fn send_shared<T: Wire>(wire: &mut T, shared: &SharedResponse) -> ConnectionEnd
-    ensures sent { IsSent shared.now.status shared.now.text result (T.contents wire.old) (T.contents wire.new) }
+fn send_shared<T: Wire>(alloc: Global, wire: &mut T, shared: &SharedResponse) -> ConnectionEnd
+    ensures sent { IsSent shared.now.status shared.now.text [] result (T.contents wire.old) (T.contents wire.new) }
     ensures failed { result ≡ ConnectionEnd.WriteFault → Rose (T.Sink.faults wire.old) (T.Sink.faults wire.new) }
     ensures kept { result ≢ ConnectionEnd.WriteFault → T.Sink.faults wire.new ≡ T.Sink.faults wire.old }
     ensures counted { T.Sink.faults wire.old ≤ T.Sink.faults wire.new }
     ensures other { T.front wire.new ≡ T.front wire.old }
 {
     match wire.write_shared(&shared.text) {
-        Ok(()) => ConnectionEnd::Answered(shared.status),
+        Ok(()) => ConnectionEnd::Answered(shared.status, Bytes::new(alloc)),
         Err(Failed) => ConnectionEnd::WriteFault,
     }
 }
@@ -155,9 +162,9 @@ pub(crate) fn send_unavailable<O: Sink>(sink: &mut O)
     let _ = write_all(sink, UNAVAILABLE);
 }
 
-/// Sends an answer.
-pub(crate) fn send<T: Wire>(alloc: Global, wire: &mut T, answer: &Answer) -> ConnectionEnd
-    ensures sent { IsSent (answer_status answer.now) (answer_text answer.now) result (T.contents wire.old) (T.contents wire.new) }
+/// Sends an answer. If all of it was sent, its cause is told.
+pub(crate) fn send<T: Wire>(alloc: Global, wire: &mut T, answer: Answer) -> ConnectionEnd
+    ensures sent { IsSent (answer_status answer) (answer_text answer) (answer_cause answer) result (T.contents wire.old) (T.contents wire.new) }
     ensures failed { result ≡ ConnectionEnd.WriteFault → Rose (T.Sink.faults wire.old) (T.Sink.faults wire.new) }
     ensures kept { result ≢ ConnectionEnd.WriteFault → T.Sink.faults wire.new ≡ T.Sink.faults wire.old }
     ensures counted { T.Sink.faults wire.old ≤ T.Sink.faults wire.new }
@@ -165,7 +172,7 @@ pub(crate) fn send<T: Wire>(alloc: Global, wire: &mut T, answer: &Answer) -> Con
 {
     match answer {
         Answer::Made(response) => send_made(alloc, wire, response),
-        Answer::Written(written) => send_written(wire, written),
-        Answer::Shared(shared) => send_shared(wire, shared),
+        Answer::Written(written) => send_written(alloc, wire, &written),
+        Answer::Shared(shared) => send_shared(alloc, wire, &shared),
     }
 }

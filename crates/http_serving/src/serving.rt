@@ -25,7 +25,7 @@ pub trait Answers {
 
     // what a right answer is to a request that asks for the route at a place, of a server that was so before it and is so after
     // it. It may be any relation, so also one of what a session of the server's own brought.
-    ghost right: { Self → Self → ℕ → HttpRequest → Status → Allow → List ℕ → Type 0 };
+    ghost right: { Self → Self → ℕ → HttpRequest → Status → Allow → (body cause : List ℕ) → Type 0 };
 
     // what an answer leaves of a server, whether it is given or memory was refused
     ghost stays: { Self → Self → Type 0 };
@@ -124,18 +124,18 @@ fn answer_wire<A: Answers, T: Wire>(alloc: Global, answers: &mut A, wire: &mut T
     A::have_one_answer();
     let received = read_request(alloc, wire);
     match respond(alloc, answers, received) {
-        Ok(answer) => send(alloc, wire, &answer),
+        Ok(answer) => send(alloc, wire, answer),
         Err(end) => end,
     }
 }
 
 /// Reads one request and writes one response (RFC 9112).
 ///
-/// A request that asks for a route is answered as the server says. Other responses have no body: 400 where the request is
-/// malformed or cut off; 404 where no route has its path; 405 where the route of its path takes another method, which `Allow`
-/// names; 411 where the length of the body is not given; 413 where it is more than 1,048,576 bytes; 431 where the head is too
-/// long; 503 if memory is refused, of which a front may be written as with any other. What follows a `?` in the target is not
-/// looked at, nor what follows the request.
+/// A request that asks for a route is answered as the server says, and its cause is told. Other responses have no body and no
+/// cause: 400 where the request is malformed or cut off; 404 where no route has its path; 405 where the route of its path takes
+/// another method, which `Allow` names; 411 where the length of the body is not given; 413 where it is more than 1,048,576
+/// bytes; 431 where the head is too long; 503 if memory is refused, of which a front may be written as with any other. What
+/// follows a `?` in the target is not looked at, nor what follows the request.
 pub fn serve_connection<A: Answers, T: Wire>(
     alloc: Global,
     answers: &mut A,
