@@ -17,14 +17,15 @@ use Rattle.update_messages.specs.declared.sets.Additions.TheVariants as added
 use Rattle.update_messages.specs.declared.sets.Removals.{Removals}
 use Rattle.update_messages.specs.declared.sets.Removals.TheVariants as removed
 use Rattle.update_messages.specs.declared.response.FetchResponse.{FetchResponse}
-use Rattle.update_messages.specs.Messages.{AskedList, Request, UpdatedList, most_items}
-use Rattle.sb_members.specs.Lists.{EachReads, ReadsList, fault_of, first, first_of_items, fault_of_list, first_from, in_item, item_count}
+use Rattle.update_messages.specs.Messages.{AskedList, list_of_item, Request, UpdatedList, most_items}
+use Rattle.sb_members.specs.Lists.{EachReads, ReadsList, fault_of, first, first_of_items, fault_of_list, first_from, in_item}
+use Rattle.sb_members.specs.Somes.{somes, ReadsSome}
 use Rattle.sb_members.specs.Rows.{threat_row, platform_row, entry_row}
 use Rattle.update_messages.specs.RequestRows as request
 use Rattle.update_messages.specs.ResponseRows as response
-use Rattle.update_messages.specs.Reading.{ReadsRice, ReadsRaw, ReadsIndex, ReadsAddition, ReadsRemoval, ReadsUpdatedList, ReadsResponse, ReadsName, TakesCompressions, ReadsAskedList, ReadsClient, ReadsRequest}
-use Rattle.update_messages.specs.Faults.{faults_of_rice, faults_of_raw_hashes, faults_of_hashes, faults_of_indices, fault_of_index, faults_of_addition, fault_of_addition, faults_of_removal, fault_of_removal, faults_of_update, fault_of_update, fault_of_updates, faults_of_response, fault_of_response, fault_of_name, faults_of_asked, fault_of_asked, faults_of_client, fault_of_requests, faults_of_request, fault_of_request}
-use Rattle.update_messages.proofs.NoFault.{count_of_each}
+use Rattle.update_messages.specs.Reading.{ReadsRice, ReadsRaw, ReadsIndex, ReadsAddition, ReadsRemoval, ReadsUpdatedList, ReadsResponse, ReadsName, TakesCompressions, ReadsAskedItem, ReadsAsked, ReadsClient, ReadsRequest}
+use Rattle.update_messages.specs.Faults.{faults_of_rice, faults_of_raw_hashes, faults_of_hashes, faults_of_indices, fault_of_index, faults_of_addition, fault_of_addition, faults_of_removal, fault_of_removal, faults_of_update, fault_of_update, fault_of_updates, faults_of_response, fault_of_response, fault_of_name, faults_of_asked, fault_of_asked, faults_of_client, named_count, fault_of_requests, faults_of_request, fault_of_request}
+use Rattle.update_messages.proofs.NamedItems.{named_are_read}
 
 -- none of them is there
 abbrev AllNone : {F : Type 0} → List (Option F) → Type 0
@@ -192,18 +193,16 @@ taken_there r e =
       record { names = names.0; names_read = names.1; raw_taken = refl; rice_taken = refl },
     )
 
-asked_there : IsThereIfClean ReadsAskedList fault_of_asked
-asked_there d e =
+item_there : IsThereIfClean ReadsAskedItem fault_of_asked
+item_there d e =
     let h : AllNone (faults_of_asked d) = all_none (faults_of_asked d) e in
-    let threat = row_read (threat_row d) h.1.0 in
-    let platform = row_read (platform_row d) h.1.1.0 in
-    let entry = row_read (entry_row d) h.1.1.1.0 in
-    let state = row_read (request.state_row d) h.1.1.1.1.0 in
-    let max_update = row_read (request.constraints_row d >>= request.max_update_row) h.1.1.1.1.1.0 in
-    let max_database = row_read (request.constraints_row d >>= request.max_database_row) h.1.1.1.1.1.1.0 in
-    let taken = taken_there (request.constraints_row d >>= request.compressions_row) h.1.1.1.1.1.1.1.0 in (
+    let name = row_read (request.asked_name_row d) h.1.0 in
+    let state = row_read (request.state_row d) h.1.1.0 in
+    let max_update = row_read (request.constraints_row d >>= request.max_update_row) h.1.1.1.0 in
+    let max_database = row_read (request.constraints_row d >>= request.max_database_row) h.1.1.1.1.0 in
+    let taken = taken_there (request.constraints_row d >>= request.compressions_row) h.1.1.1.1.1.0 in (
       record {
-        name = record { threat = threat.0; platform = platform.0; entry = entry.0 };
+        name = name.0;
         state = state.0;
         max_update = max_update.0;
         max_database = max_database.0;
@@ -212,15 +211,18 @@ asked_there d e =
       },
       record {
         object = is_object field.ListUpdateRequests d h.0;
-        threat = threat.1;
-        platform = platform.1;
-        entry = entry.1;
+        name = name.1;
         state = state.1;
         max_update = max_update.1;
         max_database = max_database.1;
         compressions = taken.2;
       },
     )
+
+asked_there : IsThereIfClean ReadsAsked fault_of_asked
+asked_there d e =
+    let a = item_there d e in
+    (list_of_item a.0, record { item = a.0; item_read = a.1; kept = refl })
 
 client_there : (holder : Result Data FieldFault) → first (faults_of_client holder) ≡ None → (c : ClientInfo) × ReadsClient holder c
 client_there holder e =
@@ -233,13 +235,13 @@ chosen : {F : Type 0} (b : Bool) (o : Option F) (f : F) → cond b o (Some f) �
 chosen true o f e = (refl, e)
 chosen false o f e = absurd (cc e)
 
-requests_there : (r : Result Items FieldFault) → fault_of_requests r ≡ None → (xs : List AskedList) × (length xs ≤ most_items) × ReadsList ReadsAskedList r xs
+requests_there : (r : Result Items FieldFault) → fault_of_requests r ≡ None → (xs : List AskedList) × (length xs ≤ most_items) × ReadsSome ReadsAsked r xs
 requests_there (Ok ds) e =
-    let c = chosen (nat_le (item_count ds) most_items) (first_from fault_of_asked 1 ds) (TooManyItems (item_count ds)) e in
-    let few : item_count ds ≤ most_items = leb-true (item_count ds) most_items c.0 in
-    let xs = numbered_there ReadsAskedList fault_of_asked asked_there 1 ds c.1 in
-    let same : item_count ds ≡ length xs.0 = count_of_each ReadsAskedList ds xs.0 xs.1 in
-    (xs.0, omega arith, xs.1)
+    let c = chosen (nat_le (named_count ds) most_items) (first_from fault_of_asked 1 ds) (TooManyItems (named_count ds)) e in
+    let few : named_count ds ≤ most_items = leb-true (named_count ds) most_items c.0 in
+    let all = numbered_there ReadsAsked fault_of_asked asked_there 1 ds c.1 in
+    let same : named_count ds ≡ length (somes all.0) = named_are_read ds all.0 all.1 in
+    (somes all.0, omega arith, record { all = all.0; all_read = all.1; kept = refl })
 requests_there (Err f) e = absurd (cc e)
 
 pub request_there : (d : Data) → fault_of_request d ≡ None → (m : Request) × ReadsRequest d m

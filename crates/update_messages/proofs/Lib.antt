@@ -3,8 +3,10 @@ pub mod Depths
 pub mod Existence
 pub mod Floats
 pub mod Lists
+pub mod NamedItems
 pub mod NoFault
 pub mod OneReading
+pub mod Others
 pub mod RequestAgain
 pub mod ResponseAgain
 pub mod RisingNumbers

@@ -1,15 +1,12 @@
 -- Lists that are read item by item.
-use Rattle.std.proofs.Common.{◌≡◌, ℕ, suc, ◌+◌, ◌≤◌, ◌<◌, List, [], ◌∷◌, ◌++◌, length, drop, get_or, Option, Some, None, Result, Ok, refl, sym, ap, ◌∙◌, append_assoc, add-one, arith, drop-cons}
+use Rattle.std.proofs.Common.{◌≡◌, ℕ, suc, ◌+◌, ◌≤◌, ◌<◌, List, [], ◌∷◌, ◌++◌, length, drop, get_or, Option, Some, None, Result, Ok, refl, sym, ap, ◌∙◌, append_assoc, add-one, drop-cons}
 use Rattle.std.proofs.lemmas.List.{append-nil}
 use Rattle.std.proofs.Math.ListN.{drop_of_length-le}
 use Rattle.serde_json.specs.Data.{Data, Items}
 use Rattle.serde_json.specs.View.{view, items_view}
 use Rattle.serde_json.specs.declared.value.Value.{Value}
 use Rattle.sb_json.specs.declared.faults.FieldFault.{FieldFault}
-use Rattle.sb_json.specs.declared.faults.MessageFault.TheVariants.{TooManyItems}
-use Rattle.sb_members.specs.Lists.{EachReads, ReadsList, first, first_of_items, first_from, item_count}
-use Rattle.update_messages.specs.Messages.{most_items}
-use Rattle.update_messages.specs.Faults.{fault_of_asked, fault_of_requests}
+use Rattle.sb_members.specs.Lists.{EachReads, ReadsList, first, first_of_items}
 
 pub only_one : {F : Type 0} (o : Option F) → first (o ∷ []) ≡ o
 only_one None = refl
@@ -57,13 +54,3 @@ clean_ends fault xs i le so_far = so_far.same ∙ rw (drop_of_length-le xs le) r
 
 pub list_read : {A : Type 0} (Reads : Data → A → Type 0) (r : Result Items FieldFault) (items : Items) (found : List A) → r ≡ Ok items → EachReads Reads items found → ReadsList Reads r found
 list_read Reads r items found e h = rw e h
-
-pub count_of_items : (xs : List Value) → item_count (items_view xs) ≡ length xs
-count_of_items [] = refl
-count_of_items (x ∷ xs) = omega (arith, count_of_items xs)
-
-pub few_clean : (xs : List Value) → length xs ≤ most_items → fault_of_requests (Ok (items_view xs)) ≡ first_from fault_of_asked 1 (items_view xs)
-few_clean xs le = rw (count_of_items xs) (grind arith)
-
-pub too_many : (xs : List Value) → most_items < length xs → fault_of_requests (Ok (items_view xs)) ≡ Some (TooManyItems (length xs))
-too_many xs lt = rw (count_of_items xs) (grind arith)

@@ -1,5 +1,5 @@
 -- What reads as a message has no fault.
-use Rattle.std.proofs.Common.{◌≡◌, ℕ, ◌+◌, ◌≤◌, List, [], ◌∷◌, length, Option, None, Result, Ok, Err, refl, ◌∙◌, arith}
+use Rattle.std.proofs.Common.{◌≡◌, ℕ, ◌+◌, ◌≤◌, List, [], ◌∷◌, length, Option, None, Result, Ok, Err, refl, ◌∙◌, subst, arith}
 use Rattle.serde_json.specs.Data.{Data, Items, no_items, item}
 use Rattle.sb_json.specs.Values.{◌>>=◌}
 use Rattle.sb_json.specs.declared.faults.FieldFault.{FieldFault}
@@ -10,9 +10,11 @@ use Rattle.update_messages.specs.declared.sets.Additions.TheVariants as added
 use Rattle.update_messages.specs.declared.sets.Removals.TheVariants as removed
 use Rattle.update_messages.specs.declared.response.FetchResponse.{FetchResponse}
 use Rattle.update_messages.specs.Messages.{AskedList, Request, UpdatedList, most_items}
-use Rattle.sb_members.specs.Lists.{EachReads, ReadsList, fault_of, first, first_of_items, fault_of_list, first_from, in_item, item_count}
-use Rattle.update_messages.specs.Reading.{ReadsRice, ReadsRaw, ReadsIndex, ReadsAddition, ReadsRemoval, ReadsUpdatedList, ReadsResponse, ReadsName, ReadsAskedList, ReadsClient, ReadsRequest}
+use Rattle.sb_members.specs.Lists.{EachReads, ReadsList, fault_of, first, first_of_items, fault_of_list, first_from, in_item}
+use Rattle.sb_members.specs.Somes.{somes, ReadsSome}
+use Rattle.update_messages.specs.Reading.{ReadsRice, ReadsRaw, ReadsIndex, ReadsAddition, ReadsRemoval, ReadsUpdatedList, ReadsResponse, ReadsName, ReadsAskedItem, ReadsAsked, ReadsClient, ReadsRequest}
 use Rattle.update_messages.specs.Faults.{faults_of_rice, faults_of_raw_hashes, fault_of_index, fault_of_addition, fault_of_removal, fault_of_update, fault_of_updates, fault_of_response, fault_of_name, fault_of_asked, faults_of_client, fault_of_requests, fault_of_request}
+use Rattle.update_messages.proofs.NamedItems.{few_clean, named_are_read}
 
 pub passes : {A : Type 0} (r : Result A FieldFault) (a : A) (os : List (Option FieldFault)) → r ≡ Ok a → first (fault_of r ∷ os) ≡ first os
 passes r a os e = rw e refl
@@ -85,25 +87,24 @@ name_clean d a h = rw h refl
 client_clean : (holder : Result Data FieldFault) (client : ClientInfo) → ReadsClient holder client → first (faults_of_client holder) ≡ None
 client_clean holder client h = passes _ _ _ h.id ∙ passes _ _ _ h.version
 
-asked_clean : IsWithoutFault ReadsAskedList fault_of_asked
-asked_clean d a h =
-    passes _ _ _ h.object ∙ passes _ _ _ h.threat ∙ passes _ _ _ h.platform ∙ passes _ _ _ h.entry ∙ passes _ _ _ h.state
-    ∙ passes _ _ _ h.max_update ∙ passes _ _ _ h.max_database
+item_clean : IsWithoutFault ReadsAskedItem fault_of_asked
+item_clean d a h =
+    passes _ _ _ h.object ∙ passes _ _ _ h.name ∙ passes _ _ _ h.state ∙ passes _ _ _ h.max_update ∙ passes _ _ _ h.max_database
     ∙ passes_by _ _ (list_clean ReadsName fault_of_name name_clean _ h.compressions.names h.compressions.names_read)
 
-pub count_of_each : {A : Type 0} (Reads : Data → A → Type 0) (ds : Items) (xs : List A) → EachReads Reads ds xs → item_count ds ≡ length xs
-count_of_each Reads no_items [] h = refl
-count_of_each Reads no_items (x ∷ xs) h = absurd h
-count_of_each Reads (item d ds) [] h = absurd h
-count_of_each Reads (item d ds) (x ∷ xs) h = omega (arith, count_of_each Reads ds xs h.1)
+asked_clean : IsWithoutFault ReadsAsked fault_of_asked
+asked_clean d a h = item_clean d h.item h.item_read
 
-few_items : (ds : Items) → item_count ds ≤ most_items → fault_of_requests (Ok ds) ≡ first_from fault_of_asked 1 ds
-few_items ds le = grind arith
+few_are_clean : (ds : Items) (all : List (Option AskedList)) → length (somes all) ≤ most_items → EachReads ReadsAsked ds all → fault_of_requests (Ok ds) ≡ None
+few_are_clean ds all few h =
+    few_clean ds (omega (arith, named_are_read ds all h)) ∙ numbered_clean ReadsAsked fault_of_asked asked_clean 1 ds all h
 
-requests_clean : (r : Result Items FieldFault) (xs : List AskedList) → length xs ≤ most_items → ReadsList ReadsAskedList r xs → fault_of_requests r ≡ None
-requests_clean (Ok ds) xs few h =
-    few_items ds (omega (arith, count_of_each ReadsAskedList ds xs h)) ∙ numbered_clean ReadsAskedList fault_of_asked asked_clean 1 ds xs h
-requests_clean (Err f) xs few h = absurd h
+all_clean : (r : Result Items FieldFault) (all : List (Option AskedList)) → length (somes all) ≤ most_items → ReadsList ReadsAsked r all → fault_of_requests r ≡ None
+all_clean (Ok ds) all few h = few_are_clean ds all few h
+all_clean (Err f) all few h = absurd h
+
+requests_clean : (r : Result Items FieldFault) (xs : List AskedList) → length xs ≤ most_items → ReadsSome ReadsAsked r xs → fault_of_requests r ≡ None
+requests_clean r xs few h = all_clean r h.all (subst (λ (l : List AskedList). length l ≤ most_items) h.kept few) h.all_read
 
 none_in_item : (n : ℕ) (o : Option FieldFault) → o ≡ None → in_item n o ≡ None
 none_in_item n o e = rw e refl

@@ -1,5 +1,5 @@
 -- A value reads as at most one message.
-use Rattle.std.proofs.Common.{◌≡◌, ℕ, List, [], ◌∷◌, Result, Ok, Err, Bool, refl, sym, subst}
+use Rattle.std.proofs.Common.{◌≡◌, ℕ, List, [], ◌∷◌, Option, Result, Ok, Err, Bool, refl, sym, ap, ◌∙◌, subst}
 use Rattle.serde_json.specs.Data.{Data, Items, no_items, item}
 use Rattle.sb_json.specs.Values.{◌>>=◌}
 use Rattle.sb_json.specs.declared.faults.FieldFault.{FieldFault}
@@ -7,11 +7,12 @@ use Rattle.rice_coding.specs.declared.record.RiceRecord.{RiceRecord}
 use Rattle.update_messages.specs.declared.sets.Additions.TheVariants as added
 use Rattle.update_messages.specs.declared.sets.Removals.TheVariants as removed
 use Rattle.update_messages.specs.declared.response.FetchResponse.{FetchResponse}
-use Rattle.update_messages.specs.Messages.{Request}
+use Rattle.update_messages.specs.Messages.{list_of_item, Request}
 use Rattle.update_messages.specs.RequestRows as request
 use Rattle.update_messages.specs.ResponseRows as response
 use Rattle.sb_members.specs.Lists.{EachReads, ReadsList}
-use Rattle.update_messages.specs.Reading.{ReadsName, TakesCompressions, ReadsAskedList, ReadsRequest, ReadsRice, ReadsRaw, ReadsIndex, ReadsAddition, ReadsRemoval, ReadsUpdatedList, ReadsResponse}
+use Rattle.sb_members.specs.Somes.{somes, ReadsSome}
+use Rattle.update_messages.specs.Reading.{ReadsName, TakesCompressions, ReadsAskedItem, ReadsAsked, ReadsRequest, ReadsRice, ReadsRaw, ReadsIndex, ReadsAddition, ReadsRemoval, ReadsUpdatedList, ReadsResponse}
 
 pub same : {A : Type 0} (r : Result A FieldFault) (a b : A) → r ≡ Ok a → r ≡ Ok b → a ≡ b
 same r a b e f = cc
@@ -92,15 +93,11 @@ taken_one r raw rice raw' rice' h k =
     let names : h.names ≡ k.names = list_one ReadsName name_one r h.names k.names h.names_read k.names_read in
     (cc (names, h.raw_taken, k.raw_taken), cc (names, h.rice_taken, k.rice_taken))
 
-asked_one : IsOneToAny ReadsAskedList
-asked_one d a b h k =
+item_one : IsOneToAny ReadsAskedItem
+item_one d a b h k =
     let taken = taken_one _ a.raw a.rice b.raw b.rice h.compressions k.compressions in
     λ i. record {
-      name = record {
-        threat = same _ a.name.threat b.name.threat h.threat k.threat i;
-        platform = same _ a.name.platform b.name.platform h.platform k.platform i;
-        entry = same _ a.name.entry b.name.entry h.entry k.entry i;
-      };
+      name = same _ a.name b.name h.name k.name i;
       state = same _ a.state b.state h.state k.state i;
       max_update = same _ a.max_update b.max_update h.max_update k.max_update i;
       max_database = same _ a.max_database b.max_database h.max_database k.max_database i;
@@ -108,11 +105,17 @@ asked_one d a b h k =
       rice = taken.1 i;
     }
 
+asked_one : IsOneToAny ReadsAsked
+asked_one d a b h k = h.kept ∙ ap list_of_item (item_one d h.item k.item h.item_read k.item_read) ∙ sym k.kept
+
+pub some_one : {A : Type 0} (Reads : Data → Option A → Type 0) → IsOneToAny Reads → (r : Result Items FieldFault) (xs ys : List A) → ReadsSome Reads r xs → ReadsSome Reads r ys → xs ≡ ys
+some_one {A = A} Reads one r xs ys h k = h.kept ∙ ap (somes {A = A}) (list_one Reads one r h.all k.all h.all_read k.all_read) ∙ sym k.kept
+
 pub request_one : (d : Data) (a b : Request) → ReadsRequest d a → ReadsRequest d b → a ≡ b
 request_one d a b h k = λ i. record {
   client = record {
     id = same _ a.client.id b.client.id h.client.id k.client.id i;
     version = same _ a.client.version b.client.version h.client.version k.client.version i;
   };
-  items = list_one ReadsAskedList asked_one (request.requests_row d) a.items b.items h.items k.items i;
+  items = some_one ReadsAsked asked_one (request.requests_row d) a.items b.items h.items k.items i;
 }

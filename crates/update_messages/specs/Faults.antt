@@ -1,5 +1,5 @@
 -- The first fault of a JSON value that is no message: the faults of its rows, in the order in which they are looked at.
-use Rattle.std.specs.Prelude.{nat_le, if◌then◌else◌, List, [], ◌∷◌, Option, Some, Result, Ok, Err}
+use Rattle.std.specs.Prelude.{ℕ, nat_le, if◌then◌else◌, List, [], ◌∷◌, Option, Some, Result, Ok, Err}
 use Rattle.serde_json.specs.Data.{Data, Items}
 use Rattle.sb_json.specs.Values.{◌>>=◌}
 use Rattle.sb_json.specs.Faults.{fault_in_item}
@@ -7,7 +7,8 @@ use Rattle.sb_json.specs.declared.faults.FieldFault.{FieldFault}
 use Rattle.sb_json.specs.declared.faults.MessageFault.{MessageFault}
 use Rattle.sb_json.specs.declared.faults.MessageFault.TheVariants.{TooManyItems}
 use Rattle.sb_members.specs.Rows.{threat_row, platform_row, entry_row}
-use Rattle.sb_members.specs.Lists.{fault_of, first, fault_of_list, in_item, first_from, item_count}
+use Rattle.sb_members.specs.Lists.{fault_of, first, fault_of_list, in_item, first_from}
+use Rattle.sb_members.specs.Somes.{something_count}
 use Rattle.update_messages.specs.declared.sets.Compression.{Compression}
 use Rattle.update_messages.specs.declared.sets.Compression.TheVariants as compression
 use Rattle.update_messages.specs.Messages.{most_items}
@@ -81,16 +82,18 @@ fault_of_update value = first (faults_of_update value)
 abbrev pub fault_of_name : Data → Option FieldFault
 fault_of_name value = fault_of (request.compression_name_row value)
 
+abbrev pub faults_of_constraints : Data → List (Option FieldFault)
+faults_of_constraints value =
+    fault_of (request.in_constraints request.max_update_row value)
+    ∷ fault_of (request.in_constraints request.max_database_row value)
+    ∷ fault_of_list fault_of_name (request.in_constraints request.compressions_row value) ∷ []
+
 abbrev pub faults_of_asked : Data → List (Option FieldFault)
 faults_of_asked value =
     fault_of (request.request_row value)
-    ∷ fault_of (threat_row value)
-    ∷ fault_of (platform_row value)
-    ∷ fault_of (entry_row value)
+    ∷ fault_of (request.asked_name_row value)
     ∷ fault_of (request.state_row value)
-    ∷ fault_of (request.constraints_row value >>= request.max_update_row)
-    ∷ fault_of (request.constraints_row value >>= request.max_database_row)
-    ∷ fault_of_list fault_of_name (request.constraints_row value >>= request.compressions_row) ∷ []
+    ∷ faults_of_constraints value
 
 abbrev pub fault_of_asked : Data → Option FieldFault
 fault_of_asked value = first (faults_of_asked value)
@@ -100,9 +103,13 @@ faults_of_client holder = fault_of (holder >>= request.client_id_row) ∷ fault_
 
 -- ---- the messages
 
--- the items, where there are no more than a request may have
+-- how many items have the name of a list
+abbrev pub named_count : Items → ℕ
+named_count items = something_count request.asked_name_row items
+
+-- the items, where no more of them have names than a request may have
 abbrev pub fault_of_requests : Result Items FieldFault → Option MessageFault
-fault_of_requests (Ok items) = if nat_le (item_count items) most_items then first_from fault_of_asked 1 items else Some (TooManyItems (item_count items))
+fault_of_requests (Ok items) = if nat_le (named_count items) most_items then first_from fault_of_asked 1 items else Some (TooManyItems (named_count items))
 fault_of_requests (Err fault) = Some (fault_in_item fault 0)
 
 abbrev pub fault_of_updates : Result Items FieldFault → Option MessageFault

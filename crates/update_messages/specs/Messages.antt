@@ -1,5 +1,5 @@
 -- The fetch messages as contracts see them: plain values, and the ranges that they keep.
-use Rattle.std.specs.Prelude.{◌≡◌, ℕ, ◌≤◌, ◌%◌, Bool, List, length, All}
+use Rattle.std.specs.Prelude.{◌≡◌, ℕ, ◌≤◌, ◌%◌, Bool, List, length, Option, option_map, All}
 use Rattle.sb_model.specs.declared.names.ListName.{ListName}
 use Rattle.rice_coding.specs.declared.record.RiceRecord.{RiceRecord}
 use Rattle.update_messages.specs.declared.client.ClientInfo.{ClientInfo}
@@ -30,6 +30,27 @@ pub record AskedList : Type 0 where
   pub max_database : ℕ
   pub raw : Bool
   pub rice : Bool
+
+-- One item of a request: what it asks, and the name of the list that it asks it of, where the tables have the three words of that name.
+pub record AskedItem : Type 0 where
+  pub name : Option ListName
+  pub state : List ℕ
+  pub max_update : ℕ
+  pub max_database : ℕ
+  pub raw : Bool
+  pub rice : Bool
+
+-- The list that an item asks for. An item of no name is of a list that the server does not have, and asks for nothing.
+abbrev pub list_of_item : AskedItem → Option AskedList
+list_of_item item =
+    option_map (λ name. record {
+      name = name;
+      state = item.state;
+      max_update = item.max_update;
+      max_database = item.max_database;
+      raw = item.raw;
+      rice = item.rice;
+    }) item.name
 
 -- what each asked list keeps to
 pub record IsAskedList (asked : AskedList) : Type 0 where

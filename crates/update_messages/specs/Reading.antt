@@ -1,10 +1,11 @@
 -- Which message a JSON value is: each field of the message is what its row is read as.
-use Rattle.std.specs.Prelude.{◌≡◌, ℕ, ◌≤◌, Bool, List, length, Result, Ok, codes}
+use Rattle.std.specs.Prelude.{◌≡◌, ℕ, ◌≤◌, Bool, List, length, Option, Result, Ok, codes}
 use Rattle.serde_json.specs.Data.{Data, Items}
 use Rattle.sb_json.specs.Values.{◌>>=◌, value_of}
 use Rattle.sb_json.specs.declared.faults.FieldFault.{FieldFault}
 use Rattle.sb_members.specs.Rows.{threat_row, platform_row, entry_row}
 use Rattle.sb_members.specs.Lists.{ReadsList}
+use Rattle.sb_members.specs.Somes.{ReadsSome}
 use Rattle.rice_coding.specs.declared.record.RiceRecord.{RiceRecord}
 use Rattle.update_messages.specs.declared.sets.Compression.TheVariants as compression
 use Rattle.update_messages.specs.declared.sets.Additions.{Additions}
@@ -13,7 +14,7 @@ use Rattle.update_messages.specs.declared.sets.Removals.{Removals}
 use Rattle.update_messages.specs.declared.sets.Removals.TheVariants as removed
 use Rattle.update_messages.specs.declared.response.FetchResponse.{FetchResponse}
 use Rattle.update_messages.specs.declared.client.ClientInfo.{ClientInfo}
-use Rattle.update_messages.specs.Messages.{AskedList, Request, UpdatedList, most_items}
+use Rattle.update_messages.specs.Messages.{AskedList, AskedItem, list_of_item, Request, UpdatedList, most_items}
 use Rattle.update_messages.specs.RequestRows as request
 use Rattle.update_messages.specs.ResponseRows as response
 
@@ -29,15 +30,19 @@ pub record TakesCompressions (items : Result Items FieldFault) (raw rice : Bool)
   pub raw_taken : raw ≡ request.is_among names (codes "RAW")
   pub rice_taken : rice ≡ request.is_among names (codes "RICE")
 
-pub record ReadsAskedList (value : Data) (asked : AskedList) : Type 0 where
+pub record ReadsAskedItem (value : Data) (item : AskedItem) : Type 0 where
   pub object : request.request_row value ≡ Ok value
-  pub threat : threat_row value ≡ Ok asked.name.threat
-  pub platform : platform_row value ≡ Ok asked.name.platform
-  pub entry : entry_row value ≡ Ok asked.name.entry
-  pub state : request.state_row value ≡ Ok asked.state
-  pub max_update : (request.constraints_row value >>= request.max_update_row) ≡ Ok asked.max_update
-  pub max_database : (request.constraints_row value >>= request.max_database_row) ≡ Ok asked.max_database
-  pub compressions : TakesCompressions (request.constraints_row value >>= request.compressions_row) asked.raw asked.rice
+  pub name : request.asked_name_row value ≡ Ok item.name
+  pub state : request.state_row value ≡ Ok item.state
+  pub max_update : (request.in_constraints request.max_update_row value) ≡ Ok item.max_update
+  pub max_database : (request.in_constraints request.max_database_row value) ≡ Ok item.max_database
+  pub compressions : TakesCompressions (request.in_constraints request.compressions_row value) item.raw item.rice
+
+-- the list that an item asks for, or nothing
+pub record ReadsAsked (value : Data) (asked : Option AskedList) : Type 0 where
+  pub item : AskedItem
+  pub item_read : ReadsAskedItem value item
+  pub kept : asked ≡ list_of_item item
 
 -- who asks
 pub record ReadsClient (holder : Result Data FieldFault) (client : ClientInfo) : Type 0 where
@@ -48,7 +53,7 @@ pub record ReadsRequest (value : Data) (message : Request) : Type 0 where
   pub object : request.root_row value ≡ Ok value
   pub client : ReadsClient (request.client_row value) message.client
   pub few : length message.items ≤ most_items
-  pub items : ReadsList ReadsAskedList (request.requests_row value) message.items
+  pub items : ReadsSome ReadsAsked (request.requests_row value) message.items
 
 -- ---- the response
 

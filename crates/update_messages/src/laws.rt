@@ -3,6 +3,7 @@ ghost use Rattle.serde_json.specs.Data.{Data};
 ghost use Rattle.sb_json.specs.Density.{too_dense};
 ghost use Rattle.update_messages.specs.declared.response.FetchResponse.{FetchResponse};
 ghost use Rattle.update_messages.specs.Messages.{Request};
+ghost use Rattle.update_messages.specs.Others.{IsWithoutOthers};
 ghost use Rattle.update_messages.specs.Reading.{ReadsRequest, ReadsResponse};
 ghost use Rattle.update_messages.specs.Faults.{fault_of_request, fault_of_response};
 ghost use Rattle.update_messages.specs.Rising.{SentNumbersRise};
@@ -24,6 +25,11 @@ pub fn values_read_one_way()
 pub fn values_read_or_have_a_fault()
     ensures request { (value : Data) → ((message : Request) × ReadsRequest value message) ↔ (fault_of_request value ≡ None) }
     ensures response { (value : Data) → ((message : FetchResponse) × ReadsResponse value message) ↔ (fault_of_response value ≡ None) }
+{}
+
+/// Items of lists that the server does not have change nothing of a request: without them its value reads as the same one.
+pub fn items_of_no_name_change_nothing()
+    ensures { (value other : Data) (message : Request) → IsWithoutOthers value other → ReadsRequest value message → ReadsRequest other message }
 {}
 
 /// A request whose text is not too dense is the same request when it is written and read again, unless memory is refused.

@@ -2,33 +2,21 @@ ghost use Rattle.std.specs.Prelude.{◌≡◌, ◌++◌, All, map, None, IfOk, O
 ghost use Rattle.serde_json.specs.View.{view, members_view};
 ghost use Rattle.sb_json.specs.Density.{too_dense};
 ghost use Rattle.update_messages.specs.Messages.{Request};
-ghost use Rattle.update_messages.specs.Ranges.{IsClientInRange, IsAskedInRange, IsRequestInRange};
+ghost use Rattle.update_messages.specs.Ranges.{IsAskedInRange, IsRequestInRange};
 ghost use Rattle.update_messages.specs.Reading.{ReadsRequest, IsTextOf};
 ghost use Rattle.sb_members.specs.Writing.{values_written};
 ghost use Rattle.update_messages.specs.Writing as spec;
 
 use crate::writing_words::{kinds, put_word};
-use crate::{ClientInfo, FetchRequest, ListRequest};
+use crate::{FetchRequest, ListRequest, client_members};
 use sb_json::Field;
 use sb_members::{
     bytes_value, list_value, members_are_as_their_values, number_value, object_value, put_member,
-    text_value, written_members_read_again,
+    written_members_read_again,
 };
 use sb_model::{Bytes, OutOfMemory};
 use serde_json::{Map, Value};
 use std::alloc::Global;
-
-fn client_members(alloc: Global, client: &ClientInfo) -> Result<Map<String, Value>, OutOfMemory>
-    ensures value { IfOk result (λ members. members_view members.entries ≡ spec.client_members client.now) }
-    ensures range { IfOk result (λ _. IsClientInRange client.now) }
-{
-    let mut members = Map::new(alloc);
-    let version = text_value(alloc, &client.version)?;
-    put_member(alloc, &mut members, Field::ClientVersion, version)?;
-    let id = text_value(alloc, &client.id)?;
-    put_member(alloc, &mut members, Field::ClientId, id)?;
-    Ok(members)
-}
 
 fn push_word(
     alloc: Global,

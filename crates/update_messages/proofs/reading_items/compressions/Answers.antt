@@ -2,7 +2,7 @@ use Rattle.std.proofs.Common.{arith, refl}
 use Rattle.update_messages.specs.Faults.{fault_of_name}
 use Rattle.update_messages.proofs.Lists.{clean_on}
 use Rattle.update_messages.proofs.Compressions.{takes_on, takes_end}
-use Rattle.update_messages.proofs.reading_request.compressions.Goals as goal
+use Rattle.update_messages.proofs.reading_items.compressions.Goals as goal
 
 pub loop-item-preserved : goal.loop-item-preserved
 loop-item-preserved c = record {

@@ -1,7 +1,7 @@
 use Rattle.update_messages.specs.Faults.{fault_of_name}
 use Rattle.update_messages.proofs.Lists.{IsCleanUpTo}
 use Rattle.update_messages.proofs.Compressions.{TakesUpTo}
-use Rattle.update_messages.proofs.reading_request.compressions.Given as goal
+use Rattle.update_messages.proofs.reading_items.compressions.Given as goal
 
 abbrev pub invariant-loop-item : goal.invariant-loop-item
 invariant-loop-item l = record {
