@@ -79,11 +79,12 @@ try-run: all
 	bash try/judge.sh
 	python3 try/beside.py
 
-# Measures how long good clients of sblistd wait beside slow ones, and fails where one waits for more than a second. It takes
-# twenty to thirty minutes, and tries the peers of slowhttptest too where that is installed.
+# Measures how long good clients of sblistd wait beside slow ones, and fails where one waits for more than a second. Each kind
+# and number of peers is kept for a minute, or for SECONDS: it takes twenty to thirty minutes, and at most ten with SECONDS=15.
+# The peers of slowhttptest are tried too where that is installed.
 try-slow: all
-	python3 try/slow.py
-	python3 try/attack.py
+	python3 try/slow.py $(if $(SECONDS),--seconds $(SECONDS))
+	python3 try/attack.py $(if $(SECONDS),--seconds $(SECONDS))
 
 # Measures the memory that sbupdate and sblistd take for hostile JSON, and fails where it is more than the limits allow.
 try-memory: all

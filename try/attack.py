@@ -15,7 +15,9 @@
 It prints a row for each and fails if one does not hold. It raises its own limit of open files, and the server's only where
 nothing else is said.
 
-    attack.py [--seconds N] [--program COMMAND] [--only WORD]
+It keeps the silent peers for --seconds, a minute if that is left out.
+
+    attack.py [--seconds N] [--peers N] [--program COMMAND] [--only WORD]
 """
 
 import argparse
@@ -85,11 +87,11 @@ def lower_files():
     resource.setrlimit(resource.RLIMIT_NOFILE, (FILES, FILES))
 
 
-def silence(program, some, _many, seconds):
+def silence(program, some, _many, seconds, most):
     with Server(program, some, before=lower_files) as port:
         peers, waits, begun = [], [], time.monotonic()
         for turn in range(seconds):
-            while len(peers) < SILENT and time.monotonic() < begun + turn + 0.7:
+            while len(peers) < most and time.monotonic() < begun + turn + 0.7:
                 peers.append(Peer("silence", port))
             for peer in peers:
                 if time.monotonic() < begun + turn + 0.8:
@@ -98,10 +100,14 @@ def silence(program, some, _many, seconds):
             time.sleep(max(0, begun + turn + 1 - time.monotonic()))
         for peer in peers:
             peer.close()
-    return tell(f"{len(peers):,} silent peers, {FILES:,} open files", waits, 1)
+    held = tell(f"{len(peers):,} silent peers, {FILES:,} open files", waits, 1)
+    if len(peers) < most:
+        print(f"attack: there was time for {len(peers):,} silent peers alone")
+        return False
+    return held
 
 
-def flood(program, _some, many, _seconds):
+def flood(program, _some, many, *_):
     with Server(program, many) as port:
         # (the journal is read before the first is answered)
         wait_of_good(port)
@@ -127,7 +133,7 @@ def flood(program, _some, many, _seconds):
     return tell(f"{DEAR} requests of one address, {max(costs) * 1e3:.0f} ms each", waits, max(costs) + 0.2)
 
 
-def gone(program, _some, many, _seconds):
+def gone(program, _some, many, *_):
     server = Server(program, many, stdout=subprocess.PIPE)
     with server as port:
         wait_of_good(port)
@@ -153,7 +159,7 @@ def gone(program, _some, many, _seconds):
     return held
 
 
-def end(program, _some, many, _seconds):
+def end(program, _some, many, *_):
     server = Server(program, many, stdout=subprocess.PIPE)
     with server as port:
         readers = []
@@ -195,7 +201,7 @@ def size_of(pid):
     return 0
 
 
-def memory(program, _some, many, _seconds):
+def memory(program, _some, many, *_):
     server = Server(program, many, "--connections", "3", stdout=subprocess.PIPE)
     with server as port:
         if wait_of_good(port) is None:
@@ -226,6 +232,7 @@ ATTACKS = {"silence": silence, "flood": flood, "gone": gone, "end": end, "memory
 def main():
     parser = argparse.ArgumentParser()
     parser.add_argument("--seconds", type=int, default=60)
+    parser.add_argument("--peers", type=int, default=SILENT)
     parser.add_argument("--program", default=os.path.join(REPOSITORY, "bin", "sblistd"))
     parser.add_argument("--only", choices=ATTACKS)
     said = parser.parse_args()
@@ -241,7 +248,7 @@ def main():
                 write_journal(some, SOME_HASHES)
                 if name != "silence":
                     write_journal(many, MANY_HASHES)
-                failed += not attack(said.program, some, many, said.seconds)
+                failed += not attack(said.program, some, many, said.seconds, said.peers)
     return 1 if failed else 0
 
 

@@ -1,13 +1,14 @@
 #!/usr/bin/env python3
 """Drives a built `sblistd serve` with slow peers, and measures how long good clients wait beside them.
 
-For each kind of slow peer and each number of them, the peers are kept for a minute, and a good client asks once a second:
-heads and bodies of which a byte comes a second, readers of an answer of 100,000 bytes that take 4 KB a second, silence, and
-heads that are broken off by a reset. Then ten such readers take an answer of 1,048,576 prefixes, all begun before the first
-good client. Where `slowhttptest` is installed, its slow heads, bodies and readers are tried too. It prints a table: the
-median and the longest wait of the good clients, and how many were not answered within a second. It fails where one was not,
-and where the server does not tell a reset in a head as a read fault. It raises its own limit of descriptors, and so the
-server's, which it starts: with the usual limit `attack.py` tries it.
+For each kind of slow peer and each number of them, the peers are kept for --seconds, a minute where that is left out, and a
+good client asks once a second: heads and bodies of which a byte comes a second, readers of an answer of 100,000 bytes that
+take 4 KB a second, silence, and heads that are broken off by a reset. Then ten such readers take an answer of 1,048,576
+prefixes, all begun before the first good client. Where `slowhttptest` is installed, its slow heads, bodies and readers are
+tried too. It prints a table: the median and the longest wait of the good clients, and how many were not answered within a
+second. It fails where one was not, where there was no time for all the peers, and where the server does not tell a reset in a
+head as a read fault. It raises its own limit of descriptors, and so the server's, which it starts: with the usual limit
+`attack.py` tries it.
 
     slow.py [--seconds N] [--peers N,N,..] [--program COMMAND]
 """
@@ -223,7 +224,7 @@ def measure(port, kind, count, seconds):
     waits = ask_once_a_second(port, seconds, each_turn)
     for peer in peers:
         peer.close()
-    return tell(kind, count, waits)
+    return tell(kind, len(peers), waits) + (len(peers) < count)
 
 
 def measure_readers(port, seconds):
