@@ -1,10 +1,11 @@
 #!/usr/bin/env python3
 """Runs the second program over the stored cases, as docs/FORMATS.md says how a case is written.
 
-A run of a case is left out where it holds sessions of updates or connections (`sbupdate run`, `sblistd serve`), where an object fails at
-a call with a number, for another program makes other calls, where the host of a URL has bytes from 128 on, or where it depends on the
-threads of a run that judges what it prints. What a run that is left out keeps is what its case says. If a run judges, what its
-sessions send, their moments and what the keeper is handed are compared too. The last case is wrong on purpose, so exactly that one has to
+A run of a case is left out where it takes connections (`sblistd serve`), where an object fails at a call with a number, for another
+program makes other calls, where the host of a URL has bytes from 128 on, or where it depends on the threads of a run that judges what
+it prints. A run of updates is left out, too, where a session gives other bytes than a whole response. What a run that is left out keeps
+is what its case says. Of a run of a client, what its sessions send, their moments and what
+the keeper is handed are compared too. The last case is wrong on purpose, so exactly that one has to
 differ: else the exit status is 1.
 """
 
@@ -158,7 +159,7 @@ def answer_words(words):
     found = options_of(words, ("--journal", "--kind", "--wait", "--find-wait", "--cache", "--negative"))
     if found is None or found[1] or "--journal" not in found[0] or found[0].get("--kind") not in ("fetch", "find"):
         return None
-    unsaid = {"wait": "1800", "find-wait": found[0].get("--wait", "1800"), "cache": "300", "negative": "300"}
+    unsaid = {"wait": "1800", "find-wait": "0", "cache": "300", "negative": "300"}
     times = {name: found[0].get("--" + name, seconds) for name, seconds in unsaid.items()}
     if any(not re.fullmatch("0|[1-9][0-9]{0,4}", seconds) or int(seconds) > 86_400 for seconds in times.values()):
         return None
@@ -166,31 +167,36 @@ def answer_words(words):
 
 
 NUMBER = "0|[1-9][0-9]{0,9}"
+NO_COUNT = 4_294_967_295
 HOST_AND_PORT = r"([A-Za-z0-9.][A-Za-z0-9.-]*):([1-9][0-9]{0,4})"
-JUDGED = ("--store", "--server", "--update", "--workers", "--patience", "--key", "--max-update", "--max-database")
+ASKED = ("--store", "--server", "--key", "--max-update", "--max-database")
+
+# of each option that is a number: what it is where it is left out, the least and the most that it may be
+LIMITS = {"max-update": (0, 0, 2**31 - 1), "max-database": (2**20, 0, 2**31 - 1)}
+RUN = LIMITS | {"rounds": (None, 1, 1_024)}
+JUDGED = LIMITS | {"update": (0, 0, 16), "workers": (1, 1, 16), "patience": (60, 0, 86_400)}
 
 
-def judge_words(words):
-    """What the words of `sbcheck judge` plan, or None."""
-    found = options_of(words, JUDGED, ("--raw-only", "--no-digest"))
+def client_words(words, ranges):
+    """What the words of `sbupdate run` or of `sbcheck judge` plan, or None."""
+    found = options_of(words, {*ASKED, *("--" + name for name in ranges)}, ("--raw-only", "--no-digest"))
     if found is None or lists_of(["--", *found[1]]) is None or not {"--store", "--server"} <= set(found[0]):
         return None
     said = found[0]
-    ranges = {"update": (0, 16), "workers": (1, 16), "patience": (60, 86_400)}
-    ranges |= {"max-update": (0, 2**31 - 1), "max-database": (2**20, 2**31 - 1)}
-    numbers = {}
-    for name, (unsaid, most) in ranges.items():
-        text = said.get("--" + name, str(unsaid))
-        least = 1 if name == "workers" else 0
-        if re.fullmatch(NUMBER, text) is None or not least <= int(text) <= most:
+    numbers = {name: unsaid for name, (unsaid, _, _) in ranges.items()}
+    for name, (_, least, most) in ranges.items():
+        text = said.get("--" + name)
+        if text is not None and (re.fullmatch(NUMBER, text) is None or not least <= int(text) <= most):
             return None
-        numbers[name] = int(text)
+        if text is not None:
+            numbers[name] = int(text)
     address, key = re.fullmatch(HOST_AND_PORT, said["--server"]), said.get("--key", "")
     if address is None or int(address[2]) > 65_535 or re.fullmatch("[A-Za-z0-9_-]*", key) is None:
         return None
     plan = {"names": found[1], "server": said["--server"], "key": key, "need_digest": "--no-digest" not in said}
     plan["options"] = {"raw-only": "--raw-only" in said, "max-update": numbers["max-update"], "max-database": numbers["max-database"]}
-    return plan | {"rounds": numbers["update"], "patience": numbers["patience"]}
+    rounds = numbers["rounds"] or NO_COUNT if "rounds" in numbers else numbers["update"]
+    return plan | {"rounds": rounds, "patience": numbers.get("patience")}
 
 
 def load_words(words, flags=()):
@@ -206,14 +212,18 @@ def lines_of(text):
     return lines[:-1] if lines[-1] == b"" else lines
 
 
-def answer(words, text, journal, judge):
-    """What the second program prints, and its status. None stands for the usage text. `judge` makes a run that judges by its plan."""
+def answer(words, text, journal, make):
+    """What the second program prints, and its status. None stands for the usage text. `make` makes a run of a client by its plan: one
+    that judges, or else one of updates."""
     command, rest = words[:2], words[2:]
+    if command == ["sbupdate", "run"]:
+        plan = client_words(rest, RUN)
+        return make(plan, False) if plan else (None, 1)
     if command == ["sbcheck", "judge"]:
-        plan = judge_words(rest)
+        plan = client_words(rest, JUDGED)
         if plan is None:
             return None, 1
-        return judge(plan) if len(text) <= MOST_INPUT and len(lines_of(text)) <= MOST_LINES else (b"", 6)
+        return make(plan, True) if len(text) <= MOST_INPUT and len(lines_of(text)) <= MOST_LINES else (b"", 6)
     if command == ["sblistd", "answer"]:
         found = answer_words(rest)
         return server.answer(journal, text, *found) if found else (None, 1)
@@ -240,6 +250,7 @@ def answer(words, text, journal, judge):
 
 KNOWN = (
     ["sbupdate", "replay"],
+    ["sbupdate", "run"],
     ["sbcheck", "judge"],
     ["sbcheck", "show"],
     ["sbcheck", "vectors"],
@@ -247,7 +258,7 @@ KNOWN = (
     ["sblistd", "generate"],
     ["sblistd", "exercise"],
 )
-LEFT_OUT = (["sbupdate", "run"], ["sblistd", "serve"])
+LEFT_OUT = (["sblistd", "serve"],)
 
 
 class Run:
@@ -285,11 +296,19 @@ class Run:
             return True
         if self.earlier.find(b"kept", (self.earlier.own, self.earlier.group)) is not None or self.earlier.every(b"handed"):
             return True
-        return self.earlier.is_known()
+        return self.earlier.is_known() and self.earlier.words()[:2] != ["sbupdate", "run"]
+
+    def has_whole_sessions(self):
+        """Whether the bytes of each session, where it has any of its own, are a response as a server writes it."""
+        texts = self.texts(b"session", 0) or []
+        return all(text == exchanges.response(text.partition(b"\r\n\r\n")[2]) for text in texts)
 
     def is_known(self):
         fails = any(re.match(rb"[a-z]+-fails ", self.book.lines[number]) for number in self.own)
-        return self.words()[:2] not in LEFT_OUT and not fails and self.has_known_store()
+        command = self.words()[:2]
+        if command in LEFT_OUT or fails or not self.has_known_store():
+            return False
+        return command != ["sbupdate", "run"] or self.has_whole_sessions()
 
     def text(self, name, cut):
         number = self.find(name, (self.own, self.group))
@@ -350,12 +369,12 @@ class Run:
         link, more = self.link(cut)
         reports = []
 
-        def judge(plan):
-            clock, dice = judging.Clock(self.numbers(b"clock")), judging.Dice(self.numbers(b"dice"))
-            reports.append(judging.judge(plan, lines_of(text), self.store(cut), clock, dice, link.session))
+        def make(plan, judges):
+            given = self.store(cut), judging.Clock(self.numbers(b"clock")), judging.Dice(self.numbers(b"dice")), link.session
+            reports.append(judging.judge(plan, lines_of(text), *given) if judges else judging.update(plan, *given))
             return reports[0].printed, reports[0].status
 
-        printed, found = answer(self.words(), text, journal, judge)
+        printed, found = answer(self.words(), text, journal, make)
         usage = printed is None and wanted.startswith(b"usage: ")
         same = status == found and (usage or printed == wanted)
         fronts = max(more, *(fronts for _, fronts in texts))

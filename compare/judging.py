@@ -1,8 +1,8 @@
-"""The second program's judge: it loads a store, makes rounds of updates, looks URLs up on the lists that it loaded, asks a link for
-whole hashes, keeps what is answered, and prints a report.
+"""The second program's client: it loads a store and makes rounds of updates. Its judge looks URLs up on the lists that it loaded, asks a
+link for whole hashes, keeps what is answered, and prints a report.
 
-The rules are those of docs/FORMATS.md, "A run that judges". A kept answer is a dictionary, and a link is a function from what a
-session sends to what it gives. Where a URL is looked up and a round installs a list, the number of the URL's publication depends on
+The rules are those of docs/FORMATS.md, "A run of a client" and "A run that judges". A kept answer is a dictionary, and a link is a
+function from what a session sends to what it gives. Where a URL is looked up and a round installs a list, the number of the URL's publication depends on
 the schedule of the threads: such a run is left out. Every other comes to the same for any number of workers.
 """
 
@@ -15,7 +15,7 @@ import exchanges
 import server
 import urls
 from messages import ENTRIES, PLATFORMS, THREATS, Unreadable, read_find_answer, read_response
-from updates import order, take
+from updates import order, shown, take
 
 MOST_MOMENT = 2**64 - 1
 MOST_LISTS = 8
@@ -279,6 +279,10 @@ class Rounds:
         if "installed" in outcomes:
             self.handed.append(written_store(self.lists, self.marked))
             self.tell(number, "saved")
+        if updates is not None:
+            answered = {update["name"] for update in updates}
+            for name in sorted(set(self.lists) - answered, key=order):
+                self.tell(number, f"{name} not-answered")
 
 
 # ---- URLs
@@ -371,18 +375,38 @@ class Judge:
         return kind, " ".join(words).encode("ascii") + b" " + text + b"\n"
 
 
-def judge(plan, lines, kept, clock, dice, session):
-    """What `sbcheck judge` prints, its status, what each session sent, what the clock answered, and what the keeper was handed."""
+def loaded(kept, names):
+    """The first line of a run where what was kept is no store, the named lists of the store, and those of them that have the mark."""
     page, stored, marked = b"", {}, set()
     if kept is not None:
         try:
             stored, marked = read_store(kept)
         except NoStore as fault:
             page = f"store ignored: {fault}\n".encode("ascii")
-    lists = {name: stored.get(name, (b"", [])) for name in plan["names"]}
+    lists = {name: stored.get(name, (b"", [])) for name in names}
+    return page, lists, marked & set(lists)
+
+
+def update(plan, kept, clock, dice, session):
+    """What `sbupdate run` prints, its status, what each session sent, what the clock answered, and what the keeper was handed."""
+    page, lists, marked = loaded(kept, plan["names"])
+    outside = Outside(clock, dice, session)
+    rounds = Rounds(plan, lists, marked, Waits(clock.now(), dice.word()), outside)
+    for number in range(1, plan["rounds"] + 1):
+        rounds.make(number)
+    for name in sorted(lists, key=order):
+        token, members = rounds.lists[name]
+        rounds.printed.append(f"list {name} {len(members)} {shown(token)}")
+    page += "".join(line + "\n" for line in rounds.printed).encode("ascii")
+    return Report(page, 5 if rounds.refused else 0, outside.sent, clock.answers, rounds.handed)
+
+
+def judge(plan, lines, kept, clock, dice, session):
+    """What `sbcheck judge` prints, its status, what each session sent, what the clock answered, and what the keeper was handed."""
+    page, lists, marked = loaded(kept, plan["names"])
     outside, start = Outside(clock, dice, session), clock.now()
     of_updates, of_finds = Waits(start, dice.word()), Waits(start, dice.word())
-    rounds = Rounds(plan, lists, marked & set(lists), of_updates, outside)
+    rounds = Rounds(plan, lists, marked, of_updates, outside)
     for number in range(1, plan["rounds"] + 1):
         rounds.make(number)
     page += "".join(line + "\n" for line in rounds.printed).encode("ascii")

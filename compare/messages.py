@@ -8,6 +8,7 @@ import re
 THREATS = ["MALWARE", "SOCIAL_ENGINEERING", "UNWANTED_SOFTWARE", "POTENTIALLY_HARMFUL_APPLICATION"]
 PLATFORMS = ["WINDOWS", "LINUX", "ANDROID", "OSX", "IOS", "ANY_PLATFORM", "ALL_PLATFORMS", "CHROME"]
 ENTRIES = ["URL", "EXECUTABLE"]
+NAME_FIELDS = (("threatType", THREATS), ("platformType", PLATFORMS), ("threatEntryType", ENTRIES))
 
 DEEPEST = 127
 MOST_STATE = 4_096
@@ -212,8 +213,12 @@ class Reader:
         return ("raw", [self.number(index, "indices", 0, I32) for index in indices])
 
     def list_name(self, entry):
-        fields = (("threatType", THREATS), ("platformType", PLATFORMS), ("threatEntryType", ENTRIES))
-        return "/".join(self.word(entry, field, words) for field, words in fields)
+        return "/".join(self.word(entry, field, words) for field, words in NAME_FIELDS)
+
+    def asked_name(self, entry):
+        """The name of the list that an item asks for, or None where its three words are not all in the tables."""
+        words = [self.string(self.needed(entry, field), field) for field, _ in NAME_FIELDS]
+        return "/".join(words) if all(word in table for word, (_, table) in zip(words, NAME_FIELDS)) else None
 
     def update(self, value):
         entry = self.object(value, "listUpdateResponses")
@@ -236,7 +241,7 @@ class Reader:
 
     def request(self, value):
         entry = self.object(value, "listUpdateRequests")
-        read = {"name": self.list_name(entry)}
+        read = {"name": self.asked_name(entry)}
         read["state"] = self.state(entry, "state")
         constraints = entry.get("constraints")
         constraints = {} if constraints is None else self.object(constraints, "constraints")
@@ -247,12 +252,9 @@ class Reader:
         return read
 
     def words(self, holder, name, table):
-        words = []
-        for value in self.list(holder, name):
-            words.append(self.string(value, name))
-            if words[-1] not in table:
-                self.refuse("name", name)
-        return words
+        """The words of a list that are in the table. Others are skipped, but have to be strings."""
+        words = [self.string(value, name) for value in self.list(holder, name)]
+        return [word for word in words if word in table]
 
     def prefix(self, value):
         entry = self.object(value, "threatEntries")
@@ -306,15 +308,22 @@ def read_client(outside, body):
             outside.text_or_none(outside.object(client, "client"), name)
 
 
+def has_name(item):
+    """Whether an item of a fetch request has the three words of a name, whatever else it has."""
+    return isinstance(item, dict) and all(isinstance(item.get(field), str) and item[field] in table for field, table in NAME_FIELDS)
+
+
 def read_request(text):
-    """The asked items of a fetch request."""
+    """The asked items of a fetch request. One whose words are no name asks for no list, and is left out once it is read."""
     outside = Reader(0)
     body = outside.object(read_json(text), "message")
     read_client(outside, body)
     items = outside.list(body, "listUpdateRequests")
-    if len(items) > MOST_ITEMS:
-        raise Unreadable(f"too-many-items {len(items)}")
-    return [Reader(number).request(item) for number, item in enumerate(items, 1)]
+    named = sum(map(has_name, items))
+    if named > MOST_ITEMS:
+        raise Unreadable(f"too-many-items {named}")
+    read = [Reader(number).request(item) for number, item in enumerate(items, 1)]
+    return [asked for asked in read if asked["name"]]
 
 
 def read_find(text):
@@ -323,7 +332,8 @@ def read_find(text):
     body = outside.object(read_json(text), "message")
     read_client(outside, body)
     for state in outside.list(body, "clientStates"):
-        outside.bytes(state, "clientStates")
+        if state is not None:
+            outside.bytes(state, "clientStates")
     info = outside.inner(body, "threatInfo")
     tables = (("threatTypes", THREATS), ("platformTypes", PLATFORMS), ("threatEntryTypes", ENTRIES))
     words = [outside.words(info, field, table) for field, table in tables]

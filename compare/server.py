@@ -23,6 +23,9 @@ MOST_REQUEST = 1_048_576
 
 HEX = "[0-9A-Fa-f]"
 
+# words of the published API, and others, that are none of a name here
+OTHER_WORDS = ["IP_RANGE", "THREAT_TYPE_UNSPECIFIED", "MALICIOUS_BINARY", "CSD_DOWNLOAD_WHITELIST", "malware", "url", "", "MALWARE ", "\u00e9"]
+
 
 class BadJournal(Exception):
     """A journal is refused, for the cause that is the exception's text."""
@@ -253,13 +256,8 @@ def answer_item(journal, asked):
 
 def fetch_body(journal, text, times):
     """The body of the answer to a fetch request."""
-    items = read_request(text)
-    for place, asked in enumerate(items):
-        if asked["name"] not in journal.declared:
-            raise Unreadable(f"unknown-list {place}")
-    body = {}
-    if items:
-        body["listUpdateResponses"] = [answer_item(journal, asked) for asked in items]
+    items = [answer_item(journal, asked) for asked in read_request(text) if asked["name"] in journal.declared]
+    body = {"listUpdateResponses": items} if items else {}
     return body | some_seconds("minimumWaitDuration", times["wait"])
 
 
@@ -355,13 +353,20 @@ def written(rand, body, changed):
     return change_bytes(rand, text) if kind > 0.93 else text
 
 
+def any_asked(rand, journal, names):
+    """The three words of an item: mostly of a declared list, now and then of one that is not, or of no name."""
+    known = rand.random() < 0.85 and journal.declared
+    name = rand.choice(list(journal.declared) if known else names)
+    words = name.split("/")
+    if rand.random() < 0.1:
+        words[rand.randrange(3)] = rand.choice(OTHER_WORDS)
+    return dict(zip(("threatType", "platformType", "threatEntryType"), words)), name
+
+
 def any_request(rand, journal, names):
     items = []
-    for _ in range(rand.choice([0, 1, 1, 1, 2, 8, 9])):
-        known = rand.random() < 0.95 and journal.declared
-        name = rand.choice(list(journal.declared) if known else names)
-        threat, platform, entry = name.split("/")
-        item = {"threatType": threat, "platformType": platform, "threatEntryType": entry}
+    for _ in range(rand.choice([0, 1, 1, 1, 2, 5, 8, 9, 10])):
+        item, name = any_asked(rand, journal, names)
         state = any_state(rand, journal, name, names)
         if state:
             item["state"] = base64.b64encode(state).decode("ascii")
@@ -387,7 +392,9 @@ def some_words(rand, table, named):
     """Words of a table, mostly with those that some lists are named by."""
     words = rand.sample(table, rand.choice([0, 1, 1, 2])) + [word for word in named if rand.random() < 0.8]
     rand.shuffle(words)
-    return words + (["OTHER"] if rand.random() < 0.02 else [])
+    for _ in range(rand.choice([0, 0, 0, 1, 2])):
+        words.insert(rand.randrange(len(words) + 1), rand.choice(OTHER_WORDS))
+    return words
 
 
 def any_find(rand, journal, names):
@@ -400,8 +407,11 @@ def any_find(rand, journal, names):
     count = rand.choice([0, 1, 1, 2, 3, 8]) if rand.random() < 0.98 else rand.choice([1_024, 1_025])
     info["threatEntries"] = [{"hash": base64.b64encode(any_hash(rand, journal)).decode("ascii")} for _ in range(count)]
     body = {"client": {"clientId": "sblist", "clientVersion": "1"}, "threatInfo": info}
-    if rand.random() < 0.3:
-        body["clientStates"] = [base64.b64encode(any_state(rand, journal, names[0], names)).decode("ascii")]
+    if rand.random() < 0.5:
+        states = [any_state(rand, journal, name, names) for name in rand.choices(names, k=rand.choice([0, 1, 1, 3]))]
+        body["clientStates"] = [base64.b64encode(state).decode("ascii") for state in states]
+        body["clientStates"] += [None] * rand.choice([0, 0, 1, 2])
+        rand.shuffle(body["clientStates"])
     return written(rand, body, 0.2)
 
 
