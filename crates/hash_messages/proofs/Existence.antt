@@ -9,6 +9,7 @@ use Rattle.sb_json.specs.declared.faults.FieldFault.{FieldFault}
 use Rattle.sb_json.specs.declared.faults.MessageFault.TheVariants.{TooManyItems}
 use Rattle.update_messages.specs.declared.client.ClientInfo.{ClientInfo}
 use Rattle.sb_members.specs.Lists.{EachReads, ReadsList, fault_of, first, first_of_items, fault_of_list, first_from, in_item, item_count}
+use Rattle.sb_members.specs.Somes.{somes, ReadsSome}
 use Rattle.sb_members.specs.Rows.{threat_row, platform_row, entry_row}
 use Rattle.update_messages.specs.RequestRows.{client_row, client_id_row, client_version_row}
 use Rattle.update_messages.specs.Reading.{ReadsClient}
@@ -66,6 +67,11 @@ list_there Reads fault there (Err f) e = absurd (cc e)
 rows_there : {A : Type 0} (row : Data → Result A FieldFault) (r : Result Items FieldFault) → fault_of_list (fault_by row) r ≡ None → (xs : List A) × ReadsList (ReadsAs row) r xs
 rows_there row r e = list_there (ReadsAs row) (fault_by row) (λ d. row_read (row d)) r e
 
+somes_there : {A : Type 0} (row : Data → Result (Option A) FieldFault) (r : Result Items FieldFault) → fault_of_list (fault_by row) r ≡ None → (xs : List A) × ReadsSome (ReadsAs row) r xs
+somes_there row r e =
+    let all = rows_there row r e in
+    (somes all.0, record { all = all.0; all_read = all.1; kept = refl })
+
 not_in_item : (n : ℕ) (o : Option FieldFault) → in_item n o ≡ None → o ≡ None
 not_in_item n None e = refl
 not_in_item n (Some f) e = absurd (cc e)
@@ -105,10 +111,10 @@ outside_there : (d : Data) → first (faults_outside_items d) ≡ None → (pref
 outside_there d e prefixes =
     let h : AllNone (faults_outside_items d) = all_none (faults_outside_items d) e in
     let client = client_there (client_row d) h.1.0 in
-    let states = rows_there request.state_row (request.states_row d) h.1.1.0 in
-    let threats = rows_there request.asked_threat_row (request.in_info request.threats_row d) h.1.1.1.0 in
-    let platforms = rows_there request.asked_platform_row (request.in_info request.platforms_row d) h.1.1.1.1.0 in
-    let entries = rows_there request.asked_entry_row (request.in_info request.entries_row d) h.1.1.1.1.1.0 in (
+    let states = somes_there request.state_row (request.states_row d) h.1.1.0 in
+    let threats = somes_there request.asked_threat_row (request.in_info request.threats_row d) h.1.1.1.0 in
+    let platforms = somes_there request.asked_platform_row (request.in_info request.platforms_row d) h.1.1.1.1.0 in
+    let entries = somes_there request.asked_entry_row (request.in_info request.entries_row d) h.1.1.1.1.1.0 in (
       record {
         client = client.0;
         states = states.0;

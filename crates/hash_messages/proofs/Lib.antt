@@ -7,6 +7,7 @@ pub mod Memberships
 pub mod NameOrder
 pub mod NoFault
 pub mod OneReading
+pub mod Others
 pub mod RequestAgain
 pub mod ResponseAgain
 pub mod Rising

@@ -5,6 +5,7 @@ use Rattle.sb_json.specs.declared.faults.FieldFault.{FieldFault}
 use Rattle.sb_json.specs.declared.faults.MessageFault.{MessageFault}
 use Rattle.update_messages.specs.declared.client.ClientInfo.{ClientInfo}
 use Rattle.sb_members.specs.Lists.{EachReads, ReadsList, fault_of, first, first_of_items, fault_of_list, first_from, in_item, item_count}
+use Rattle.sb_members.specs.Somes.{ReadsSome}
 use Rattle.update_messages.specs.Reading.{ReadsClient}
 use Rattle.update_messages.specs.Faults.{faults_of_client}
 use Rattle.hash_messages.specs.declared.response.Match.{Match}
@@ -52,11 +53,15 @@ list_passes : {A : Type 0} (row : Data → Result A FieldFault) (r : Result Item
     → first (fault_of_list (fault_by row) r ∷ os) ≡ first os
 list_passes row r xs os h = passes_by _ os (list_clean (ReadsAs row) (fault_by row) (row_clean row) r xs h)
 
+some_passes : {A : Type 0} (row : Data → Result (Option A) FieldFault) (r : Result Items FieldFault) (xs : List A) (os : List (Option FieldFault)) → ReadsSome (ReadsAs row) r xs
+    → first (fault_of_list (fault_by row) r ∷ os) ≡ first os
+some_passes row r xs os h = list_passes row r h.all os h.all_read
+
 outside_clean : (d : Data) (m : AskedHashes) → ReadsOutsideItems d m → first (faults_outside_items d) ≡ None
 outside_clean d m h =
     passes _ _ _ h.object ∙ passes_by _ _ (client_clean _ m.client h.client)
-    ∙ list_passes _ _ m.states _ h.states ∙ list_passes _ _ m.threats _ h.threats
-    ∙ list_passes _ _ m.platforms _ h.platforms ∙ list_passes _ _ m.entries _ h.entries
+    ∙ some_passes _ _ m.states _ h.states ∙ some_passes _ _ m.threats _ h.threats
+    ∙ some_passes _ _ m.platforms _ h.platforms ∙ some_passes _ _ m.entries _ h.entries
 
 pub count_of_each : {A : Type 0} (Reads : Data → A → Type 0) (ds : Items) (xs : List A) → EachReads Reads ds xs → item_count ds ≡ length xs
 count_of_each Reads no_items [] h = refl

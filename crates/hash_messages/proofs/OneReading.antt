@@ -1,8 +1,9 @@
 -- A value reads as at most one message.
-use Rattle.std.proofs.Common.{◌≡◌, List, [], ◌∷◌, Result, Ok, Err, refl}
+use Rattle.std.proofs.Common.{◌≡◌, List, [], ◌∷◌, Option, Result, Ok, Err, refl, sym, ap, ◌∙◌}
 use Rattle.serde_json.specs.Data.{Data, Items, no_items, item}
 use Rattle.sb_json.specs.declared.faults.FieldFault.{FieldFault}
 use Rattle.sb_members.specs.Lists.{EachReads, ReadsList}
+use Rattle.sb_members.specs.Somes.{somes, ReadsSome}
 use Rattle.hash_messages.specs.declared.response.FindResponse.{FindResponse}
 use Rattle.hash_messages.specs.Messages.{AskedHashes}
 use Rattle.hash_messages.specs.RequestRows as request
@@ -31,16 +32,19 @@ list_one Reads one (Err f) xs ys h k = absurd h
 rows_one : {A : Type 0} (row : Data → Result A FieldFault) (r : Result Items FieldFault) (xs ys : List A) → ReadsList (ReadsAs row) r xs → ReadsList (ReadsAs row) r ys → xs ≡ ys
 rows_one row r xs ys h k = list_one (ReadsAs row) (λ d a b. same (row d) a b) r xs ys h k
 
+some_one : {A : Type 0} (row : Data → Result (Option A) FieldFault) (r : Result Items FieldFault) (xs ys : List A) → ReadsSome (ReadsAs row) r xs → ReadsSome (ReadsAs row) r ys → xs ≡ ys
+some_one {A = A} row r xs ys h k = h.kept ∙ ap (somes {A = A}) (rows_one row r h.all k.all h.all_read k.all_read) ∙ sym k.kept
+
 pub request_one : (d : Data) (a b : AskedHashes) → ReadsFindRequest d a → ReadsFindRequest d b → a ≡ b
 request_one d a b h k = λ i. record {
   client = record {
     id = same _ a.client.id b.client.id h.outside.client.id k.outside.client.id i;
     version = same _ a.client.version b.client.version h.outside.client.version k.outside.client.version i;
   };
-  states = rows_one request.state_row (request.states_row d) a.states b.states h.outside.states k.outside.states i;
-  threats = rows_one request.asked_threat_row (request.in_info request.threats_row d) a.threats b.threats h.outside.threats k.outside.threats i;
-  platforms = rows_one request.asked_platform_row (request.in_info request.platforms_row d) a.platforms b.platforms h.outside.platforms k.outside.platforms i;
-  entries = rows_one request.asked_entry_row (request.in_info request.entries_row d) a.entries b.entries h.outside.entries k.outside.entries i;
+  states = some_one request.state_row (request.states_row d) a.states b.states h.outside.states k.outside.states i;
+  threats = some_one request.asked_threat_row (request.in_info request.threats_row d) a.threats b.threats h.outside.threats k.outside.threats i;
+  platforms = some_one request.asked_platform_row (request.in_info request.platforms_row d) a.platforms b.platforms h.outside.platforms k.outside.platforms i;
+  entries = some_one request.asked_entry_row (request.in_info request.entries_row d) a.entries b.entries h.outside.entries k.outside.entries i;
   prefixes = rows_one request.prefix_row (request.in_info request.prefixes_row d) a.prefixes b.prefixes h.prefixes k.prefixes i;
 }
 

@@ -1,15 +1,14 @@
 -- What is written of a request reads as it.
-use Rattle.std.proofs.Common.{◌≡◌, ℕ, ◌≤◌, ◌&&◌, true, List, [], ◌∷◌, length, map, Some, Result, Ok, refl, ap, ◌∙◌, arith, All}
+use Rattle.std.proofs.Common.{◌≡◌, ℕ, ◌≤◌, ◌&&◌, true, List, [], ◌∷◌, length, map, Option, Some, Result, Ok, refl, ap, ◌∙◌, arith, All}
 use Rattle.std.specs.Prelude.{nat_le}
 use Rattle.std.proofs.lemmas.Bool.Decides.{nat_tests}
 use Rattle.serde_json.specs.Data.{Data, null, object, Members, no_members, member}
 use Rattle.serde_json.specs.View.{items_of}
 use Rattle.base64.specs.GeneralPurpose.{IsBytes}
-use Rattle.sb_json.specs.Values.{◌>>=◌, or_fault}
+use Rattle.sb_json.specs.Values.{◌>>=◌}
 use Rattle.sb_json.specs.declared.fields.Field.{Field}
 use Rattle.sb_json.specs.declared.fields.Field.TheVariants as field
 use Rattle.sb_json.specs.declared.faults.FieldFault.{FieldFault}
-use Rattle.sb_json.specs.declared.faults.FieldFault.TheVariants.{Name}
 use Rattle.sb_model.specs.declared.names.ThreatType.{ThreatType}
 use Rattle.sb_model.specs.declared.names.PlatformType.{PlatformType}
 use Rattle.sb_model.specs.declared.names.EntryType.{EntryType}
@@ -18,6 +17,7 @@ use Rattle.sb_members.specs.Parts.{Parts, made, found, or_null}
 use Rattle.update_messages.specs.declared.client.ClientInfo.{ClientInfo}
 use Rattle.update_messages.specs.Ranges.{IsClientInRange}
 use Rattle.sb_members.specs.Lists.{ReadsList}
+use Rattle.sb_members.specs.Somes.{ReadsSome}
 use Rattle.sb_members.specs.Rows.{object_or_null, items_or_none}
 use Rattle.sb_members.specs.Writing.{text_written, bytes_written, values_written, list_written, unless_bare}
 use Rattle.update_messages.specs.RequestRows.{client_row, client_id_row, client_version_row}
@@ -28,7 +28,7 @@ use Rattle.hash_messages.specs.Ranges.{IsPrefix, IsFindRequestInRange}
 use Rattle.hash_messages.specs.RequestRows as row
 use Rattle.hash_messages.specs.Reading.{ReadsAs, ReadsOutsideItems, ReadsFindRequest}
 use Rattle.hash_messages.specs.Writing.{state_written, threat_written, platform_written, entry_written, prefix_written, info_written, find_request_written}
-use Rattle.hash_messages.proofs.WrittenLists.{list_again, always_again}
+use Rattle.hash_messages.proofs.WrittenLists.{list_again, somes_again, somes_always_again}
 
 abbrev pub client_parts : ClientInfo → Parts
 client_parts c = (field.ClientId, text_written c.id) ∷ (field.ClientVersion, text_written c.version) ∷ []
@@ -82,14 +82,14 @@ prefix_again law (b ∷ bs) h =
 
 -- ---- the lists of `threatInfo`
 
-threat_again : NamesReadAgain → (t : ThreatType) → row.asked_threat_row (threat_written t) ≡ Ok t
-threat_again names t = ap (or_fault (Name field.ThreatTypes)) (names.threat_words t)
+threat_again : NamesReadAgain → (t : ThreatType) → row.asked_threat_row (threat_written t) ≡ Ok (Some t)
+threat_again names t = ap (λ (o : Option ThreatType). Ok o) (names.threat_words t)
 
-platform_again : NamesReadAgain → (p : PlatformType) → row.asked_platform_row (platform_written p) ≡ Ok p
-platform_again names p = ap (or_fault (Name field.PlatformTypes)) (names.platform_words p)
+platform_again : NamesReadAgain → (p : PlatformType) → row.asked_platform_row (platform_written p) ≡ Ok (Some p)
+platform_again names p = ap (λ (o : Option PlatformType). Ok o) (names.platform_words p)
 
-entry_again : NamesReadAgain → (e : EntryType) → row.asked_entry_row (entry_written e) ≡ Ok e
-entry_again names e = ap (or_fault (Name field.ThreatEntryTypes)) (names.entry_words e)
+entry_again : NamesReadAgain → (e : EntryType) → row.asked_entry_row (entry_written e) ≡ Ok (Some e)
+entry_again names e = ap (λ (o : Option EntryType). Ok o) (names.entry_words e)
 
 info_again : AreReadAgain → (m : AskedHashes) → row.info_row (find_request_written m) ≡ Ok (info_written m)
 info_again law m = law.needed.objects field.ThreatInfo (request_parts m) (made (info_parts m)) refl
@@ -98,23 +98,26 @@ found_in_info : AreReadAgain → (m : AskedHashes) (f : Field) (ds : List Data) 
     → row.in_info (items_or_none f) (find_request_written m) ≡ Ok (items_of ds)
 found_in_info law m f ds e = ap (λ r. r >>= items_or_none f) (info_again law m) ∙ law.defaults.lists f (info_parts m) ds e
 
-threats_again : AreReadAgain → (m : AskedHashes) → ReadsList (ReadsAs row.asked_threat_row) (row.in_info row.threats_row (find_request_written m)) m.threats
-threats_again law m = always_again (ReadsAs row.asked_threat_row) threat_written (threat_again law.names) m.threats _ (found_in_info law m field.ThreatTypes (map threat_written m.threats) refl)
+threats_again : AreReadAgain → (m : AskedHashes) → ReadsSome (ReadsAs row.asked_threat_row) (row.in_info row.threats_row (find_request_written m)) m.threats
+threats_again law m = somes_always_again (ReadsAs row.asked_threat_row) threat_written (threat_again law.names) m.threats _ (found_in_info law m field.ThreatTypes (map threat_written m.threats) refl)
 
-platforms_again : AreReadAgain → (m : AskedHashes) → ReadsList (ReadsAs row.asked_platform_row) (row.in_info row.platforms_row (find_request_written m)) m.platforms
-platforms_again law m = always_again (ReadsAs row.asked_platform_row) platform_written (platform_again law.names) m.platforms _ (found_in_info law m field.PlatformTypes (map platform_written m.platforms) refl)
+platforms_again : AreReadAgain → (m : AskedHashes) → ReadsSome (ReadsAs row.asked_platform_row) (row.in_info row.platforms_row (find_request_written m)) m.platforms
+platforms_again law m = somes_always_again (ReadsAs row.asked_platform_row) platform_written (platform_again law.names) m.platforms _ (found_in_info law m field.PlatformTypes (map platform_written m.platforms) refl)
 
-entries_again : AreReadAgain → (m : AskedHashes) → ReadsList (ReadsAs row.asked_entry_row) (row.in_info row.entries_row (find_request_written m)) m.entries
-entries_again law m = always_again (ReadsAs row.asked_entry_row) entry_written (entry_again law.names) m.entries _ (found_in_info law m field.ThreatEntryTypes (map entry_written m.entries) refl)
+entries_again : AreReadAgain → (m : AskedHashes) → ReadsSome (ReadsAs row.asked_entry_row) (row.in_info row.entries_row (find_request_written m)) m.entries
+entries_again law m = somes_always_again (ReadsAs row.asked_entry_row) entry_written (entry_again law.names) m.entries _ (found_in_info law m field.ThreatEntryTypes (map entry_written m.entries) refl)
 
 prefixes_again : AreReadAgain → (m : AskedHashes) → All IsPrefix m.prefixes → ReadsList (ReadsAs row.prefix_row) (row.in_info row.prefixes_row (find_request_written m)) m.prefixes
 prefixes_again law m h = list_again (ReadsAs row.prefix_row) prefix_written IsPrefix (prefix_again law) m.prefixes h _ (found_in_info law m field.ThreatEntries (map prefix_written m.prefixes) refl)
 
 -- ---- the whole
 
-states_again : AreReadAgain → (m : AskedHashes) → All IsBytes m.states → ReadsList (ReadsAs row.state_row) (row.states_row (find_request_written m)) m.states
+state_again : AreReadAgain → (state : List ℕ) → IsBytes state → row.state_row (state_written state) ≡ Ok (Some state)
+state_again law state h = ap (λ (r : Result (List ℕ) FieldFault). r >>= λ bytes. Ok (Some bytes)) (law.items.bytes field.ClientStates state h)
+
+states_again : AreReadAgain → (m : AskedHashes) → All IsBytes m.states → ReadsSome (ReadsAs row.state_row) (row.states_row (find_request_written m)) m.states
 states_again law m h =
-    list_again (ReadsAs row.state_row) state_written IsBytes (law.items.bytes field.ClientStates) m.states h _
+    somes_again (ReadsAs row.state_row) state_written IsBytes (state_again law) m.states h _
     (law.defaults.lists field.ClientStates (request_parts m) (map state_written m.states) refl)
 
 outside_again : AreReadAgain → (m : AskedHashes) → IsFindRequestInRange m → ReadsOutsideItems (find_request_written m) m

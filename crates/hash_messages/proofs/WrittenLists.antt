@@ -1,5 +1,5 @@
 -- Items that are written are read item by item.
-use Rattle.std.proofs.Common.{◌≡◌, ℕ, ◌+◌, ◌<◌, ◌≤◌, List, [], ◌∷◌, ◌++◌, map, length, take, get_or, Result, Ok, sym, ap, ◌∙◌, subst, arith, All}
+use Rattle.std.proofs.Common.{◌≡◌, ℕ, ◌+◌, ◌<◌, ◌≤◌, List, [], ◌∷◌, ◌++◌, map, length, take, get_or, Option, Some, Result, Ok, refl, sym, ap, ◌∙◌, subst, arith, All}
 use Rattle.std.proofs.lemmas.List.Elements.{All-head, All-tail, All-more}
 use Rattle.std.proofs.lemmas.List.{map-append, take_more}
 use Rattle.serde_json.specs.Data.{Data, Items, depth, items_depth}
@@ -7,6 +7,7 @@ use Rattle.serde_json.specs.View.{items_of, view}
 use Rattle.serde_json.specs.declared.value.Value.{Value}
 use Rattle.sb_json.specs.declared.faults.FieldFault.{FieldFault}
 use Rattle.sb_members.specs.Lists.{EachReads, ReadsList}
+use Rattle.sb_members.specs.Somes.{somes, ReadsSome}
 use Rattle.sb_members.specs.Writing.{list_written}
 use Rattle.sb_members.specs.Parts.{IsWithin}
 
@@ -31,12 +32,33 @@ pub list_again : {A : Type 0} (Reads : Data → A → Type 0) (write : A → Dat
     → (xs : List A) → All P xs → (row : Result Items FieldFault) → row ≡ Ok (items_of (map write xs)) → ReadsList Reads row xs
 list_again Reads write P one xs h row e = subst (λ (r : Result Items FieldFault). ReadsList Reads r xs) (sym e) (each_written Reads write P one xs h)
 
--- the same of a writing that is always read again
-pub always_again : {A : Type 0} (Reads : Data → A → Type 0) (write : A → Data) → ((a : A) → Reads (write a) a)
-    → (xs : List A) → (row : Result Items FieldFault) → row ≡ Ok (items_of (map write xs)) → ReadsList Reads row xs
-always_again {A = A} Reads write one xs row e = subst (λ (r : Result Items FieldFault). ReadsList Reads r xs) (sym e) (each xs)
+somes_of_all : {A : Type 0} (xs : List A) → xs ≡ somes (map Some xs)
+somes_of_all [] = refl
+somes_of_all {A = A} (x ∷ xs) = ap (λ (more : List A). x ∷ more) (somes_of_all xs)
+
+-- the same of items that may stand for nothing: what is written stands for something
+pub somes_again : {A : Type 0} (Reads : Data → Option A → Type 0) (write : A → Data) (P : A → Type 0) → ((a : A) → P a → Reads (write a) (Some a))
+    → (xs : List A) → All P xs → (row : Result Items FieldFault) → row ≡ Ok (items_of (map write xs)) → ReadsSome Reads row xs
+somes_again {A = A} Reads write P one xs h row e = record {
+  all = map Some xs;
+  all_read = subst (λ (r : Result Items FieldFault). ReadsList Reads r (map Some xs)) (sym e) (each xs h);
+  kept = somes_of_all xs;
+}
   where
-    each : (xs : List A) → EachReads Reads (items_of (map write xs)) xs
+    each : (xs : List A) → All P xs → EachReads Reads (items_of (map write xs)) (map Some xs)
+    each [] h = tt
+    each (x ∷ xs) h = (one x (All-head P x xs h), each xs (All-tail P x xs h))
+
+-- and of a writing that is always read again
+pub somes_always_again : {A : Type 0} (Reads : Data → Option A → Type 0) (write : A → Data) → ((a : A) → Reads (write a) (Some a))
+    → (xs : List A) → (row : Result Items FieldFault) → row ≡ Ok (items_of (map write xs)) → ReadsSome Reads row xs
+somes_always_again {A = A} Reads write one xs row e = record {
+  all = map Some xs;
+  all_read = subst (λ (r : Result Items FieldFault). ReadsList Reads r (map Some xs)) (sym e) (each xs);
+  kept = somes_of_all xs;
+}
+  where
+    each : (xs : List A) → EachReads Reads (items_of (map write xs)) (map Some xs)
     each [] = tt
     each (x ∷ xs) = (one x, each xs)
 

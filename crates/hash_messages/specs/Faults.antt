@@ -37,9 +37,7 @@ faults_outside_items value =
     fault_of (root_row value)
     ∷ first (faults_of_client (client_row value))
     ∷ fault_of_each request.state_row (request.states_row value)
-    ∷ fault_of_each request.asked_threat_row (request.in_info request.threats_row value)
-    ∷ fault_of_each request.asked_platform_row (request.in_info request.platforms_row value)
-    ∷ fault_of_each request.asked_entry_row (request.in_info request.entries_row value) ∷ []
+    ∷ faults_of_types value
 
 -- the items, where there are no more than a request may have
 abbrev pub fault_of_prefixes : Result Items FieldFault → Option MessageFault

@@ -1,6 +1,7 @@
 pub mod Faults
 pub mod Matches
 pub mod Messages
+pub mod Others
 pub mod Ranges
 pub mod Reading
 pub mod RequestRows

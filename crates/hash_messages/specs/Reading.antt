@@ -1,8 +1,9 @@
 -- Which message a JSON value is: each field of the message is what its row is read as.
-use Rattle.std.specs.Prelude.{◌≡◌, ◌≤◌, List, length, Result, Ok}
+use Rattle.std.specs.Prelude.{◌≡◌, ◌≤◌, List, length, Option, Result, Ok}
 use Rattle.serde_json.specs.Data.{Data, Items}
 use Rattle.sb_json.specs.declared.faults.FieldFault.{FieldFault}
 use Rattle.sb_members.specs.Lists.{ReadsList}
+use Rattle.sb_members.specs.Somes.{ReadsSome}
 use Rattle.sb_members.specs.Rows.{threat_row, platform_row, entry_row}
 use Rattle.update_messages.specs.RequestRows.{root_row, client_row}
 use Rattle.update_messages.specs.Reading.{ReadsClient}
@@ -20,16 +21,20 @@ ReadsAs row value a = row value ≡ Ok a
 abbrev pub ReadsEach : {A : Type 0} → (Data → Result A FieldFault) → Result Items FieldFault → List A → Type 0
 ReadsEach row items values = ReadsList (ReadsAs row) items values
 
+-- a list whose items a row reads, each as something or as nothing, and what is something
+abbrev pub ReadsSomeBy : {A : Type 0} → (Data → Result (Option A) FieldFault) → Result Items FieldFault → List A → Type 0
+ReadsSomeBy row items values = ReadsSome (ReadsAs row) items values
+
 -- ---- the request
 
 -- what a request has outside its items
 pub record ReadsOutsideItems (value : Data) (message : AskedHashes) : Type 0 where
   pub object : root_row value ≡ Ok value
   pub client : ReadsClient (client_row value) message.client
-  pub states : ReadsEach request.state_row (request.states_row value) message.states
-  pub threats : ReadsEach request.asked_threat_row (request.in_info request.threats_row value) message.threats
-  pub platforms : ReadsEach request.asked_platform_row (request.in_info request.platforms_row value) message.platforms
-  pub entries : ReadsEach request.asked_entry_row (request.in_info request.entries_row value) message.entries
+  pub states : ReadsSomeBy request.state_row (request.states_row value) message.states
+  pub threats : ReadsSomeBy request.asked_threat_row (request.in_info request.threats_row value) message.threats
+  pub platforms : ReadsSomeBy request.asked_platform_row (request.in_info request.platforms_row value) message.platforms
+  pub entries : ReadsSomeBy request.asked_entry_row (request.in_info request.entries_row value) message.entries
 
 pub record ReadsFindRequest (value : Data) (message : AskedHashes) : Type 0 where
   pub outside : ReadsOutsideItems value message

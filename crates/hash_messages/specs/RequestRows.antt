@@ -1,25 +1,25 @@
 -- The rows of the find request (`fullHashes.find` of the Safe Browsing Update API, version 4), in the
 -- order in which they are looked at. The message itself and `client` come before them, and are read as
 -- in a fetch request.
-use Rattle.std.specs.Prelude.{ℕ, ◌&&◌, nat_le, if◌then◌else◌, List, length, Result, Ok, Err}
+use Rattle.std.specs.Prelude.{ℕ, ◌&&◌, nat_le, if◌then◌else◌, List, length, Option, Some, None, Result, Ok, Err}
 use Rattle.serde_json.specs.Data.{Data, Items}
-use Rattle.sb_json.specs.Values.{◌>>=◌, or_fault, string_in, object_in, object_of, bytes_in, bytes_of}
+use Rattle.sb_json.specs.Values.{◌>>=◌, if_there, string_in, object_in, object_of, bytes_in, bytes_of}
 use Rattle.sb_json.specs.declared.fields.Field.TheVariants as field
 use Rattle.sb_json.specs.declared.faults.FieldFault.{FieldFault}
-use Rattle.sb_json.specs.declared.faults.FieldFault.TheVariants.{Name, Size}
+use Rattle.sb_json.specs.declared.faults.FieldFault.TheVariants.{Size}
 use Rattle.sb_model.specs.declared.names.ThreatType.{ThreatType}
 use Rattle.sb_model.specs.declared.names.PlatformType.{PlatformType}
 use Rattle.sb_model.specs.declared.names.EntryType.{EntryType}
 use Rattle.sb_model.specs.Names.{threat_of, platform_of, entry_of}
-use Rattle.sb_members.specs.Rows.{items_or_none}
+use Rattle.sb_members.specs.Rows.{or_absent, items_or_none}
 
 -- `clientStates`: the items, none where it is absent
 abbrev pub states_row : Data → Result Items FieldFault
 states_row message = items_or_none field.ClientStates message
 
--- one of them: bytes
-abbrev pub state_row : Data → Result (List ℕ) FieldFault
-state_row state = bytes_in field.ClientStates state
+-- one of them: bytes, or nothing where it is null
+abbrev pub state_row : Data → Result (Option (List ℕ)) FieldFault
+state_row state = or_absent None (λ value. bytes_in field.ClientStates value >>= λ bytes. Ok (Some bytes)) (if_there state)
 
 -- `threatInfo`: an object
 abbrev pub info_row : Data → Result Data FieldFault
@@ -33,23 +33,23 @@ in_info row message = info_row message >>= row
 abbrev pub threats_row : Data → Result Items FieldFault
 threats_row info = items_or_none field.ThreatTypes info
 
--- one of them: a name that the table of threat types has
-abbrev pub asked_threat_row : Data → Result ThreatType FieldFault
-asked_threat_row name = string_in field.ThreatTypes name >>= λ word. or_fault (Name field.ThreatTypes) (threat_of word)
+-- one of them: a string, which is a threat type where the table has it, and nothing where it has not
+abbrev pub asked_threat_row : Data → Result (Option ThreatType) FieldFault
+asked_threat_row name = string_in field.ThreatTypes name >>= λ word. Ok (threat_of word)
 
 -- `platformTypes` of `threatInfo`, likewise
 abbrev pub platforms_row : Data → Result Items FieldFault
 platforms_row info = items_or_none field.PlatformTypes info
 
-abbrev pub asked_platform_row : Data → Result PlatformType FieldFault
-asked_platform_row name = string_in field.PlatformTypes name >>= λ word. or_fault (Name field.PlatformTypes) (platform_of word)
+abbrev pub asked_platform_row : Data → Result (Option PlatformType) FieldFault
+asked_platform_row name = string_in field.PlatformTypes name >>= λ word. Ok (platform_of word)
 
 -- `threatEntryTypes` of `threatInfo`, likewise
 abbrev pub entries_row : Data → Result Items FieldFault
 entries_row info = items_or_none field.ThreatEntryTypes info
 
-abbrev pub asked_entry_row : Data → Result EntryType FieldFault
-asked_entry_row name = string_in field.ThreatEntryTypes name >>= λ word. or_fault (Name field.ThreatEntryTypes) (entry_of word)
+abbrev pub asked_entry_row : Data → Result (Option EntryType) FieldFault
+asked_entry_row name = string_in field.ThreatEntryTypes name >>= λ word. Ok (entry_of word)
 
 -- `threatEntries` of `threatInfo`: the items, none where it is absent
 abbrev pub prefixes_row : Data → Result Items FieldFault

@@ -8,6 +8,7 @@ ghost use Rattle.sb_model.specs.Prefixes.{IsRising};
 ghost use Rattle.sb_model.specs.declared.names.ListName.{ListName};
 ghost use Rattle.hash_messages.specs.Matches.{lists_asked, hashes_asked, matches_of, IsMatchOf};
 ghost use Rattle.hash_messages.specs.Messages.{AskedHashes};
+ghost use Rattle.hash_messages.specs.Others.{IsWithoutOthers};
 ghost use Rattle.hash_messages.specs.Reading.{ReadsFindRequest, ReadsFindResponse};
 ghost use Rattle.hash_messages.specs.Faults.{fault_of_find_request, fault_of_find_response};
 ghost use Rattle.hash_messages.specs.Writing.{spelling_of_find_request, spelling_of_find_response};
@@ -32,6 +33,13 @@ pub fn find_values_read_or_have_a_fault()
         ↔ (fault_of_find_request value ≡ None) }
     ensures response { (value : Data) → ((message : FindResponse) × ReadsFindResponse value message)
         ↔ (fault_of_find_response value ≡ None) }
+{}
+
+/// Types of no name and states that are null change nothing of a request: without them its value reads as
+/// the same one.
+pub fn unknown_types_change_nothing()
+    ensures { (value other : Data) (message : AskedHashes)
+        → IsWithoutOthers value other → ReadsFindRequest value message → ReadsFindRequest other message }
 {}
 
 /// A server's answer goes through lists in the order of names, and through the full hashes of each

@@ -1,14 +1,16 @@
 ghost use Rattle.std.specs.Prelude.{◌≡◌, ◌⊎◌, ◌≤◌, length, Ok, Err, Some, None, IfOk, IfErr};
 ghost use Rattle.serde_json.specs.View.{view, items_view};
-ghost use Rattle.sb_members.specs.Lists.{EachReads};
+ghost use Rattle.sb_members.specs.Lists.{EachReads, first};
 ghost use Rattle.hash_messages.specs.Messages.{most_prefixes};
 ghost use Rattle.hash_messages.specs.RequestRows as row;
-ghost use Rattle.hash_messages.specs.Reading.{ReadsAs};
-ghost use Rattle.hash_messages.specs.Faults.{fault_by, fault_of_prefixes};
+ghost use Rattle.hash_messages.specs.Reading.{ReadsAs, ReadsSomeBy};
+ghost use Rattle.hash_messages.specs.Faults.{fault_by, faults_of_types, fault_of_prefixes};
 
 use hash_prefixes::Prefix;
-use sb_json::{Field, FieldFault, MessageFault, bytes, bytes_item, object_item, string_item};
-use sb_members::{ReadItem, read_numbered_items};
+use sb_json::{
+    Field, FieldFault, MessageFault, bytes, bytes_item, object, object_item, string_item,
+};
+use sb_members::{ReadItem, ReadSome, read_numbered_items, read_some_list};
 use sb_model::{Bytes, EntryType, PlatformType, Row, ThreatType};
 use serde_json::Value;
 use std::alloc::Global;
@@ -16,96 +18,132 @@ use std::alloc::Global;
 /// The most items of a request.
 const MOST_PREFIXES: usize = 1_024;
 
+/// A state; `None` where it is null.
+fn asked_state(alloc: Global, item: &Value) -> Result<Option<Bytes>, FieldFault>
+    ensures ok { IfOk result (λ state. row.state_row (view item.now) ≡ Ok state) }
+    ensures err { IfErr result (λ fault. (fault ≡ FieldFault.OutOfMemory)
+        ⊎ (row.state_row (view item.now) ≡ Err fault)) }
+{
+    if item.is_null() {
+        return Ok(None);
+    }
+    Ok(Some(bytes_item(alloc, item, Field::ClientStates)?))
+}
+
 /// The states of a request.
 pub(crate) struct States;
 
-impl ReadItem for States {
+impl ReadSome for States {
     type Found = Bytes;
 
     ghost Reads = { ReadsAs row.state_row };
 
-    ghost Keeps = { λ _. Unit {0} };
-
     ghost fault = { fault_by row.state_row };
 
-    fn read_item(alloc: Global, item: &Value) -> Result<Bytes, FieldFault> {
-        bytes_item(alloc, item, Field::ClientStates)
+    fn read_some(alloc: Global, item: &Value) -> Result<Option<Bytes>, FieldFault> {
+        asked_state(alloc, item)
     }
 }
 
-/// A threat type that is asked for.
-fn asked_threat(item: &Value) -> Result<ThreatType, FieldFault>
+/// A threat type that is asked for; `None` where the table has no such name.
+fn asked_threat(item: &Value) -> Result<Option<ThreatType>, FieldFault>
     ensures { result ≡ row.asked_threat_row (view item.now) }
 {
     let word = string_item(item, Field::ThreatTypes)?;
-    ThreatType::from_word(word.as_bytes()).ok_or(FieldFault::Name(Field::ThreatTypes))
+    Ok(ThreatType::from_word(word.as_bytes()))
 }
 
 /// The threat types that are asked for.
-pub(crate) struct AskedThreats;
+struct AskedThreats;
 
-impl ReadItem for AskedThreats {
+impl ReadSome for AskedThreats {
     type Found = ThreatType;
 
     ghost Reads = { ReadsAs row.asked_threat_row };
 
-    ghost Keeps = { λ _. Unit {0} };
-
     ghost fault = { fault_by row.asked_threat_row };
 
-    fn read_item(_alloc: Global, item: &Value) -> Result<ThreatType, FieldFault> {
+    fn read_some(_alloc: Global, item: &Value) -> Result<Option<ThreatType>, FieldFault> {
         asked_threat(item)
     }
 }
 
-/// A platform type that is asked for.
-fn asked_platform(item: &Value) -> Result<PlatformType, FieldFault>
+/// A platform type that is asked for; `None` where the table has no such name.
+fn asked_platform(item: &Value) -> Result<Option<PlatformType>, FieldFault>
     ensures { result ≡ row.asked_platform_row (view item.now) }
 {
     let word = string_item(item, Field::PlatformTypes)?;
-    PlatformType::from_word(word.as_bytes()).ok_or(FieldFault::Name(Field::PlatformTypes))
+    Ok(PlatformType::from_word(word.as_bytes()))
 }
 
 /// The platform types that are asked for.
-pub(crate) struct AskedPlatforms;
+struct AskedPlatforms;
 
-impl ReadItem for AskedPlatforms {
+impl ReadSome for AskedPlatforms {
     type Found = PlatformType;
 
     ghost Reads = { ReadsAs row.asked_platform_row };
 
-    ghost Keeps = { λ _. Unit {0} };
-
     ghost fault = { fault_by row.asked_platform_row };
 
-    fn read_item(_alloc: Global, item: &Value) -> Result<PlatformType, FieldFault> {
+    fn read_some(_alloc: Global, item: &Value) -> Result<Option<PlatformType>, FieldFault> {
         asked_platform(item)
     }
 }
 
-/// A threat entry type that is asked for.
-fn asked_entry(item: &Value) -> Result<EntryType, FieldFault>
+/// A threat entry type that is asked for; `None` where the table has no such name.
+fn asked_entry(item: &Value) -> Result<Option<EntryType>, FieldFault>
     ensures { result ≡ row.asked_entry_row (view item.now) }
 {
     let word = string_item(item, Field::ThreatEntryTypes)?;
-    EntryType::from_word(word.as_bytes()).ok_or(FieldFault::Name(Field::ThreatEntryTypes))
+    Ok(EntryType::from_word(word.as_bytes()))
 }
 
 /// The threat entry types that are asked for.
-pub(crate) struct AskedEntries;
+struct AskedEntries;
 
-impl ReadItem for AskedEntries {
+impl ReadSome for AskedEntries {
     type Found = EntryType;
 
     ghost Reads = { ReadsAs row.asked_entry_row };
 
-    ghost Keeps = { λ _. Unit {0} };
-
     ghost fault = { fault_by row.asked_entry_row };
 
-    fn read_item(_alloc: Global, item: &Value) -> Result<EntryType, FieldFault> {
+    fn read_some(_alloc: Global, item: &Value) -> Result<Option<EntryType>, FieldFault> {
         asked_entry(item)
     }
+}
+
+/// The types of the lists that are asked.
+#[derive(Drop)]
+pub struct AskedTypes {
+    pub threats: Row<ThreatType>,
+    pub platforms: Row<PlatformType>,
+    pub entries: Row<EntryType>,
+}
+
+/// Reads the three lists of types of the field `threatInfo` of a request's value. A name that a table lacks
+/// is skipped. The faults are those of `faults_of_types` of `specs/Faults.antt`, and `OutOfMemory`.
+pub fn read_types(alloc: Global, message: &Value) -> Result<AskedTypes, FieldFault>
+    ensures threats { IfOk result (λ types.
+        ReadsSomeBy row.asked_threat_row (row.in_info row.threats_row (view message.now)) types.threats) }
+    ensures platforms { IfOk result (λ types.
+        ReadsSomeBy row.asked_platform_row (row.in_info row.platforms_row (view message.now)) types.platforms) }
+    ensures entries { IfOk result (λ types.
+        ReadsSomeBy row.asked_entry_row (row.in_info row.entries_row (view message.now)) types.entries) }
+    ensures clean { IfOk result (λ _. first (faults_of_types (view message.now)) ≡ None) }
+    ensures err { IfErr result (λ fault. (fault ≡ FieldFault.OutOfMemory)
+        ⊎ (first (faults_of_types (view message.now)) ≡ Some fault)) }
+{
+    let info = object(message, Field::ThreatInfo)?;
+    let threats = read_some_list::<AskedThreats>(alloc, info, Field::ThreatTypes)?;
+    let platforms = read_some_list::<AskedPlatforms>(alloc, info, Field::PlatformTypes)?;
+    let entries = read_some_list::<AskedEntries>(alloc, info, Field::ThreatEntryTypes)?;
+    Ok(AskedTypes {
+        threats,
+        platforms,
+        entries,
+    })
 }
 
 /// The prefix that an item asks for.

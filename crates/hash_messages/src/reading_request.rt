@@ -8,51 +8,18 @@ ghost use Rattle.update_messages.specs.Faults.{fault_of_text};
 ghost use Rattle.hash_messages.specs.Messages.{AskedHashes, most_prefixes};
 ghost use Rattle.hash_messages.specs.RequestRows as row;
 ghost use Rattle.hash_messages.specs.Reading.{ReadsEach, ReadsOutsideItems, ReadsFindRequest};
-ghost use Rattle.hash_messages.specs.Faults.{faults_of_types, faults_outside_items, fault_of_prefixes};
+ghost use Rattle.hash_messages.specs.Faults.{faults_outside_items, fault_of_prefixes};
 ghost use Rattle.hash_messages.specs.Faults.{fault_of_find_request};
 
-use crate::FindRequest;
-use crate::reading_asked::{
-    AskedEntries, AskedPlatforms, AskedThreats, States, few_asked_prefixes,
-};
-use crate::reading_client::client;
+use crate::reading_asked::{States, few_asked_prefixes};
+use crate::{FindRequest, read_types};
 use hash_prefixes::Prefix;
 use sb_json::{Field, FieldFault, MessageFault, object, read_json};
-use sb_members::{check_object, items_or_none, read_list};
-use sb_model::{EntryType, PlatformType, Row, ThreatType};
+use sb_members::{check_object, items_or_none, read_some_list};
+use sb_model::Row;
 use serde_json::Value;
 use std::alloc::Global;
-
-/// The lists that a request asks of: those of these types.
-#[derive(Drop)]
-struct AskedTypes {
-    threats: Row<ThreatType>,
-    platforms: Row<PlatformType>,
-    entries: Row<EntryType>,
-}
-
-/// The types that are asked for.
-fn asked_types(alloc: Global, value: &Value) -> Result<AskedTypes, FieldFault>
-    ensures threats { IfOk result (λ types.
-        ReadsEach row.asked_threat_row (row.in_info row.threats_row (view value.now)) types.threats) }
-    ensures platforms { IfOk result (λ types.
-        ReadsEach row.asked_platform_row (row.in_info row.platforms_row (view value.now)) types.platforms) }
-    ensures entries { IfOk result (λ types.
-        ReadsEach row.asked_entry_row (row.in_info row.entries_row (view value.now)) types.entries) }
-    ensures clean { IfOk result (λ _. first (faults_of_types (view value.now)) ≡ None) }
-    ensures err { IfErr result (λ fault. (fault ≡ FieldFault.OutOfMemory)
-        ⊎ (first (faults_of_types (view value.now)) ≡ Some fault)) }
-{
-    let info = object(value, Field::ThreatInfo)?;
-    let threats = read_list::<AskedThreats>(alloc, info, Field::ThreatTypes)?;
-    let platforms = read_list::<AskedPlatforms>(alloc, info, Field::PlatformTypes)?;
-    let entries = read_list::<AskedEntries>(alloc, info, Field::ThreatEntryTypes)?;
-    Ok(AskedTypes {
-        threats,
-        platforms,
-        entries,
-    })
-}
+use update_messages::read_client;
 
 /// The request without its prefixes.
 fn outside_items(alloc: Global, value: &Value) -> Result<FindRequest, FieldFault>
@@ -62,9 +29,9 @@ fn outside_items(alloc: Global, value: &Value) -> Result<FindRequest, FieldFault
         ⊎ (first (faults_outside_items (view value.now)) ≡ Some fault)) }
 {
     check_object(value, Field::Root)?;
-    let client = client(alloc, value)?;
-    let states = read_list::<States>(alloc, value, Field::ClientStates)?;
-    let types = asked_types(alloc, value)?;
+    let client = read_client(alloc, value)?;
+    let states = read_some_list::<States>(alloc, value, Field::ClientStates)?;
+    let types = read_types(alloc, value)?;
     Ok(FindRequest {
         client,
         states,

@@ -30,10 +30,8 @@ pub(crate) fn state_values(alloc: Global, states: &[Bytes]) -> Result<Vec<Value>
     Ok(values)
 }
 
-pub(crate) fn threat_values(
-    alloc: Global,
-    threats: &[ThreatType],
-) -> Result<Vec<Value>, OutOfMemory>
+/// The words of threat types, each as a string.
+pub fn threat_values(alloc: Global, threats: &[ThreatType]) -> Result<Vec<Value>, OutOfMemory>
     ensures { IfOk result (λ values. map view values.items ≡ map spec.threat_written threats.now) }
 {
     let mut values = Vec::with_capacity(alloc, threats.len())?;
@@ -43,10 +41,8 @@ pub(crate) fn threat_values(
     Ok(values)
 }
 
-pub(crate) fn platform_values(
-    alloc: Global,
-    platforms: &[PlatformType],
-) -> Result<Vec<Value>, OutOfMemory>
+/// The words of platform types, each as a string.
+pub fn platform_values(alloc: Global, platforms: &[PlatformType]) -> Result<Vec<Value>, OutOfMemory>
     ensures { IfOk result (λ values.
         map view values.items ≡ map spec.platform_written platforms.now) }
 {
@@ -57,7 +53,8 @@ pub(crate) fn platform_values(
     Ok(values)
 }
 
-pub(crate) fn entry_values(alloc: Global, entries: &[EntryType]) -> Result<Vec<Value>, OutOfMemory>
+/// The words of threat entry types, each as a string.
+pub fn entry_values(alloc: Global, entries: &[EntryType]) -> Result<Vec<Value>, OutOfMemory>
     ensures { IfOk result (λ values. map view values.items ≡ map spec.entry_written entries.now) }
 {
     let mut values = Vec::with_capacity(alloc, entries.len())?;

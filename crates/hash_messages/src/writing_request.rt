@@ -1,9 +1,7 @@
 ghost use Rattle.std.specs.Prelude.{◌≡◌, All, None, IfOk};
-ghost use Rattle.serde_json.specs.View.{view, members_view};
+ghost use Rattle.serde_json.specs.View.{view};
 ghost use Rattle.sb_json.specs.Density.{too_dense};
-ghost use Rattle.update_messages.specs.Ranges.{IsClientInRange};
 ghost use Rattle.update_messages.specs.Reading.{IsTextOf};
-ghost use Rattle.update_messages.specs.Writing as shared;
 ghost use Rattle.hash_messages.specs.Messages.{AskedHashes};
 ghost use Rattle.hash_messages.specs.Ranges.{IsPrefix, IsFindRequestInRange};
 ghost use Rattle.hash_messages.specs.Reading.{ReadsFindRequest};
@@ -15,26 +13,12 @@ use crate::writing_asked::{
 };
 use sb_json::Field;
 use sb_members::{
-    list_value, members_are_as_their_values, object_value, put_member, text_value,
-    written_members_read_again,
+    list_value, members_are_as_their_values, object_value, put_member, written_members_read_again,
 };
 use sb_model::{Bytes, OutOfMemory};
 use serde_json::{Map, Value};
 use std::alloc::Global;
-use update_messages::ClientInfo;
-
-fn client_members(alloc: Global, client: &ClientInfo) -> Result<Map<String, Value>, OutOfMemory>
-    ensures value { IfOk result (λ members.
-        members_view members.entries ≡ shared.client_members client.now) }
-    ensures range { IfOk result (λ _. IsClientInRange client.now) }
-{
-    let mut members = Map::new(alloc);
-    let version = text_value(alloc, &client.version)?;
-    put_member(alloc, &mut members, Field::ClientVersion, version)?;
-    let id = text_value(alloc, &client.id)?;
-    put_member(alloc, &mut members, Field::ClientId, id)?;
-    Ok(members)
-}
+use update_messages::client_members;
 
 fn info_value(alloc: Global, message: &FindRequest) -> Result<Value, OutOfMemory>
     ensures value { IfOk result (λ value. view value ≡ spec.info_written message.now) }
