@@ -108,7 +108,7 @@ class Server:
     """A server of a journal, which is ended with the block."""
 
     def __init__(self, program, journal, wait, printed):
-        words = [program, "serve", "--journal", journal, "--listen", "127.0.0.1:0", "--find-wait", "0", "--wait", str(wait)]
+        words = [program, "serve", "--journal", journal, "--listen", "127.0.0.1:0", "--wait", str(wait)]
         self.ran = subprocess.Popen(words, stdout=printed, stderr=subprocess.PIPE, text=True)
         found = re.search(r":(\d+)$", self.ran.stderr.readline().strip())
         if not found:

@@ -31,6 +31,12 @@ serve() {
   url="http://127.0.0.1:$port/v4/threatListUpdates:fetch"
 }
 
+# serves lists over both kinds of requests, and says where finds come in
+serve_finds() {
+  serve "$1"
+  finds="http://127.0.0.1:$port/v4/fullHashes:find"
+}
+
 # what a request is answered: its status
 status_of() {
   curl --silent --retry 20 --retry-connrefused --retry-delay 1 --max-time 100 --output "$folder/body" --write-out '%{http_code}' "$@"
@@ -92,7 +98,8 @@ expect "another path" 404 --data "$request" "http://127.0.0.1:$port/v4/nothing"
 expect "another method" 405 "$url"
 expect "a body in chunks, without a length" 411 --header 'Transfer-Encoding: chunked' --data "$request" "$url"
 expect "a body that is no message" 400 --data '[' "$url"
-expect "a list that is not declared" 400 --data "${request/MALWARE/SOCIAL_ENGINEERING}" "$url"
+expect "a list that is not declared" 200 --data "${request/MALWARE/SOCIAL_ENGINEERING}" "$url"
+[ "$(< "$folder/body")" = '{"minimumWaitDuration":"1800s"}' ] || fail "a list that is not declared: its body is $(< "$folder/body")"
 head -c 1048577 /dev/zero > "$folder/long"
 expect "a body that is too long" 413 --header 'Expect:' --data-binary "@$folder/long" "$url"
 expect "a head that is too long" 431 --header "X-Long: $(head -c 17000 /dev/zero | tr '\0' x)" --data "$request" "$url"
@@ -103,13 +110,76 @@ connection 2 answered 200
 connection 3 answered 404
 connection 4 answered 405
 connection 5 answered 411
-connection 6 answered 400
-connection 7 answered 400
+connection 6 answered 400 not-json
+connection 7 answered 200
 connection 8 answered 413
 connection 9 answered 431
 END
 diff "$folder/wanted" "$folder/printed" || fail "the server printed other lines"
 echo "the server printed a line for each connection"
+
+# ---- both requests of GNOME Web 43.1, at a server of three of its lists and at one of none
+
+gnome_client='"client":{"clientId":"Epiphany","clientVersion":"43.1"}'
+gnome_lists=(MALWARE/LINUX/URL SOCIAL_ENGINEERING/ANY_PLATFORM/URL UNWANTED_SOFTWARE/LINUX/URL MALWARE/LINUX/IP_RANGE)
+
+# what GNOME Web sends for updates, with the states of its first lists. One that it does not hold has null
+gnome_fetch() {
+  local items= list threat platform entry state
+  for list in "${gnome_lists[@]}"; do
+    IFS=/ read -r threat platform entry <<< "$list"
+    state=null
+    [ $# -eq 0 ] || { state="\"$1\""; shift; }
+    items+="${items:+,}{\"threatType\":\"$threat\",\"platformType\":\"$platform\",\"threatEntryType\":\"$entry\",\"state\":$state,"
+    items+='"constraints":{"maxUpdateEntries":0,"maxDatabaseEntries":0,"region":null,"supportedCompressions":["RAW","RICE"]}}'
+  done
+  echo "{$gnome_client,\"listUpdateRequests\":[$items]}"
+}
+
+# what it sends for full hashes, with so many states, and null for the last list
+gnome_find() {
+  local states= state
+  for state in "$@"; do states+="\"$state\","; done
+  echo "{$gnome_client,\"clientStates\":[${states}null],\"threatInfo\":{\"threatTypes\":[\"MALWARE\",\"UNWANTED_SOFTWARE\",\"SOCIAL_ENGINEERING\"],\
+\"platformTypes\":[\"LINUX\",\"ANY_PLATFORM\"],\"threatEntryTypes\":[\"URL\",\"IP_RANGE\"],\"threatEntries\":[{\"hash\":\"MTIzNA==\"}]},\"apiClient\":null}"
+}
+
+# the new states of the updates in the last answer, which is of these lists in this order and kind
+states_of() {
+  python3 - "$folder/body" "$@" << 'END' || fail "$1: the answer to GNOME Web is $(< "$folder/body")"
+import json, sys
+with open(sys.argv[1], encoding="ascii") as body:
+    answer = json.load(body)
+kind, names = sys.argv[2], sys.argv[3:]
+items = answer.get("listUpdateResponses", [])
+found = ["/".join(one[field] for field in ("threatType", "platformType", "threatEntryType")) for one in items]
+if found != names or any(one["responseType"] != kind for one in items) or answer.get("minimumWaitDuration") != "1800s":
+    sys.exit(1)
+print(*(one["newClientState"] for one in items))
+END
+}
+
+cp "$folder/journal" "$kept"
+printf 'sblist 1 0000000000000001\n' > "$folder/journal"
+printf 'list %s 4\n' "${gnome_lists[@]:0:3}" >> "$folder/journal"
+printf 'change %s 1 0\n+%s\n' "${gnome_lists[0]}" "$(hash 31323334)" >> "$folder/journal"
+serve_finds 3
+expect "a first fetch of GNOME Web" 200 --header 'Content-Type: application/json' --data "$(gnome_fetch)" "$url?key=a"
+states=$(states_of FULL_UPDATE "${gnome_lists[@]:0:3}") || fail "$states"
+# shellcheck disable=SC2086
+expect "its next fetch" 200 --header 'Content-Type: application/json' --data "$(gnome_fetch $states)" "$url?key=a"
+[ "$(states_of PARTIAL_UPDATE "${gnome_lists[@]:0:3}")" = "$states" ] || fail "its next fetch: the answer is $(< "$folder/body")"
+# shellcheck disable=SC2086
+expect "a find of GNOME Web" 200 --header 'Content-Type: application/json' --data "$(gnome_find $states)" "$finds?key=a"
+grep -q '"threat":{"hash":"MTIzNAAAAA' "$folder/body" || fail "a find of GNOME Web: its body is $(< "$folder/body")"
+grep -q minimumWaitDuration "$folder/body" && fail "a find of GNOME Web: its answer holds finds back: $(< "$folder/body")"
+ended
+cp "$kept" "$folder/journal"
+serve_finds 2
+expect "a fetch of GNOME Web from a server of other lists" 200 --data "$(gnome_fetch)" "$url"
+[ "$(< "$folder/body")" = '{"minimumWaitDuration":"1800s"}' ] || fail "a fetch for other lists: its body is $(< "$folder/body")"
+expect "a find of GNOME Web with no state" 200 --data "$(gnome_find)" "$finds"
+ended
 
 # ---- clients that stall
 

@@ -36,7 +36,7 @@ odd=$(hash_of odd.example/)
   printf 'change %s 0 1\n-%s\n' "$LIST" "$(hash_of gone.example/)"
 } > "$folder/journal"
 port=$(free_port)
-bin/sblistd serve --journal "$folder/journal" --listen "127.0.0.1:$port" --find-wait 0 > "$folder/printed" &
+bin/sblistd serve --journal "$folder/journal" --listen "127.0.0.1:$port" > "$folder/printed" &
 started+=($!)
 sleep 1
 bin/sbupdate run --store "$folder/store" --server "127.0.0.1:$port" --rounds 1 "$LIST" > "$folder/run" ||
