@@ -3,9 +3,12 @@ pub mod CountFacts
 pub mod CoverFacts
 pub mod EntryFacts
 pub mod FindFacts
+pub mod LeadFacts
 pub mod MarkFacts
 pub mod Membership
 pub mod NumberFacts
+pub mod PassageFacts
+pub mod QuadFacts
 pub mod SameFacts
 pub mod SetCounts
 pub mod SetFacts

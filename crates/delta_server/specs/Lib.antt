@@ -1,6 +1,7 @@
 pub mod Answering
 pub mod Counts
 pub mod Finding
+pub mod Passages
 pub mod Served
 pub mod Sweeping
 pub mod Swept

@@ -1,5 +1,5 @@
 -- A declared list of a history, as it stands ready to be answered.
-use Rattle.std.specs.Prelude.{◌≡◌, ℕ, true, List, Option, Some, None}
+use Rattle.std.specs.Prelude.{◌≡◌, ℕ, true, List}
 use Rattle.sha2.specs.Sha256.{sha256}
 use Rattle.sb_model.specs.declared.names.ListName.{ListName}
 use Rattle.prefix_set.specs.declared.difference.Delta.{Delta}
@@ -18,12 +18,11 @@ pub record IsServed (served : Served) (versions : History) (list : ListName) : T
   pub digest : served.digest ≡ sha256 (concatenation served.set.now)
   pub numbers : AreNumbersOf served.set.now served.numbers.now
 
--- the set of a version, and none where it is the newest
-abbrev pub IsOlder : History → ListName → ℕ → Option (List (List ℕ)) → Type 0
-IsOlder versions list version None = version ≡ version_count versions
-IsOlder versions list version (Some set) = set ≡ prefixes_at versions list version
+-- what leads from the set of a version to that of another
+pub record LeadsTo (versions : History) (list : ListName) (held version : ℕ) (delta : Delta) : Type 0 where
+  pub removals : delta.removals ≡ removed_places (prefixes_at versions list held) (prefixes_at versions list version)
+  pub additions : delta.additions ≡ added_members (prefixes_at versions list held) (prefixes_at versions list version)
 
 -- what leads from the set of a version to the newest
-pub record LeadsToNewest (versions : History) (list : ListName) (held : ℕ) (delta : Delta) : Type 0 where
-  pub removals : delta.removals ≡ removed_places (prefixes_at versions list held) (prefixes_at versions list (version_count versions))
-  pub additions : delta.additions ≡ added_members (prefixes_at versions list held) (prefixes_at versions list (version_count versions))
+abbrev pub LeadsToNewest : History → ListName → ℕ → Delta → Type 0
+LeadsToNewest versions list held delta = LeadsTo versions list held (version_count versions) delta

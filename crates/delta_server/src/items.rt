@@ -1,14 +1,15 @@
-ghost use Rattle.std.specs.Prelude.{◌≡◌, ◌≤◌, true, Some, None, map, option_copied, All, IfOk, OnOk, IfSome};
+ghost use Rattle.std.specs.Prelude.{◌≡◌, ◌≤◌, true, Some, None, map, All, IfOk, OnOk, IfSome};
 ghost use Rattle.sha2.specs.Sha256.{sha256};
 ghost use Rattle.sb_model.specs.Prefixes.{concatenation};
 ghost use Rattle.sb_model.specs.History.{declares, prefixes_at, version_count};
 ghost use Rattle.sb_model.specs.Target.{target_version};
 ghost use Rattle.update_messages.specs.Answer.{version_named, update_to, update_for};
-ghost use Rattle.delta_server.specs.Served.{IsOlder, IsServed, LeadsToNewest};
+ghost use Rattle.delta_server.specs.Served.{IsServed, LeadsTo, LeadsToNewest};
 ghost use Rattle.delta_server.specs.Swept.{AreOf};
 ghost use Rattle.delta_server.specs.Tokens.{server_naming, server_token};
 
-use crate::served::{Served, older_prefixes, served_list, set_at};
+use crate::passages::{Lead, kept_lead, kept_set};
+use crate::served::{Served, served_list, set_at};
 use crate::swept::Swept;
 use crate::targets::{Limits, newest_delta, older_target, whole_target};
 use crate::tokens::{held_version, state_token};
@@ -32,39 +33,6 @@ fn limits_of(asked: &ListRequest) -> Limits
     }
 }
 
-// A version as it is sent: the set that was made of it, or else the newest with its digest, and the
-// token of the version.
-fn sent_of<'a>(
-    history: &History,
-    list: ListName,
-    version: u64,
-    newest: &'a PrefixSet,
-    digest: [u8; 32],
-    older: Option<&'a PrefixSet>,
-) -> Sent<'a>
-    requires newest { newest.now
-        ≡ prefixes_at history.now.versions list (version_count history.now.versions) }
-    requires digest { digest ≡ sha256 (concatenation newest.now) }
-    requires older { IsOlder history.now.versions list version (option_copied older) }
-    ensures set { result.set.now ≡ prefixes_at history.now.versions list version }
-    ensures digest { result.digest ≡ sha256 (concatenation result.set.now) }
-    ensures token { result.token ≡ server_token history.now.versions.epoch list version }
-{
-    let token = state_token(history.epoch(), list, version);
-    match older {
-        None => Sent {
-            set: newest,
-            digest,
-            token,
-        },
-        Some(set) => Sent {
-            set,
-            digest: set.digest(),
-            token,
-        },
-    }
-}
-
 // The whole of the newest set. Its numbers stand ready.
 fn newest_whole(
     alloc: Global,
@@ -83,6 +51,26 @@ fn newest_whole(
         token,
     };
     numbered_update(alloc, asked, &sent, served.numbers)
+}
+
+// The prefixes of a declared list at a version, told by the stretches of the list if it was swept.
+fn older_set(
+    alloc: Global,
+    history: &History,
+    swept: &Swept,
+    list: ListName,
+    version: u64,
+) -> Result<PrefixSet, OutOfMemory>
+    requires declared { declares history.now.versions list ≡ true }
+    requires within { version ≤ version_count history.now.versions }
+    requires swept { AreOf history.now.versions swept.now }
+    ensures { IfOk result (λ set. set ≡ prefixes_at history.now.versions list version) }
+{
+    let found = kept_set(alloc, history, swept, list, version)?;
+    match found {
+        Some(set) => Ok(set),
+        None => set_at(alloc, history, list, version),
+    }
 }
 
 // The update for one who holds no version of a list: a whole set.
@@ -104,16 +92,36 @@ fn whole_answer(
     if version == history.len() {
         return newest_whole(alloc, history, served, asked);
     }
-    let older = older_prefixes(alloc, history, list, version)?;
-    let sent = sent_of(
-        history,
-        list,
-        version,
-        served.set,
-        served.digest,
-        older.as_ref(),
-    );
+    let set = &older_set(alloc, history, swept, list, version)?;
+    let token = state_token(history.epoch(), list, version);
+    let digest = set.digest();
+    let sent = Sent { set, digest, token };
     full_update(alloc, asked, &sent)
+}
+
+// The update that leads from a held version to another, by what leads there.
+fn led_answer(
+    alloc: Global,
+    history: &History,
+    served: &Served<'_>,
+    asked: &ListRequest,
+    held: u64,
+    version: u64,
+    delta: Delta,
+    digest: [u8; 32],
+) -> Result<ListUpdate, OutOfMemory>
+    requires served { IsServed served.now history.now.versions asked.now.name }
+    requires within { held ≤ version_count history.now.versions }
+    requires version { version ≤ version_count history.now.versions }
+    requires delta { LeadsTo history.now.versions asked.now.name held version delta }
+    requires digest { digest ≡ sha256 (concatenation (prefixes_at history.now.versions asked.now.name version)) }
+    ensures { IfOk result (λ update. update ≡ update_to history.now.versions (server_naming history.now.versions) asked.now (Some held) version) }
+{
+    sent_numbers_rise();
+    // looked at for the prover: what holds of each history that was read
+    let _ = history.len();
+    let token = state_token(history.epoch(), asked.name, version);
+    delta_update(alloc, asked, served.size, delta, digest, token)
 }
 
 // The update that leads from a held version to the newest.
@@ -131,12 +139,13 @@ fn newest_answer(
     ensures { IfOk result (λ update. update ≡ update_to history.now.versions (server_naming history.now.versions) asked.now (Some held)
         (version_count history.now.versions)) }
 {
-    sent_numbers_rise();
-    let token = state_token(history.epoch(), asked.name, history.len());
-    delta_update(alloc, asked, served.size, delta, served.digest, token)
+    let newest = history.len();
+    let digest = served.digest;
+    led_answer(alloc, history, served, asked, held, newest, delta, digest)
 }
 
-// The update that leads from a held version to a later one or to itself.
+// The update that leads from a held version to a later one or to itself, by the sets of both, which
+// are made.
 fn later_answer(
     alloc: Global,
     history: &History,
@@ -162,6 +171,54 @@ fn later_answer(
     partial_update(alloc, asked, served.size, &before, &sent)
 }
 
+// The update that leads from a held version to a later one or to itself, if the list was not swept.
+fn made_answer(
+    alloc: Global,
+    history: &History,
+    served: &Served<'_>,
+    asked: &ListRequest,
+    held: u64,
+    version: u64,
+) -> Result<ListUpdate, OutOfMemory>
+    requires served { IsServed served.now history.now.versions asked.now.name }
+    requires within { held ≤ version_count history.now.versions }
+    requires version { version ≤ version_count history.now.versions }
+    ensures { IfOk result (λ update. update ≡ update_to history.now.versions (server_naming history.now.versions) asked.now (Some held) version) }
+{
+    if version == history.len() {
+        let delta = history.difference(alloc, asked.name, held)?;
+        return newest_answer(alloc, history, served, asked, held, delta);
+    }
+    later_answer(alloc, history, served, asked, held, version)
+}
+
+// The update that leads from a held version to a later one or to itself, told by the stretches of
+// the list if it was swept.
+fn older_answer(
+    alloc: Global,
+    history: &History,
+    swept: &Swept,
+    served: &Served<'_>,
+    asked: &ListRequest,
+    held: u64,
+    version: u64,
+) -> Result<ListUpdate, OutOfMemory>
+    requires served { IsServed served.now history.now.versions asked.now.name }
+    requires within { held ≤ version_count history.now.versions }
+    requires version { version ≤ version_count history.now.versions }
+    requires swept { AreOf history.now.versions swept.now }
+    ensures { IfOk result (λ update. update ≡ update_to history.now.versions (server_naming history.now.versions) asked.now (Some held) version) }
+{
+    let found = kept_lead(alloc, history, swept, asked.name, held, version)?;
+    match found {
+        Some(lead) => {
+            let Lead { delta, digest } = lead;
+            led_answer(alloc, history, served, asked, held, version, delta, digest)
+        }
+        None => made_answer(alloc, history, served, asked, held, version),
+    }
+}
+
 // The update for one who holds a version of a list, and is not told to be brought to the newest
 // before the list is swept.
 fn swept_answer(
@@ -181,11 +238,7 @@ fn swept_answer(
 {
     let list = asked.name;
     let version = older_target(alloc, history, swept, list, Some(held), limits_of(asked))?;
-    if version == history.len() {
-        let delta = history.difference(alloc, list, held)?;
-        return newest_answer(alloc, history, served, asked, held, delta);
-    }
-    later_answer(alloc, history, served, asked, held, version)
+    older_answer(alloc, history, swept, served, asked, held, version)
 }
 
 // The update for one who holds a version of a list: what leads from its set to another.
@@ -209,7 +262,7 @@ fn partial_answer(
         let token = state_token(history.epoch(), list, held);
         return unchanged_update(alloc, asked, served.digest, token);
     }
-    match newest_delta(alloc, history, list, served.set, held, limits_of(asked))? {
+    match newest_delta(alloc, history, swept, list, served.set, held, limits_of(asked))? {
         Some(delta) => newest_answer(alloc, history, served, asked, held, delta),
         None => swept_answer(alloc, history, swept, served, asked, held),
     }

@@ -28,6 +28,7 @@ mod marks;
 mod names;
 mod naming;
 mod numbers;
+mod passages;
 mod served;
 mod sets;
 mod sweeping;

@@ -1,6 +1,6 @@
 ghost use Rattle.std.specs.Prelude.{◌≡◌, ◌≤◌, true, false, IfOk, IfSome, IfNone};
 ghost use Rattle.sb_model.specs.History.{declares, version_count, prefixes_at};
-ghost use Rattle.delta_server.specs.Served.{IsOlder, IsServed};
+ghost use Rattle.delta_server.specs.Served.{IsServed};
 
 use list_versions::History;
 use prefix_set::PrefixSet;
@@ -51,22 +51,4 @@ pub(crate) fn set_at(
         unreachable!()
     };
     Ok(set)
-}
-
-/// The prefixes of a declared list at a version; `None` where it is the newest, whose set is served.
-pub(crate) fn older_prefixes(
-    alloc: Global,
-    history: &History,
-    list: ListName,
-    version: u64,
-) -> Result<Option<PrefixSet>, OutOfMemory>
-    requires declared { declares history.now.versions list ≡ true }
-    requires within { version ≤ version_count history.now.versions }
-    ensures { IfOk result (IsOlder history.now.versions list version) }
-{
-    if version == history.len() {
-        return Ok(None);
-    }
-    let set = set_at(alloc, history, list, version)?;
-    Ok(Some(set))
 }

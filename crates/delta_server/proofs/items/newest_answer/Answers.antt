@@ -1,42 +1,30 @@
-use Rattle.std.proofs.Common.{◌≡◌, ℕ, List, Some, refl, ap, ◌∙◌, arith}
+use Rattle.std.proofs.Common.{◌≡◌, ℕ, List, Some, ap, sym, subst, ◌∙◌}
 use Rattle.std.proofs.lemmas.Result.{IfOk-weaker}
 use Rattle.sha2.specs.Sha256.{sha256}
-use Rattle.sb_model.specs.Difference.{removed_places, added_members}
 use Rattle.sb_model.specs.History.{History, version_count, prefixes_at}
 use Rattle.sb_model.specs.Prefixes.{concatenation}
 use Rattle.update_messages.specs.Answer.{update_to}
 use Rattle.update_messages.specs.Messages.{AskedList, UpdatedList}
-use Rattle.delta_server.specs.Tokens.{server_token, server_naming}
-use Rattle.delta_server.specs.Updates.{difference_update}
-use Rattle.delta_server.proofs.AnswerFacts.{partial_is, token_same}
-use Rattle.delta_server.proofs.UpdateFacts.{may_be_sent, few_prefixes}
+use Rattle.delta_server.specs.Served.{LeadsTo}
+use Rattle.delta_server.specs.Tokens.{server_naming}
 use Rattle.delta_server.proofs.items.newest_answer.Goals as goal
 
-pub delta_update-requires : goal.delta_update-requires
-delta_update-requires c =
+pub led_answer-requires-clause-delta : goal.led_answer-requires-clause-delta
+led_answer-requires-clause-delta c =
+    subst (λ (v : ℕ). LeadsTo c.args.history.now.versions c.args.asked.now.name c.args.held v c.args.delta) (sym c.len-newest.ensures.count) c.requires.delta
+
+pub led_answer-requires-clause-digest : goal.led_answer-requires-clause-digest
+led_answer-requires-clause-digest c =
     let versions : History = c.args.history.now.versions in
-    let asked : AskedList = c.args.asked.now in
-    let old : List (List ℕ) = prefixes_at versions asked.name c.args.held in
-    let newer : List (List ℕ) = prefixes_at versions asked.name (version_count versions) in
-    may_be_sent c.args.delta old newer (c.sent_numbers_rise.ensures.places old newer) c.requires.delta.removals c.requires.delta.additions
-    (few_prefixes versions asked.name c.args.held c.len.ensures.within c.requires.within) (few_prefixes versions asked.name (version_count versions) c.len.ensures.within (omega arith))
+    c.requires.served.digest ∙ ap (λ (s : List (List ℕ)). sha256 (concatenation s)) c.requires.served.set
+    ∙ ap (λ (v : ℕ). sha256 (concatenation (prefixes_at versions c.args.asked.now.name v))) (sym c.len-newest.ensures.count)
 
 pub returns : goal.returns
 returns c =
     let versions : History = c.args.history.now.versions in
     let asked : AskedList = c.args.asked.now in
-    let old : List (List ℕ) = prefixes_at versions asked.name c.args.held in
-    let newer : List (List ℕ) = prefixes_at versions asked.name (version_count versions) in
-    let token : List ℕ = c.state_token-token.result in
-    let name : c.asked.inside.name ≡ asked.name = ap (λ (a : AskedList). a.name) c.asked.view_is in
-    let named : token ≡ server_token versions.epoch asked.name (version_count versions) =
-    c.state_token-token.ensures ∙ token_same c.epoch.result versions.epoch c.asked.inside.name asked.name c.len.result c.epoch.ensures name
-    ∙ ap (server_token versions.epoch asked.name) c.len.ensures.count in
-    let digest : c.args.served.now.digest ≡ sha256 (concatenation newer) = c.requires.served.digest ∙ ap (λ (s : List (List ℕ)). sha256 (concatenation s)) c.requires.served.set in
-    IfOk-weaker c.delta_update.result
-    (λ (update : UpdatedList). (a b : List (List ℕ)) → c.args.delta.removals ≡ removed_places a b → c.args.delta.additions ≡ added_members a b
-    → c.args.served.now.digest ≡ sha256 (concatenation b) → update ≡ difference_update asked c.args.served.now.size a b token)
+    IfOk-weaker c.led_answer.result
+    (λ (update : UpdatedList). update ≡ update_to versions (server_naming versions) asked (Some c.args.held) c.len-newest.result)
     (λ (update : UpdatedList). update ≡ update_to versions (server_naming versions) asked (Some c.args.held) (version_count versions))
-    (λ update made. partial_is versions asked c.args.held c.args.served.now.size old newer token (version_count versions) (version_count versions) update
-    (made old newer c.requires.delta.removals c.requires.delta.additions digest) c.requires.served.size refl refl named refl)
-    c.delta_update.ensures
+    (λ update made. made ∙ ap (update_to versions (server_naming versions) asked (Some c.args.held)) c.len-newest.ensures.count)
+    c.led_answer.ensures

@@ -1,6 +1,6 @@
-use Rattle.std.proofs.Common.{◌≡◌, ℕ, Some, sym, ap, ◌∙◌}
+use Rattle.std.proofs.Common.{◌≡◌, ℕ, Some, ap, ◌∙◌}
 use Rattle.std.proofs.lemmas.Result.{IfOk-weaker}
-use Rattle.sb_model.specs.History.{History, version_count}
+use Rattle.sb_model.specs.History.{History}
 use Rattle.sb_model.specs.Target.{target_version}
 use Rattle.update_messages.specs.Answer.{update_to}
 use Rattle.update_messages.specs.Messages.{AskedList, UpdatedList}
@@ -14,17 +14,6 @@ target versions asked held = target_version versions asked.name (Some held) aske
 abbrev Leads : History → AskedList → ℕ → ℕ → UpdatedList → Type 0
 Leads versions asked held version update = update ≡ update_to versions (server_naming versions) asked (Some held) version
 
-pub returns-then-version-len-clause-update : goal.returns-then-version-len-clause-update
-returns-then-version-len-clause-update c =
-    let versions : History = c.args.history.now.versions in
-    let asked : AskedList = c.args.asked.now in
-    let name : c.asked.inside.name ≡ asked.name = ap (λ (a : AskedList). a.name) c.asked.view_is in
-    let is : c.in_ok-version.version ≡ target versions asked c.args.held =
-    c.in_ok-version.ensures.target ∙ target_same versions (Some c.args.held) c.asked.inside.name asked.name _ _ _ _ name c.limits_of.ensures.update c.limits_of.ensures.database in
-    IfOk-weaker c.newest_answer.result (Leads versions asked c.args.held (version_count versions)) (Leads versions asked c.args.held (target versions asked c.args.held))
-    (λ update made. made ∙ ap (update_to versions (server_naming versions) asked (Some c.args.held)) (sym c.len.ensures.count ∙ sym c.if-version-len.true ∙ is))
-    c.newest_answer.ensures
-
 pub returns-clause-update : goal.returns-clause-update
 returns-clause-update c =
     let versions : History = c.args.history.now.versions in
@@ -32,6 +21,6 @@ returns-clause-update c =
     let name : c.asked.inside.name ≡ asked.name = ap (λ (a : AskedList). a.name) c.asked.view_is in
     let is : c.in_ok-version.version ≡ target versions asked c.args.held =
     c.in_ok-version.ensures.target ∙ target_same versions (Some c.args.held) c.asked.inside.name asked.name _ _ _ _ name c.limits_of.ensures.update c.limits_of.ensures.database in
-    IfOk-weaker c.later_answer.result (Leads versions asked c.args.held c.in_ok-version.version) (Leads versions asked c.args.held (target versions asked c.args.held))
+    IfOk-weaker c.older_answer.result (Leads versions asked c.args.held c.in_ok-version.version) (Leads versions asked c.args.held (target versions asked c.args.held))
     (λ update made. made ∙ ap (update_to versions (server_naming versions) asked (Some c.args.held)) is)
-    c.later_answer.ensures
+    c.older_answer.ensures

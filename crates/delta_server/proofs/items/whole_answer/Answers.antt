@@ -7,7 +7,7 @@ use Rattle.update_messages.specs.Answer.{update_to}
 use Rattle.update_messages.specs.Messages.{AskedList, UpdatedList}
 use Rattle.delta_server.specs.Tokens.{server_token, server_naming}
 use Rattle.delta_server.specs.Updates.{whole_update}
-use Rattle.delta_server.proofs.AnswerFacts.{whole_is, target_same}
+use Rattle.delta_server.proofs.AnswerFacts.{whole_is, target_same, token_same}
 use Rattle.delta_server.proofs.items.whole_answer.Goals as goal
 
 abbrev target_for : History → AskedList → ℕ
@@ -30,11 +30,12 @@ returns-clause-update c =
     let versions : History = c.args.history.now.versions in
     let asked : AskedList = c.args.asked.now in
     let name : c.asked.inside.name ≡ asked.name = ap (λ (a : AskedList). a.name) c.asked.view_is in
-    IfOk-weaker c.full_update.result (Made versions asked c.sent_of-sent.result.set.now c.sent_of-sent.result.token c.in_ok-version.version)
-    (Wanted versions asked c.sent_of-sent.result.set.now c.sent_of-sent.result.token c.in_ok-version.version)
-    (wanted versions asked c.sent_of-sent.result.set.now c.sent_of-sent.result.token c.in_ok-version.version
-    (c.sent_of-sent.ensures.set ∙ ap (λ (n : ListName). prefixes_at versions n c.in_ok-version.version) name)
-    (c.sent_of-sent.ensures.token ∙ ap (λ (n : ListName). server_token versions.epoch n c.in_ok-version.version) name)
+    let set : List (List ℕ) = c.in_ok-set.field-0 in
+    let token : List ℕ = c.state_token-token.result in
+    IfOk-weaker c.full_update.result (Made versions asked set token c.in_ok-version.version) (Wanted versions asked set token c.in_ok-version.version)
+    (wanted versions asked set token c.in_ok-version.version
+    (c.in_ok-set.ensures ∙ ap (λ (n : ListName). prefixes_at versions n c.in_ok-version.version) name)
+    (c.state_token-token.ensures ∙ token_same c.epoch.result versions.epoch c.asked.inside.name asked.name c.in_ok-version.version c.epoch.ensures name)
     (c.in_ok-version.ensures.target ∙ target_same versions None c.asked.inside.name asked.name _ _ _ _ name c.limits_of.ensures.update c.limits_of.ensures.database))
     c.full_update.ensures
 
