@@ -1,13 +1,14 @@
-ghost use Rattle.std.specs.Prelude.{◌≡◌, ◌≤◌, true, Some, None, map, option_copied, All, IfOk, OnOk, IfSome};
+ghost use Rattle.std.specs.Prelude.{◌≡◌, ◌≤◌, true, Some, None, map, option_copied, IfOk, OnOk, IfSome};
 ghost use Rattle.sha2.specs.Sha256.{sha256};
 ghost use Rattle.sb_model.specs.Prefixes.{concatenation};
 ghost use Rattle.sb_model.specs.History.{declares, prefixes_at, version_count};
 ghost use Rattle.sb_model.specs.Target.{target_version};
-ghost use Rattle.update_messages.specs.Answer.{version_named, update_to, update_for};
+ghost use Rattle.update_messages.specs.Answer.{declared_items, version_named, update_to, update_for};
 ghost use Rattle.delta_server.specs.Served.{IsOlder, IsServed, LeadsToNewest};
 ghost use Rattle.delta_server.specs.Swept.{AreOf};
 ghost use Rattle.delta_server.specs.Tokens.{server_naming, server_token};
 
+use crate::answering::is_declared;
 use crate::served::{Served, older_prefixes, served_list, set_at};
 use crate::swept::Swept;
 use crate::targets::{Limits, newest_delta, older_target, whole_target};
@@ -246,19 +247,21 @@ fn answer_item(
     }
 }
 
-/// The updates of asked lists that are declared, in order. A list is swept at most once.
+/// The updates of those asked lists that are declared, in their order. A list is swept at most once.
 pub(crate) fn answer_items(
     alloc: Global,
     history: &History,
     items: &[ListRequest],
 ) -> Result<Row<ListUpdate>, OutOfMemory>
-    requires { All (λ asked. declares history.now.versions asked.name ≡ true) items.now }
-    ensures { IfOk result (λ updates. updates
-        ≡ map (update_for history.now.versions (server_naming history.now.versions)) items.now) }
+    ensures { IfOk result (λ updates. updates ≡ map (update_for history.now.versions (server_naming history.now.versions))
+        (declared_items history.now.versions items.now)) }
 {
     let mut updates = Row::with_capacity(alloc, items.len())?;
     let mut swept = Swept::new(alloc);
     for asked in items {
+        if !is_declared(history, asked.name) {
+            continue;
+        }
         updates.push(answer_item(alloc, history, &mut swept, asked)?)?;
     }
     Ok(updates)
