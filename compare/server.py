@@ -252,11 +252,8 @@ def answer_item(journal, asked):
 
 
 def fetch_body(journal, text, times):
-    """The body of the answer to a fetch request."""
-    items = read_request(text)
-    for place, asked in enumerate(items):
-        if asked["name"] not in journal.declared:
-            raise Unreadable(f"unknown-list {place}")
+    """The body of the answer to a fetch request. Lists that are not declared have no item."""
+    items = [asked for asked in read_request(text) if asked["name"] in journal.declared]
     body = {}
     if items:
         body["listUpdateResponses"] = [answer_item(journal, asked) for asked in items]
