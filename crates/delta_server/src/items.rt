@@ -247,6 +247,13 @@ fn answer_item(
     }
 }
 
+// Whether the list of an item is declared.
+fn is_known(history: &History, asked: &ListRequest) -> bool
+    ensures { result ≡ declares history.now.versions asked.now.name }
+{
+    is_declared(history, asked.name)
+}
+
 /// The updates of those asked lists that are declared, in their order. A list is swept at most once.
 pub(crate) fn answer_items(
     alloc: Global,
@@ -259,7 +266,7 @@ pub(crate) fn answer_items(
     let mut updates = Row::with_capacity(alloc, items.len())?;
     let mut swept = Swept::new(alloc);
     for asked in items {
-        if !is_declared(history, asked.name) {
+        if !is_known(history, asked) {
             continue;
         }
         updates.push(answer_item(alloc, history, &mut swept, asked)?)?;
