@@ -1,12 +1,11 @@
 -- Declared lists, targets that need no walk, and answers part by part.
-use Rattle.std.proofs.Common.{◌≡◌, ℕ, ◌+◌, ◌<◌, ◌≤◌, inl, inr, Bool, true, false, cond, not, List, [], ◌∷◌, ◌++◌, length, map, take, get_or, refl, sym, ap, ◌∙◌, arith, Option, Some, None}
+use Rattle.std.proofs.Common.{◌≡◌, ℕ, ◌+◌, ◌<◌, ◌≤◌, inl, inr, Bool, true, false, cond, not, List, [], ◌∷◌, ◌++◌, length, map, take, get_or, append-nil, refl, sym, ap, ◌∙◌, arith, Option, Some, None}
 use Rattle.std.specs.Prelude.{◌==◌, ◌&&◌, ◌||◌, nat_le, filter, find, is_some, All}
-use Rattle.std.specs.List.{list_any, enumerate_from, position_or_len, slice_index_or}
+use Rattle.std.specs.List.{list_any, enumerate_from}
 use Rattle.std.specs.Option.{IfSome, option_map}
-use Rattle.std.proofs.lemmas.Bool.{le-leb, leb-true, lt-ltb, cases_lt}
+use Rattle.std.proofs.lemmas.Bool.{le-leb, leb-true}
 use Rattle.std.proofs.lemmas.List.{map-append, take_more}
-use Rattle.std.proofs.lemmas.List.Elements.{All-weaker}
-use Rattle.std.proofs.lemmas.List.Sums.{fails_before_first}
+use Rattle.std.proofs.lemmas.List.Elements.{All-weaker, filter-append}
 use Rattle.std.proofs.lemmas.Option.{same_Some}
 use Rattle.sb_model.specs.declared.history.Change.{Change}
 use Rattle.sb_model.specs.declared.names.ListName.{ListName}
@@ -17,7 +16,6 @@ use Rattle.sb_model.specs.Target.{is_within, can_reach, target_version}
 use Rattle.list_versions.specs.Journal.{declared_size_of}
 use Rattle.update_messages.specs.Answer.{version_named, size_in, declared_size, update_to, update_for}
 use Rattle.update_messages.specs.Messages.{AskedList, UpdatedList}
-use Rattle.delta_server.specs.Answering.{first_unknown}
 use Rattle.delta_server.specs.Tokens.{server_token, server_naming}
 use Rattle.delta_server.specs.Updates.{whole_update, difference_update}
 use Rattle.delta_server.specs.Walk.{HasSizes, may_take, held_set}
@@ -54,21 +52,6 @@ each_has_sizes history keeps =
     All-weaker (λ (change : Change). All (λ added. (length added.hash ≡ 32) × IsPrefixSize added.size) change.adds) HasSizes
     (λ change each. All-weaker (λ added. (length added.hash ≡ 32) × IsPrefixSize added.size) (λ added. IsPrefixSize added.size) (λ added both. both.1) change.adds each)
     history.changes keeps.adds
-
--- where no item is unknown, each is declared
-pub each_declared : (history : History) (items : List AskedList) → first_unknown history items ≡ None → All (λ asked. declares history asked.name ≡ true) items
-each_declared history items none k d below =
-    elim (cases_lt (position_or_len (λ (asked : AskedList). not (declares history asked.name)) items) (length items)) [
-      | inl inside ↦ absurd (some_none _ (rw (lt-ltb (position_or_len (λ (asked : AskedList). not (declares history asked.name)) items) (length items) inside) at none))
-      | inr past ↦ not_false (declares history (slice_index_or items k d).name) (fails_before_first (λ (asked : AskedList). not (declares history asked.name)) items k d (omega arith))
-    ]
-  where
-    some_none : (n : ℕ) → Some n ≡ None → ⊥
-    some_none n is = cc
-
-    not_false : (b : Bool) → not b ≡ false → b ≡ true
-    not_false true is = refl
-    not_false false is = absurd (cc)
 
 -- ---- targets that need no walk
 
@@ -169,9 +152,23 @@ pub target_same : (history : History) (from : Option ℕ) (n m : ListName) (u v 
 target_same history from n m u v d e name update database =
     ap (λ (l : ListName). target_version history l from u d) name ∙ ap (λ k. target_version history m from k d) update ∙ ap (λ k. target_version history m from v k) database
 
--- one answer more
-pub answered_more : {X Y : Type 0} (f : X → Y) (xs : List X) (i : ℕ) (x : X) (old new : List Y) (y : Y) → i < length xs → x ≡ get_or xs i x
-    → old ≡ map f (take i xs) → y ≡ f x → new ≡ old ++ y ∷ [] → new ≡ map f (take (i + 1) xs)
-answered_more f xs i x old new y below is before made pushed =
-    pushed ∙ ap (λ (ys : List _). ys ++ y ∷ []) before ∙ ap (λ (z : _). map f (take i xs) ++ z ∷ []) (made ∙ ap f is)
-    ∙ sym (map-append f (take i xs) (get_or xs i x ∷ [])) ∙ ap (map f) (sym (take_more xs i x below))
+-- ---- items that pass a test, one by one
+
+module _ {X : Type 0} (p : X → Bool) (xs : List X) (i : ℕ) (x : X) (below : i < length xs) (is : x ≡ get_or xs i x) where
+  one_further : filter p (take (i + 1) xs) ≡ filter p (take i xs) ++ filter p (x ∷ [])
+  one_further =
+      ap (filter p) (take_more xs i x below) ∙ filter-append p (take i xs) (get_or xs i x ∷ [])
+      ∙ ap (λ (y : X). filter p (take i xs) ++ filter p (y ∷ [])) (sym is)
+
+  -- one that does not pass
+  pub left_out : p x ≡ false → filter p (take i xs) ≡ filter p (take (i + 1) xs)
+  left_out fails =
+      sym (one_further ∙ ap (λ (b : Bool). filter p (take i xs) ++ cond b (x ∷ []) []) fails ∙ append-nil (filter p (take i xs)))
+
+  -- one answer more
+  pub answered_more : {Y : Type 0} (f : X → Y) (old new : List Y) (y : Y) → p x ≡ true → old ≡ map f (filter p (take i xs)) → y ≡ f x → new ≡ old ++ y ∷ []
+      → new ≡ map f (filter p (take (i + 1) xs))
+  answered_more f old new y passes before made pushed =
+      pushed ∙ ap (λ (ys : List _). ys ++ y ∷ []) before ∙ ap (λ (z : _). map f (filter p (take i xs)) ++ z ∷ []) made
+      ∙ sym (map-append f (filter p (take i xs)) (x ∷ []))
+      ∙ ap (map f) (sym (one_further ∙ ap (λ (b : Bool). filter p (take i xs) ++ cond b (x ∷ []) []) passes))

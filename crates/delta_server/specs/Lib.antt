@@ -1,4 +1,3 @@
-pub mod Answering
 pub mod Counts
 pub mod Finding
 pub mod Passages

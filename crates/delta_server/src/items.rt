@@ -299,19 +299,28 @@ fn answer_item(
     }
 }
 
-/// The updates of asked lists that are declared, in order. A list is swept at most once.
+// Whether the list of an item is declared.
+fn is_known(history: &History, asked: &ListRequest) -> bool
+    ensures { result ≡ declares history.now.versions asked.now.name }
+{
+    is_declared(history, asked.name)
+}
+
+/// The updates of those asked lists that are declared, in their order. A list is swept at most once.
 pub(crate) fn answer_items(
     alloc: Global,
     history: &History,
     items: &[ListRequest],
 ) -> Result<Row<ListUpdate>, OutOfMemory>
-    requires { All (λ asked. declares history.now.versions asked.name ≡ true) items.now }
-    ensures { IfOk result (λ updates. updates
-        ≡ map (update_for history.now.versions (server_naming history.now.versions)) items.now) }
+    ensures { IfOk result (λ updates. updates ≡ map (update_for history.now.versions (server_naming history.now.versions))
+        (declared_items history.now.versions items.now)) }
 {
     let mut updates = Row::with_capacity(alloc, items.len())?;
     let mut swept = Swept::new(alloc);
     for asked in items {
+        if !is_known(history, asked) {
+            continue;
+        }
         updates.push(answer_item(alloc, history, &mut swept, asked)?)?;
     }
     Ok(updates)

@@ -1,13 +1,12 @@
 //! What a list server answers: the state tokens of its versions, the version that a client is
 //! brought to, the update that leads there, and the answers to a fetch request and to a find request.
 //!
-//! `specs/Tokens.antt` has the naming of versions, `Updates` an update between two sets,
-//! `Answering` which fetch request is refused, and `Finding` parts of the answer to a find request.
-//! The answer to a whole fetch request is defined in `update_messages`, for any naming, and that to
-//! a find request in `hash_messages`.
+//! `specs/Tokens.antt` has the naming of versions, `Updates` an update between two sets, and
+//! `Finding` parts of the answer to a find request. The answer to a whole fetch request is defined
+//! in `update_messages`, for any naming, and that to a find request in `hash_messages`.
 #![tactic(auto)]
 
-pub use answering::{ServeFault, Settings, answer_fetch};
+pub use answering::{Settings, answer_fetch};
 pub use finding::answer_find;
 pub use laws::tokens_name_versions;
 pub use naming::{read_token, token_of};

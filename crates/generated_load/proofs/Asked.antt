@@ -1,24 +1,35 @@
 -- The two answers of an exercise.
-use Rattle.std.proofs.Common.{◌≡◌, ℕ, ◌+◌, ◌≤◌, List, [], ◌∷◌, Bool, false, cond, refl, sym, ap, ◌∙◌, arith, Option, Some, None}
+use Rattle.std.proofs.Common.{◌≡◌, ℕ, ◌+◌, ◌<◌, ◌≤◌, length, map, List, [], ◌∷◌, Bool, true, false, cond, refl, sym, ap, ◌∙◌, arith, Option, Some, None}
 use Rattle.std.specs.Prelude.{IsTrue, find, slice_get, Result, Ok, Err, IfOk}
 use Rattle.std.specs.List.{range_with_len}
 use Rattle.std.specs.Str.{bytes_eq}
 use Rattle.sha2.specs.Sha256.{sha256}
-use Rattle.sb_model.specs.History.{History, prefixes_at, version_count}
+use Rattle.sb_model.specs.History.{History, declares, prefixes_at, version_count}
 use Rattle.sb_model.specs.Prefixes.{concatenation}
 use Rattle.sb_model.specs.Target.{can_reach, target_version}
-use Rattle.update_messages.specs.Answer.{fetch_answer, update_to, version_named}
+use Rattle.update_messages.specs.Answer.{fetch_answer, update_for, update_to, version_named}
 use Rattle.update_messages.specs.Messages.{UpdatedList}
 use Rattle.update_messages.specs.declared.response.FetchResponse.{FetchResponse}
 use Rattle.delta_server.specs.Tokens.{server_naming, server_token}
 use Rattle.generated_load.specs.Exercise.{asked_with, newest_set, request_with, update_with}
 use Rattle.generated_load.specs.Generated.{generated_list}
 
--- the one item of an answer
-pub item_is : (history : History) (state : List ℕ) (response : FetchResponse) (update : UpdatedList) → response ≡ fetch_answer history (server_naming history) 0 (request_with state)
-    → slice_get response.items 0 ≡ Some update → update ≡ update_with history state
-item_is history state response update answer at =
-    let found : Some update ≡ Some (update_with history state) = sym at ∙ ap (λ (r : FetchResponse). slice_get r.items 0) answer in
+-- an answer has one item where the list is declared
+one_item : (history : History) (state : List ℕ) → declares history generated_list ≡ true
+    → (fetch_answer history (server_naming history) 0 (request_with state)).items ≡ update_with history state ∷ []
+one_item history state known = ap (λ (b : Bool). map (update_for history (server_naming history)) (cond b (asked_with state ∷ []) [])) known
+
+pub has_item : (history : History) (state : List ℕ) (response : FetchResponse) → declares history generated_list ≡ true
+    → response ≡ fetch_answer history (server_naming history) 0 (request_with state) → 0 < length response.items
+has_item history state response known answer =
+    let count = ap (λ (r : FetchResponse). length r.items) answer ∙ ap length (one_item history state known) in omega (arith, count)
+
+-- and this is it
+pub item_is : (history : History) (state : List ℕ) (response : FetchResponse) (update : UpdatedList) → declares history generated_list ≡ true
+    → response ≡ fetch_answer history (server_naming history) 0 (request_with state) → slice_get response.items 0 ≡ Some update → update ≡ update_with history state
+item_is history state response update known answer at =
+    let found : Some update ≡ Some (update_with history state) =
+    sym at ∙ ap (λ (r : FetchResponse). slice_get r.items 0) answer ∙ ap (λ (items : List UpdatedList). slice_get items 0) (one_item history state known) in
     cc
 
 -- ---- one who has nothing

@@ -1,12 +1,10 @@
-ghost use Rattle.std.specs.Prelude.{◌≡◌, ◌≢◌, ◌≤◌, None, length, IfOk, IsErrOf};
+ghost use Rattle.std.specs.Prelude.{◌≡◌, ◌≤◌, length, IfOk};
 ghost use Rattle.update_messages.specs.Answer.{fetch_answer};
-ghost use Rattle.delta_server.specs.Answering.{serve_fault};
 ghost use Rattle.delta_server.specs.Tokens.{server_naming};
 ghost use Rattle.generated_load.specs.Exercise.{request_with};
 
-use crate::ExerciseFault;
 use crate::changes::LIST;
-use delta_server::{ServeFault, Settings, answer_fetch};
+use delta_server::{Settings, answer_fetch};
 use list_versions::History;
 use sb_model::{Bytes, OutOfMemory, Row, Text};
 use std::alloc::Global;
@@ -49,16 +47,11 @@ pub(crate) fn answer_to(
     alloc: Global,
     history: &History,
     state: &[u8],
-) -> Result<FetchResponse, ExerciseFault>
+) -> Result<FetchResponse, OutOfMemory>
     requires { length state.now ≤ 4096 }
-    ensures answer { IfOk result (λ response. response
+    ensures { IfOk result (λ response. response
         ≡ fetch_answer history.now.versions (server_naming history.now.versions) 0 (request_with state.now)) }
-    ensures past { IsErrOf result ExerciseFault.PastLimits → serve_fault history.now.versions (request_with state.now) ≢ None }
 {
     let request = request_with(alloc, state)?;
-    match answer_fetch(alloc, history, &SETTINGS, &request) {
-        Ok(response) => Ok(response),
-        Err(ServeFault::UnknownList(_)) => Err(ExerciseFault::PastLimits),
-        Err(ServeFault::OutOfMemory) => Err(ExerciseFault::OutOfMemory),
-    }
+    answer_fetch(alloc, history, &SETTINGS, &request)
 }

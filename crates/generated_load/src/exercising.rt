@@ -1,4 +1,4 @@
-ghost use Rattle.std.specs.Prelude.{◌≡◌, ◌++◌, false, IfOk, OnOk, IsErrOf};
+ghost use Rattle.std.specs.Prelude.{◌≡◌, ◌++◌, true, false, IfOk, OnOk, IsErrOf};
 ghost use Rattle.sha2.specs.Sha256.{sha256};
 ghost use Rattle.sb_model.specs.History.{declares};
 ghost use Rattle.sb_model.specs.Prefixes.{concatenation};
@@ -65,9 +65,9 @@ fn push_checksum(page: &mut Bytes, checksum: &[u8; 32]) -> Result<(), OutOfMemor
 }
 
 // The checksum of the answer to one who has nothing.
-fn first_checksum(alloc: Global, history: &History) -> Result<[u8; 32], ExerciseFault>
-    ensures checksum { IfOk result (λ checksum. checksum ≡ sha256 (concatenation (newest_set history.now.versions))) }
-    ensures past { IsErrOf result ExerciseFault.PastLimits → declares history.now.versions generated_list ≡ false }
+fn first_checksum(alloc: Global, history: &History) -> Result<[u8; 32], OutOfMemory>
+    requires { declares history.now.versions generated_list ≡ true }
+    ensures { IfOk result (λ checksum. checksum ≡ sha256 (concatenation (newest_set history.now.versions))) }
 {
     targets_are_the_greatest();
     let response = answer_to(alloc, history, &[])?;
@@ -75,12 +75,12 @@ fn first_checksum(alloc: Global, history: &History) -> Result<[u8; 32], Exercise
 }
 
 // The entries of the answer to one who has the version after so many changes.
-fn second_counts(alloc: Global, history: &History, version: u32) -> Result<Counts, ExerciseFault>
+fn second_counts(alloc: Global, history: &History, version: u32) -> Result<Counts, OutOfMemory>
+    requires { declares history.now.versions generated_list ≡ true }
     ensures removals { IfOk result (λ counts. counts.removals ≡ removals_in
         (update_with history.now.versions (server_naming history.now.versions generated_list version))) }
     ensures additions { IfOk result (λ counts. counts.additions ≡ additions_in
         (update_with history.now.versions (server_naming history.now.versions generated_list version))) }
-    ensures past { IsErrOf result ExerciseFault.PastLimits → declares history.now.versions generated_list ≡ false }
 {
     let token = token_of(history, LIST, u64::from(version));
     let response = answer_to(alloc, history, &token)?;

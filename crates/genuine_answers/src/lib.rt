@@ -2,8 +2,8 @@
 //! read is an update that the client of `update_client` may trust, as far as it trusts the journal.
 #![tactic(auto)]
 
-ghost use Rattle.std.specs.Prelude.{ℕ, ◌<◌, ◌≤◌, All, IsTrue};
-ghost use Rattle.sb_model.specs.History.{declares, up_to_version, version_count};
+ghost use Rattle.std.specs.Prelude.{ℕ, ◌<◌, ◌≤◌, All};
+ghost use Rattle.sb_model.specs.History.{up_to_version, version_count};
 ghost use Rattle.update_messages.specs.Messages.{Request};
 ghost use Rattle.update_messages.specs.Answer.{fetch_answer};
 ghost use Rattle.update_client.specs.Genuine.{IsAnswerItem};
@@ -46,17 +46,15 @@ fn hashes_are_bytes(changes: &[Change])
 
 /// Each item of what `answer_fetch` answers from a history that was read of a journal is an update that the server could have
 /// made, and a partial one names the state that it was made for. So it is of what was answered when the journal had fewer
-/// changes.
+/// changes. The request may ask for any lists.
 pub fn served_answers_are_genuine(history: &History)
     // What is answered now.
     ensures now { (wait : ℕ) (request : Request)
-        → All (λ asked. IsTrue (declares history.now.versions asked.name)) request.items
         → All (IsAnswerItem history.now.versions (server_naming history.now.versions))
         (fetch_answer history.now.versions (server_naming history.now.versions) wait request).items }
 
     // What was answered at an earlier version.
     ensures earlier { (count wait : ℕ) (request : Request) → count ≤ version_count history.now.versions
-        → All (λ asked. IsTrue (declares history.now.versions asked.name)) request.items
         → All (IsAnswerItem history.now.versions (server_naming history.now.versions))
         (fetch_answer (up_to_version count history.now.versions) (server_naming history.now.versions) wait request).items }
 {

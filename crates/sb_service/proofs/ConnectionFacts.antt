@@ -15,14 +15,13 @@ use Rattle.http_serving.specs.declared.ends.ConnectionEnd.{ConnectionEnd}
 use Rattle.http_serving.specs.declared.responses.Response.{Response}
 use Rattle.sb_json.specs.declared.faults.MessageFault.{MessageFault}
 use Rattle.sb_json.specs.declared.faults.MessageFault.TheVariants.{OutOfMemory as no_memory}
-use Rattle.delta_server.specs.Answering.{serve_fault}
 use Rattle.delta_server.specs.declared.answering.Settings.{Settings}
 use Rattle.update_messages.specs.Messages.{Request}
 use Rattle.update_messages.specs.Reading.{ReadsRequest as ReadsMessage, IsTextOf}
 use Rattle.hash_messages.specs.Messages.{AskedHashes}
 use Rattle.hash_messages.specs.Reading.{ReadsFindRequest}
 use Rattle.sb_service.specs.Connection.{IsTextAt, updates_text, matches_text, IsResponseAt, IsResponseTo, HasGoodRequest}
-use Rattle.sb_service.specs.ConnectionSteps.{IsResponseToMessage, IsBareRefusal}
+use Rattle.sb_service.specs.ConnectionSteps.{IsBareRefusal}
 
 -- ---- one message
 
@@ -40,8 +39,8 @@ one_message Reads one text a b (v, says, reads) (w, tells, reads') =
 -- ---- one answer
 
 one_text : ReadsOneWay → (history : History) (times : Settings) (place : ℕ) (body a b : List ℕ) → IsTextAt history times place body a → IsTextAt history times place body b → a ≡ b
-one_text one history times zero body a b (m, asks, is) (n, asks', is') =
-    is ∙ ap (updates_text history times) (one_message ReadsMessage one.updates body m n asks.reads asks'.reads) ∙ sym is'
+one_text one history times zero body a b (m, reads, is) (n, reads', is') =
+    is ∙ ap (updates_text history times) (one_message ReadsMessage one.updates body m n reads reads') ∙ sym is'
 one_text one history times (suc place) body a b (m, reads, is) (n, reads', is') =
     is ∙ ap (matches_text history times) (one_message ReadsFindRequest one.hashes body m n reads reads') ∙ sym is'
 
@@ -83,18 +82,9 @@ complete_of history times how (Some pieces) before after is = λ text good.
 -- ---- the steps to a response
 
 pub response_of_message : (history : History) (times : Settings) (request : HttpRequest) (message : Request) (status : Status) (allow : Allow) (body : List ℕ)
-    → IsTextOf ReadsMessage request.body message → ((other : Request) → IsTextOf ReadsMessage request.body other → message ≡ other)
-    → IsResponseToMessage history times message status body → IsResponseAt history times 0 request status allow body
-response_of_message history times request message Success allow body reads only is = (message, record { reads = reads; declared = is.0 }, is.1)
-response_of_message history times request message BadRequest allow body reads only is =
-    (λ text asks. is.0 (subst (λ (m : Request). serve_fault history m ≡ None) (sym (only asks.0 asks.1.reads)) asks.1.declared), is.1)
-response_of_message history times request message NotFound allow body reads only is = absurd is
-response_of_message history times request message MethodNotAllowed allow body reads only is = absurd is
-response_of_message history times request message LengthRequired allow body reads only is = absurd is
-response_of_message history times request message ContentTooLarge allow body reads only is = absurd is
-response_of_message history times request message FieldsTooLarge allow body reads only is = absurd is
-response_of_message history times request message BadGateway allow body reads only is = absurd is
-response_of_message history times request message ServiceUnavailable allow body reads only is = absurd is
+    → IsTextOf ReadsMessage request.body message → status ≡ Success → body ≡ updates_text history times message → IsResponseAt history times 0 request status allow body
+response_of_message history times request message status allow body reads success is =
+    subst (λ (s : Status). IsResponseAt history times 0 request s allow body) (sym success) (message, reads, is)
 
 -- a body that was refused reads as no message, unless memory was refused
 pub body_refused : (history : History) (times : Settings) (request : HttpRequest) (text : List ℕ) (refusal : MessageFault) (result : Result Response OutOfMemory)
@@ -103,7 +93,7 @@ pub body_refused : (history : History) (times : Settings) (request : HttpRequest
     → IfOk result (λ r. IsResponseAt history times 0 request r.status r.allow r.body)
 body_refused history times request text refusal (Ok r) same only is =
     subst (λ (s : Status). IsResponseAt history times 0 request s r.allow r.body) (sym is.bad)
-    (λ other asks. is.some (only asks.0 (subst (λ (t : List ℕ). IsTextOf ReadsMessage t asks.0) (sym same) asks.1.reads)), is.bare)
+    (λ other asks. is.some (only asks.0 (subst (λ (t : List ℕ). IsTextOf ReadsMessage t asks.0) (sym same) asks.1)), is.bare)
 body_refused history times request text refusal (Err refused) same only is = tt
 
 pub hashes_answered : (history : History) (times : Settings) (request : HttpRequest) (text : List ℕ) (message : AskedHashes) (result : Result Response OutOfMemory)

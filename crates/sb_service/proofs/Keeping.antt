@@ -19,19 +19,19 @@ use Rattle.http_serving.specs.Written.{IsRightAnswer, IsTextOfRight}
 use Rattle.http_serving.specs.declared.responses.Answer.{Answer}
 use Rattle.http_serving.specs.declared.responses.Answer.TheVariants as answer
 use Rattle.http_serving.specs.declared.responses.Response.{Response}
+use Rattle.list_versions.specs.Journal.{Kept}
 use Rattle.list_versions.specs.Limits.{WithinLimits}
 use Rattle.update_messages.specs.Messages.{Request}
 use Rattle.update_messages.specs.Reading.{ReadsRequest, IsTextOf}
 use Rattle.update_messages.specs.Writing.{spelling_of_response}
-use Rattle.delta_server.specs.declared.answering.ServeFault.TheVariants as serve
 use Rattle.delta_server.specs.declared.answering.Settings.{Settings}
-use Rattle.sb_service.specs.Connection.{IsResponseAt, IsUpdatesText}
-use Rattle.sb_service.specs.ConnectionSteps.{IsResponseToMessage, IsSentAs, MayBeKept}
+use Rattle.sb_service.specs.Connection.{updates_text, IsResponseAt, IsUpdatesText}
+use Rattle.sb_service.specs.ConnectionSteps.{IsSentAs, MayBeKept}
 use Rattle.sb_service.specs.Kept.{after_asking, after_body, after_wishes, first_text, has_wishes, is_for_whole, nothing_kept, place_by_body, place_by_wishes, text_at, text_by_body, text_by_wishes, AreKeptOf, HasKept, HasKeptIn, IsKeptOf, KeptLists}
 use Rattle.sb_service.specs.Wish.{same_choice, same_version, same_wish, AreWishesOf, IsWishedText}
 use Rattle.sb_service.specs.declared.kept.KeptAnswer.{KeptAnswer}
 use Rattle.sb_service.specs.declared.wish.Wish.{Wish}
-use Rattle.sb_service.proofs.Wishes.{answered, items_declared, none_unknown, wishes_declared}
+use Rattle.sb_service.proofs.Wishes.{answered}
 
 -- ---- which wishes are the same
 
@@ -145,11 +145,7 @@ module _ (history : History) (times : Settings) (request : HttpRequest) where
       record {
         allow = kept.allow;
         body = kept.body;
-        right = (
-          message,
-          record { reads = reads; declared = ap (option_map serve.UnknownList) (none_unknown history message.items (items_declared history limits message.items wishes wish)) },
-          kept.right.spelled ∙ ap spelling_of_response (sym (answered history limits times.wait message wishes wish)),
-        );
+        right = (message, reads, kept.right ∙ ap spelling_of_response (sym (answered history limits times.wait message wishes wish)));
         whole = sym found.text_is ∙ kept.whole;
       }
 
@@ -167,16 +163,15 @@ module _ (history : History) (times : Settings) (request : HttpRequest) where
 -- ---- what is kept of a text
 
 -- a written text that was shared and kept
-pub kept_written : (asked : List ℕ) (wishes : Option (List Wish)) (response : Response) (text shared : List ℕ) (before between after : KeptLists) → response.status ≡ Success
+pub kept_written : (asked : List ℕ) (wishes : Option (List Wish)) (response : Response) (text shared : List ℕ) (before between after : KeptLists)
     → text ≡ response_text response.status response.allow response.body → shared ≡ text → between ≡ before
     → HasKeptIn (record { asked = asked; wishes = wishes; text = shared }) (is_for_whole wishes) between after → MayBeKept asked wishes response before after
-kept_written asked wishes response text shared before between after success whole is same has =
+kept_written asked wishes response text shared before between after whole is same has =
     let made : List ℕ → KeptAnswer = λ t. record { asked = asked; wishes = wishes; text = t } in
     let written : List ℕ = response_text response.status response.allow response.body in
     inr (
-      success,
-      subst (λ (b : KeptLists). HasKeptIn (made written) (is_for_whole wishes) b after) same
-          (subst (λ (t : List ℕ). HasKeptIn (made t) (is_for_whole wishes) between after) (is ∙ whole) has),
+    subst (λ (b : KeptLists). HasKeptIn (made written) (is_for_whole wishes) b after) same
+    (subst (λ (t : List ℕ). HasKeptIn (made t) (is_for_whole wishes) between after) (is ∙ whole) has)
     )
 
 -- ---- what was asked for goes behind the others
@@ -225,41 +220,35 @@ module _ (history : History) (times : Settings) where
   -- the text of a response with the status 200 to a message may be kept
   may_be_kept : WithinLimits history → (request : HttpRequest) (message : Request) (asked : List ℕ) (wishes : Option (List Wish)) (response : Response) → asked ≡ request.body
       → IsTextOf ReadsRequest request.body message → IfSome wishes (AreWishesOf history message.items) → response.status ≡ Success
-      → IsResponseToMessage history times message response.status response.body
+      → response.body ≡ updates_text history times message
       → IsKeptOf history times (record { asked = asked; wishes = wishes; text = response_text response.status response.allow response.body })
   may_be_kept limits request message asked wishes response same reads wish success right = record {
     asked = record {
       allow = response.allow;
       body = response.body;
-      right = (message, record { reads = subst (λ (a : List ℕ). IsTextOf ReadsRequest a message) (sym same) reads; declared = is.0 }, is.1);
+      right = (message, subst (λ (a : List ℕ). IsTextOf ReadsRequest a message) (sym same) reads, right);
       whole = ap (λ (s : Status). response_text s response.allow response.body) success;
     };
     wished = of wishes wish;
   }
     where
-      is : IsResponseToMessage history times message Success response.body
-      is = subst (λ (s : Status). IsResponseToMessage history times message s response.body) success right
-
       of : (ws : Option (List Wish)) → IfSome ws (AreWishesOf history message.items)
           → IfSome ws (λ own. IsTextOfRight (λ status allow body. IsWishedText history times own body) Success (response_text response.status response.allow response.body))
       of None are = tt
       of (Some own) are = record {
         allow = response.allow;
         body = response.body;
-        right = record {
-          declared = wishes_declared history limits message.items own are;
-          spelled = is.1 ∙ ap spelling_of_response (answered history limits times.wait message own are);
-        };
+        right = right ∙ ap spelling_of_response (answered history limits times.wait message own are);
         whole = ap (λ (s : Status). response_text s response.allow response.body) success;
       }
 
   pub kept_after : WithinLimits history → (request : HttpRequest) (message : Request) (asked : List ℕ) (wishes : Option (List Wish)) (response : Response) (before after : KeptLists) → asked ≡ request.body
-      → IsTextOf ReadsRequest request.body message → IfSome wishes (AreWishesOf history message.items)
-      → IsResponseToMessage history times message response.status response.body → AreKeptOf history times before → MayBeKept asked wishes response before after → AreKeptOf history times after
-  kept_after limits request message asked wishes response before after same reads wish right are (inl e) = subst (AreKeptOf history times) (sym e) are
-  kept_after limits request message asked wishes response before after same reads wish right are (inr has) =
+      → IsTextOf ReadsRequest request.body message → IfSome wishes (AreWishesOf history message.items) → response.status ≡ Success
+      → response.body ≡ updates_text history times message → AreKeptOf history times before → MayBeKept asked wishes response before after → AreKeptOf history times after
+  kept_after limits request message asked wishes response before after same reads wish success right are (inl e) = subst (AreKeptOf history times) (sym e) are
+  kept_after limits request message asked wishes response before after same reads wish success right are (inr has) =
       one_more_kept (record { asked = asked; wishes = wishes; text = response_text response.status response.allow response.body }) (is_for_whole wishes) before after are
-      (may_be_kept limits request message asked wishes response same reads wish has.0 right) has.1
+      (may_be_kept limits request message asked wishes response same reads wish success right) has
 
   -- ---- what is sent of it
 
@@ -284,3 +273,10 @@ module _ (history : History) (times : Settings) where
   pub none_kept : (kept : KeptLists) → kept ≡ nothing_kept → AreKeptOf history times kept
   none_kept kept none =
       subst (AreKeptOf history times) (sym none) (record { whole = All-nil (IsKeptOf history times); others = All-nil (IsKeptOf history times) })
+
+-- ---- a history that may have grown
+
+pub kept_or_forgotten : (old new : Kept) (times : Settings) (kept : KeptLists) (grown : Bool) → (grown ≡ false → new ≡ old) → AreKeptOf old.versions times kept
+    → AreKeptOf new.versions times (if grown then nothing_kept else kept)
+kept_or_forgotten old new times kept true same are = none_kept new.versions times nothing_kept refl
+kept_or_forgotten old new times kept false same are = subst (λ (k : Kept). AreKeptOf k.versions times kept) (sym (same refl)) are

@@ -3,13 +3,11 @@ pub mod ConnectionFacts
 pub mod Entries
 pub mod Faults
 pub mod Fronts
-pub mod Growing
 pub mod Journals
 pub mod Keeping
 pub mod Loads
 pub mod Rooms
 pub mod Runs
-pub mod Staying
 pub mod Stops
 pub mod Turns
 pub mod Wishes

@@ -20,7 +20,7 @@ use Rattle.hash_messages.specs.Reading.{ReadsFindRequest}
 use Rattle.sb_service.specs.declared.command.MessageKind.{MessageKind}
 use Rattle.sb_service.specs.declared.command.MessageKind.TheVariants.{Fetch, Find}
 use Rattle.delta_server.specs.declared.answering.Settings.{Settings}
-use Rattle.sb_service.specs.Printed.{Reply, answer_line, reply_to_fetch, reply_to_find, reply_unless, reply_with}
+use Rattle.sb_service.specs.Printed.{Reply, answer_line, reply_to_fetch, reply_to_find, reply_with}
 use Rattle.sb_service.specs.Answer.{IsAnswerOf, AfterInput, AfterJournal, InputOutcome, IsAnswerRun, IsFetchOf, IsFindOf, IsInputRun, IsReplied, IsReplyTo, IsWritten, HasNoFault, IsStatus, most_body}
 use Rattle.sb_service.proofs.ConnectionFacts.{ReadsOneWay, one_message}
 use Rattle.sb_service.proofs.Loads.{IsLoadedAs, loaded_as}
@@ -51,8 +51,8 @@ one_find law body request (Err fault) reads h = absurd (no_fault ReadsFindReques
 -- the reply to a body that has an answer
 reply_is : ReadsOrFails → (versions : History) (times : Settings) (asked : MessageKind) (body text : List ℕ) (reply : Reply) → IsAnswerOf versions times asked body text → IsReplyTo versions times asked body reply
     → reply ≡ reply_with text
-reply_is law versions times Fetch body text reply (message, asks, is) (reading, read, same) =
-    same ∙ ap (reply_to_fetch versions times) (one_fetch law body message reading asks.reads read) ∙ ap (reply_unless versions times message) asks.declared ∙ ap reply_with (sym is)
+reply_is law versions times Fetch body text reply (message, reads, is) (reading, read, same) =
+    same ∙ ap (reply_to_fetch versions times) (one_fetch law body message reading reads read) ∙ ap reply_with (sym is)
 reply_is law versions times Find body text reply (message, reads, is) (reading, read, same) =
     same ∙ ap (reply_to_find versions times) (one_find law body message reading reads read) ∙ ap reply_with (sym is)
 

@@ -1,14 +1,14 @@
 -- Requests that wish the same have one answer.
-use Rattle.std.proofs.Common.{◌≡◌, ◌+◌, ◌<◌, ◌≤◌, ℕ, zero, suc, Bool, true, false, not, cond, List, [], ◌∷◌, length, map, Option, Some, None, refl, sym, ap, ◌∙◌, arith}
-use Rattle.std.specs.Prelude.{◌==◌, ◌&&◌, ◌||◌, nat_lt, nat_le, filter, find, position, if◌then◌else◌, All, IfSome}
-use Rattle.std.specs.List.{enumerate_from, position_or_len, range_with_len}
+use Rattle.std.proofs.Common.{◌≡◌, ◌+◌, ◌<◌, ◌≤◌, ℕ, zero, suc, Bool, true, false, not, cond, List, [], ◌∷◌, ◌++◌, append-nil, get_or, length, map, take, Option, Some, None, refl, sym, ap, ◌∙◌, arith}
+use Rattle.std.specs.Prelude.{◌==◌, ◌&&◌, ◌||◌, nat_le, filter, find, if◌then◌else◌, IfSome}
+use Rattle.std.specs.List.{Any, enumerate_from, range_with_len}
 use Rattle.std.specs.Str.{bytes_eq}
 use Rattle.std.specs.declared.cmp.Ordering.{Ordering}
 use Rattle.std.specs.declared.cmp.Ordering.TheVariants.{Less, Equal, Greater}
 use Rattle.std.specs.Ordering.{match_ordering}
-use Rattle.std.proofs.lemmas.Bool.{leb-true, le-leb, ltb-true}
-use Rattle.std.proofs.lemmas.List.{length-map}
-use Rattle.std.proofs.lemmas.List.Elements.{All-cons, All-head, All-nil, All-tail}
+use Rattle.std.proofs.lemmas.Bool.{leb-true, le-leb}
+use Rattle.std.proofs.lemmas.List.{length-map, map-append, take_more}
+use Rattle.std.proofs.lemmas.List.Elements.{filter-append}
 use Rattle.std.proofs.lemmas.List.FromFn.{length-enumerate_from}
 use Rattle.std.proofs.lemmas.Slice.Eq.{bytes_eq-Decides}
 use Rattle.sb_model.specs.declared.names.ListName.{ListName}
@@ -17,10 +17,9 @@ use Rattle.sb_model.specs.History.{History, declares, prefix_of, prefixes_at, si
 use Rattle.sb_model.specs.Prefixes.{bytes_cmp, set_of, with_member}
 use Rattle.sb_model.specs.Target.{can_reach, greatest_up_to, is_within, target_version}
 use Rattle.list_versions.specs.Limits.{most_hashes, WithinLimits}
-use Rattle.update_messages.specs.Answer.{fetch_answer, update_for, update_to, version_named}
+use Rattle.update_messages.specs.Answer.{declared_items, fetch_answer, update_for, update_to, version_named}
 use Rattle.update_messages.specs.Messages.{AskedList, Request, UpdatedList}
 use Rattle.update_messages.specs.declared.response.FetchResponse.{FetchResponse}
-use Rattle.delta_server.specs.Answering.{first_unknown}
 use Rattle.delta_server.specs.Tokens.{server_naming}
 use Rattle.sb_service.specs.declared.wish.Wish.{Wish}
 use Rattle.sb_service.specs.Wish.{is_free, newest_size, wish_of, wish_with, wished_answer, wished_update, AreWishesOf}
@@ -137,17 +136,12 @@ named history asked held is =
 
 -- ---- one item
 
-when_both : (a b : Bool) (made wish : Wish) → (if a && b then Some made else None) ≡ Some wish → (a ≡ true) × (b ≡ true) × (made ≡ wish)
-when_both true true made wish is = (refl, refl, cc)
+when_both : (a b : Bool) (made wish : Wish) → (if a && b then Some made else None) ≡ Some wish → (b ≡ true) × (made ≡ wish)
+when_both true true made wish is = (refl, cc)
 when_both true false made wish is = absurd (cc)
 when_both false b made wish is = absurd (cc)
 
 -- what an item is sent follows from its wish
-pub record IsWished (history : History) (asked : AskedList) (wish : Wish) : Type 0 where
-  pub update : update_for history (server_naming history) asked ≡ wished_update history wish
-  pub declared : declares history asked.name ≡ true
-  pub list : asked.name ≡ wish.list
-
 module _ (history : History) (limits : WithinLimits history) (asked : AskedList) where
   abbrev made : Option ℕ → Wish
   made held = record { list = asked.name; held = held; rice = asked.rice }
@@ -169,20 +163,15 @@ module _ (history : History) (limits : WithinLimits history) (asked : AskedList)
       ap (λ (state : List ℕ). update_to history (server_naming history) (record asked { state = state }) (Some held) (version_count history)) (sym (named history asked held is).token)
 
   by_version : (held : Option ℕ) (wish : Wish) → version_named history (server_naming history) asked.name asked.state ≡ held → wish_with history asked held ≡ Some wish
-      → (update_to history (server_naming history) asked held (target held) ≡ wished_update history wish) × (declares history asked.name ≡ true) × (asked.name ≡ wish.list)
+      → update_to history (server_naming history) asked held (target held) ≡ wished_update history wish
   by_version held wish is has =
       let both = when_both (declares history asked.name) (is_free history asked held) (made held) wish has in
       let newest : target held ≡ version_count history =
-      reaches_all (can_reach history asked.name held asked.max_update asked.max_database) (version_count history) (free_reaches history asked held limits (within held is) both.1) in (
-        ap (update_to history (server_naming history) asked held) newest ∙ same_update held is ∙ ap (wished_update history) both.2,
-        both.0,
-        ap (λ (w : Wish). w.list) both.2,
-      )
+      reaches_all (can_reach history asked.name held asked.max_update asked.max_database) (version_count history) (free_reaches history asked held limits (within held is) both.0) in
+      ap (update_to history (server_naming history) asked held) newest ∙ same_update held is ∙ ap (wished_update history) both.1
 
-  pub wished : (wish : Wish) → wish_of history asked ≡ Some wish → IsWished history asked wish
-  wished wish has =
-      let all = by_version (version_named history (server_naming history) asked.name asked.state) wish refl has in
-      record { update = all.0; declared = all.1; list = all.2 }
+  pub wished : (wish : Wish) → wish_of history asked ≡ Some wish → update_for history (server_naming history) asked ≡ wished_update history wish
+  wished wish has = by_version (version_named history (server_naming history) asked.name asked.state) wish refl has
 
 -- ---- all items
 
@@ -190,60 +179,67 @@ one_less : {X : Type 0} (x y : X) (xs ys : List X) → ◌≡◌ {A = List X} (x
 one_less x y xs ys same = (cc, cc)
 
 module _ (history : History) (limits : WithinLimits history) where
-  first_has : (asked : AskedList) (items : List AskedList) (wish : Wish) (wishes : List Wish) → AreWishesOf history (asked ∷ items) (wish ∷ wishes)
-      → IsWished history asked wish × AreWishesOf history items wishes
-  first_has asked items wish wishes are =
-      let both = one_less (wish_of history asked) (Some wish) (map (wish_of history) items) (map Some wishes) are in
-      (wished history limits asked wish both.0, both.1)
-
-  each_wished : (items : List AskedList) (wishes : List Wish) → AreWishesOf history items wishes → map (update_for history (server_naming history)) items ≡ map (wished_update history) wishes
+  each_wished : (items : List AskedList) (wishes : List Wish) → map (wish_of history) items ≡ map Some wishes → map (update_for history (server_naming history)) items ≡ map (wished_update history) wishes
   each_wished [] [] are = refl
   each_wished [] (wish ∷ wishes) are = absurd (cc)
   each_wished (asked ∷ items) [] are = absurd (cc)
   each_wished (asked ∷ items) (wish ∷ wishes) are =
-      let both = first_has asked items wish wishes are in
-      ap (λ (update : UpdatedList). update ∷ map (update_for history (server_naming history)) items) both.0.update
+      let both = one_less (wish_of history asked) (Some wish) (map (wish_of history) items) (map Some wishes) are in
+      ap (λ (update : UpdatedList). update ∷ map (update_for history (server_naming history)) items) (wished history limits asked wish both.0)
       ∙ ap (λ (updates : List UpdatedList). wished_update history wish ∷ updates) (each_wished items wishes both.1)
-
-  pub wishes_declared : (items : List AskedList) (wishes : List Wish) → AreWishesOf history items wishes → All (λ wish. declares history wish.list ≡ true) wishes
-  wishes_declared [] [] are = All-nil (λ (wish : Wish). declares history wish.list ≡ true)
-  wishes_declared [] (wish ∷ wishes) are = absurd (cc)
-  wishes_declared (asked ∷ items) [] are = absurd (cc)
-  wishes_declared (asked ∷ items) (wish ∷ wishes) are =
-      let both = first_has asked items wish wishes are in
-      All-cons (λ (wish : Wish). declares history wish.list ≡ true) wish wishes (ap (declares history) (sym both.0.list) ∙ both.0.declared) (wishes_declared items wishes both.1)
-
-  pub items_declared : (items : List AskedList) (wishes : List Wish) → AreWishesOf history items wishes → All (λ asked. declares history asked.name ≡ true) items
-  items_declared [] [] are = All-nil (λ (asked : AskedList). declares history asked.name ≡ true)
-  items_declared [] (wish ∷ wishes) are = absurd (cc)
-  items_declared (asked ∷ items) [] are = absurd (cc)
-  items_declared (asked ∷ items) (wish ∷ wishes) are =
-      let both = first_has asked items wish wishes are in
-      All-cons (λ (asked : AskedList). declares history asked.name ≡ true) asked items both.0.declared (items_declared items wishes both.1)
 
   pub answered : (wait : ℕ) (request : Request) (wishes : List Wish) → AreWishesOf history request.items wishes
       → fetch_answer history (server_naming history) wait request ≡ wished_answer history wait wishes
   answered wait request wishes are =
-      ap (λ (updates : List UpdatedList). let response : FetchResponse = record { items = updates; wait = (wished_answer history wait wishes).wait } in response) (each_wished request.items wishes are)
+      ap (λ (updates : List UpdatedList). let response : FetchResponse = record { items = updates; wait = (wished_answer history wait wishes).wait } in response)
+      (each_wished (declared_items history request.items) wishes are)
 
   pub one_answer : (wait : ℕ) (first second : Request) (wishes : List Wish) → AreWishesOf history first.items wishes → AreWishesOf history second.items wishes
       → fetch_answer history (server_naming history) wait first ≡ fetch_answer history (server_naming history) wait second
   one_answer wait first second wishes are also = answered wait first wishes are ∙ sym (answered wait second wishes also)
 
--- ---- no list is unknown
+-- ---- declared items, one by one
 
-none_first : {X : Type 0} (p : X → Bool) (xs : List X) → All (λ x. p x ≡ false) xs → position p xs ≡ None
-none_first p xs none = go (nat_lt (position_or_len p xs) (length xs)) refl
-  where
-    past : (ys : List _) → All (λ y. p y ≡ false) ys → position_or_len p ys ≡ length ys
-    past [] all = refl
-    past (y ∷ ys) all =
-        ap (λ (b : Bool). cond (not b) (1 + position_or_len p ys) 0) (All-head (λ y. p y ≡ false) y ys all)
-        ∙ (let more = past ys (All-tail (λ y. p y ≡ false) y ys all) in omega (arith, more))
+module _ (history : History) (items : List AskedList) (i : ℕ) (asked : AskedList) (below : i < length items) (is : asked ≡ get_or items i asked) where
+  one_further : declared_items history (take (i + 1) items) ≡ declared_items history (take i items) ++ declared_items history (asked ∷ [])
+  one_further =
+      ap (declared_items history) (take_more items i asked below)
+      ∙ filter-append (λ (a : AskedList). declares history a.name) (take i items) (get_or items i asked ∷ [])
+      ∙ ap (λ (a : AskedList). declared_items history (take i items) ++ declared_items history (a ∷ [])) (sym is)
 
-    go : (b : Bool) → nat_lt (position_or_len p xs) (length xs) ≡ b → cond b (Some (position_or_len p xs)) None ≡ None
-    go true is = let less = ltb-true (position_or_len p xs) (length xs) is in absurd (omega (arith, less, past xs none))
-    go false is = refl
+  with_end : (b : Bool) → declares history asked.name ≡ b → declared_items history (take (i + 1) items) ≡ declared_items history (take i items) ++ cond b (asked ∷ []) []
+  with_end b known = one_further ∙ ap (λ (d : Bool). declared_items history (take i items) ++ cond d (asked ∷ []) []) known
 
-pub none_unknown : (history : History) (items : List AskedList) → All (λ asked. declares history asked.name ≡ true) items → first_unknown history items ≡ None
-none_unknown history items all = none_first (λ (asked : AskedList). not (declares history asked.name)) items (λ k d below. ap not (all k d below))
+  -- one whose list is not declared has no wish
+  pub not_wished : (wishes : List Wish) → declares history asked.name ≡ false → AreWishesOf history (take i items) wishes → AreWishesOf history (take (i + 1) items) wishes
+  not_wished wishes known are =
+      ap (map (wish_of history)) (with_end false known ∙ append-nil (declared_items history (take i items))) ∙ are
+
+  -- one wish more
+  pub wished_more : (wishes more : List Wish) (wish : Wish) → declares history asked.name ≡ true → wish_of history asked ≡ Some wish → more ≡ wishes ++ wish ∷ []
+      → AreWishesOf history (take i items) wishes → AreWishesOf history (take (i + 1) items) more
+  wished_more wishes more wish known has pushed are =
+      ap (map (wish_of history)) (with_end true known) ∙ map-append (wish_of history) (declared_items history (take i items)) (asked ∷ [])
+      ∙ ap (λ (ws : List (Option Wish)). ws ++ wish_of history asked ∷ []) are ∙ ap (λ (w : Option Wish). map Some wishes ++ w ∷ []) has
+      ∙ sym (ap (map Some) pushed ∙ map-append Some wishes (wish ∷ []))
+
+-- ---- an item that has no wish
+
+in_rest : {X : Type 0} (P : X → Type 0) (y : X) (rest : List X) (b : Bool) → Any P rest → Any P (cond b (y ∷ rest) rest)
+in_rest P y rest true (k, x, below, at, holds) = (suc k, x, omega (arith, below), at, holds)
+in_rest P y rest false some = some
+
+is_first : {X : Type 0} (P : X → Type 0) (y x : X) (rest : List X) (b : Bool) → b ≡ true → y ≡ x → P x → Any P (cond b (y ∷ rest) rest)
+is_first P y x rest true passes same holds = (0, x, omega (arith), same, holds)
+is_first P y x rest false passes same holds = absurd (cc)
+
+-- what stands at a place and passes a test is among those that pass
+among : {X : Type 0} (p : X → Bool) (P : X → Type 0) (xs : List X) (i : ℕ) (x : X) → i < length xs → get_or xs i x ≡ x → p x ≡ true → P x → Any P (filter p xs)
+among p P [] i x below here passes holds = absurd (omega (arith, below))
+among p P (y ∷ ys) zero x below here passes holds = is_first P y x (filter p ys) (p y) (ap p here ∙ passes) here holds
+among p P (y ∷ ys) (suc i) x below here passes holds = in_rest P y (filter p ys) (p y) (among p P ys i x (omega (arith, below)) here passes holds)
+
+pub unwished : (history : History) (items : List AskedList) (i : ℕ) (asked : AskedList) → i < length items → asked ≡ get_or items i asked → declares history asked.name ≡ true
+    → wish_of history asked ≡ None → Any (λ (a : AskedList). wish_of history a ≡ None) (declared_items history items)
+unwished history items i asked below is known none =
+    among (λ (a : AskedList). declares history a.name) (λ (a : AskedList). wish_of history a ≡ None) items i asked below (sym is) known none

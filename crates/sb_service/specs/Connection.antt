@@ -1,5 +1,5 @@
 -- What a list server answers to a request, over the history that it was lent.
-use Rattle.std.specs.Prelude.{◌≡◌, ℕ, zero, suc, List, [], ◌∷◌, None}
+use Rattle.std.specs.Prelude.{◌≡◌, ℕ, zero, suc, List, [], ◌∷◌}
 use Rattle.sb_outside.specs.declared.links.Kind.{Kind}
 use Rattle.sb_outside.specs.declared.links.Kind.TheVariants.{Update, Find}
 use Rattle.sb_model.specs.History.{History}
@@ -19,20 +19,12 @@ use Rattle.hash_messages.specs.Matches.{find_answer}
 use Rattle.hash_messages.specs.Messages.{AskedHashes}
 use Rattle.hash_messages.specs.Reading.{ReadsFindRequest}
 use Rattle.hash_messages.specs.Writing.{spelling_of_find_response}
-use Rattle.delta_server.specs.Answering.{serve_fault}
 use Rattle.delta_server.specs.Tokens.{server_naming}
 use Rattle.delta_server.specs.declared.answering.Settings.{Settings}
 
--- ---- what a body asks
-
--- A body asks for the updates of a message: it reads as that message, and each list that this names is declared.
-pub record AsksFor (history : History) (body : List ℕ) (message : Request) : Type 0 where
-  pub reads : IsTextOf ReadsRequest body message
-  pub declared : serve_fault history message ≡ None
-
 -- ---- what a request is answered
 
--- the updates that a message asks for
+-- the updates that a message asks for, of those lists that are declared
 abbrev pub updates_text : History → Settings → Request → List ℕ
 updates_text history times message = spelling_of_response (fetch_answer history (server_naming history) times.wait message)
 
@@ -44,7 +36,7 @@ matches_text history times message =
 -- The answer to the body of a request for updates, and to that of one for full hashes. Other bodies have none.
 abbrev pub IsUpdatesText : History → Settings → List ℕ → List ℕ → Type 0
 IsUpdatesText history times body text =
-    (message : Request) × AsksFor history body message × (text ≡ updates_text history times message)
+    (message : Request) × IsTextOf ReadsRequest body message × (text ≡ updates_text history times message)
 
 abbrev pub IsMatchesText : History → Settings → List ℕ → List ℕ → Type 0
 IsMatchesText history times body text =

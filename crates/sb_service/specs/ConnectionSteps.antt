@@ -1,26 +1,15 @@
--- The steps on the way to a response: a message that was read, and a body that is none.
-use Rattle.std.specs.Prelude.{◌≡◌, ◌≢◌, ◌⊎◌, ℕ, List, [], Option, None}
-use Rattle.sb_model.specs.History.{History}
+-- The steps on the way to a response: a body that is no message, and what is kept of a text.
+use Rattle.std.specs.Prelude.{◌≡◌, ◌≢◌, ◌⊎◌, ℕ, List, [], Option}
 use Rattle.sb_json.specs.declared.faults.MessageFault.{MessageFault}
 use Rattle.sb_json.specs.declared.faults.MessageFault.TheVariants as message
 use Rattle.http_edge.specs.Responses.{response_text}
 use Rattle.http_edge.specs.declared.messages.Status.{Status}
-use Rattle.http_edge.specs.declared.messages.Status.TheVariants.{Success, BadRequest}
+use Rattle.http_edge.specs.declared.messages.Status.TheVariants.{BadRequest}
 use Rattle.http_serving.specs.declared.responses.Answer.{Answer}
 use Rattle.http_serving.specs.declared.responses.Answer.TheVariants as answer
 use Rattle.http_serving.specs.declared.responses.Response.{Response}
-use Rattle.update_messages.specs.Messages.{Request}
-use Rattle.delta_server.specs.Answering.{serve_fault}
-use Rattle.delta_server.specs.declared.answering.Settings.{Settings}
 use Rattle.sb_service.specs.declared.wish.Wish.{Wish}
-use Rattle.sb_service.specs.Connection.{updates_text}
 use Rattle.sb_service.specs.Kept.{is_for_whole, HasKeptIn, KeptLists}
-
--- When a response to a message that asks for updates has a status, and with which body.
-abbrev pub IsResponseToMessage : History → Settings → Request → Status → List ℕ → Type 0
-IsResponseToMessage history times message Success body = (serve_fault history message ≡ None) × (body ≡ updates_text history times message)
-IsResponseToMessage history times message BadRequest body = (serve_fault history message ≢ None) × (body ≡ [])
-IsResponseToMessage history times message status body = ⊥
 
 -- A response to a body that is no message. Want of memory is no such fault.
 pub record IsBareRefusal (refusal : MessageFault) (status : Status) (body : List ℕ) : Type 0 where
@@ -36,10 +25,9 @@ IsSentAs response (answer.Written written) =
 IsSentAs response (answer.Shared shared) =
     (shared.status ≡ response.status) × (shared.text ≡ response_text response.status response.allow response.body)
 
--- The text of a response to a body came to what is kept, with these wishes, or nothing did. No other than one with the status 200 does.
+-- The text of a response to a body came to what is kept, with these wishes, or nothing did.
 abbrev pub MayBeKept : List ℕ → Option (List Wish) → Response → (before after : KeptLists) → Type 0
 MayBeKept asked wishes response before after =
     (after ≡ before)
-    ⊎ ((response.status ≡ Success)
-    × HasKeptIn (record { asked = asked; wishes = wishes; text = response_text response.status response.allow response.body })
-    (is_for_whole wishes) before after)
+    ⊎ HasKeptIn (record { asked = asked; wishes = wishes; text = response_text response.status response.allow response.body })
+    (is_for_whole wishes) before after

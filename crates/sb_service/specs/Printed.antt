@@ -1,5 +1,5 @@
 -- What a run prints, and the status that goes with it.
-use Rattle.std.specs.Prelude.{ℕ, List, [], ◌∷◌, ◌++◌, Option, Some, None, Result, Ok, Err, codes, decimal}
+use Rattle.std.specs.Prelude.{ℕ, List, [], ◌∷◌, ◌++◌, Result, Ok, Err, codes}
 use Rattle.sb_json.specs.declared.faults.MessageFault.{MessageFault}
 use Rattle.sb_json.specs.Printed.{cause_text as message_cause}
 use Rattle.sb_model.specs.History.{History}
@@ -8,10 +8,7 @@ use Rattle.list_versions.specs.declared.fault.JournalFault.{JournalFault}
 use Rattle.list_versions.specs.Printed.{cause_text as journal_cause}
 use Rattle.update_messages.specs.Messages.{Request}
 use Rattle.hash_messages.specs.Messages.{AskedHashes}
-use Rattle.delta_server.specs.Answering.{serve_fault}
-use Rattle.delta_server.specs.declared.answering.ServeFault.{ServeFault}
 use Rattle.delta_server.specs.declared.answering.Settings.{Settings}
-use Rattle.delta_server.specs.declared.answering.ServeFault.TheVariants.{UnknownList, OutOfMemory}
 use Rattle.sb_service.specs.Connection.{updates_text, matches_text}
 
 -- why a journal is refused
@@ -21,11 +18,6 @@ journal_line fault = codes "journal " ++ journal_cause fault ++ newline ∷ []
 -- why a request is refused
 abbrev pub request_line : List ℕ → List ℕ
 request_line cause = codes "request " ++ cause ++ newline ∷ []
-
--- the cause of a request that names a list which is not declared; want of memory is never told
-abbrev pub serve_cause : ServeFault → List ℕ
-serve_cause (UnknownList place) = codes "unknown-list " ++ decimal place
-serve_cause OutOfMemory = []
 
 -- an answer, and a newline
 abbrev pub answer_line : List ℕ → List ℕ
@@ -47,14 +39,9 @@ reply_with text = record { text = answer_line text; status = 0 }
 abbrev pub reply_because : List ℕ → Reply
 reply_because cause = record { text = request_line cause; status = 5 }
 
--- the reply to a request for updates, by the first of its lists that is not declared
-abbrev pub reply_unless : History → Settings → Request → Option ServeFault → Reply
-reply_unless versions times request None = reply_with (updates_text versions times request)
-reply_unless versions times request (Some fault) = reply_because (serve_cause fault)
-
 -- A body is read as a request for updates or for full hashes, or has a first fault.
 abbrev pub reply_to_fetch : History → Settings → Result Request MessageFault → Reply
-reply_to_fetch versions times (Ok request) = reply_unless versions times request (serve_fault versions request)
+reply_to_fetch versions times (Ok request) = reply_with (updates_text versions times request)
 reply_to_fetch versions times (Err fault) = reply_because (message_cause fault)
 
 abbrev pub reply_to_find : History → Settings → Result AskedHashes MessageFault → Reply

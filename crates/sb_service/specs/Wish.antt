@@ -1,12 +1,12 @@
--- What a request for updates comes to: for each item its list, the version that it holds, and whether it takes Rice coded sets. Requests
--- that wish the same have one answer, however they are spelled.
-use Rattle.std.specs.Prelude.{◌≡◌, ◌+◌, ◌*◌, ◌==◌, ◌&&◌, ◌||◌, ℕ, Bool, true, false, not, if◌then◌else◌, List, [], length, map, All, Option, Some, None, is_some}
+-- What a request for updates comes to: for each item whose list is declared its list, the version that it holds, and whether it takes Rice
+-- coded sets. Requests that wish the same have one answer, however they are spelled.
+use Rattle.std.specs.Prelude.{◌≡◌, ◌+◌, ◌*◌, ◌==◌, ◌&&◌, ◌||◌, ℕ, Bool, true, false, not, if◌then◌else◌, List, [], length, map, Option, Some, None, is_some}
 use Rattle.sb_model.specs.declared.names.ListName.{ListName}
 use Rattle.sb_model.specs.Names.{same_name}
 use Rattle.sb_model.specs.History.{History, declares, version_count, prefixes_at}
 use Rattle.sb_model.specs.Target.{is_within}
 use Rattle.list_versions.specs.Limits.{most_hashes}
-use Rattle.update_messages.specs.Answer.{update_to, version_named}
+use Rattle.update_messages.specs.Answer.{declared_items, update_to, version_named}
 use Rattle.update_messages.specs.Messages.{AskedList, UpdatedList}
 use Rattle.update_messages.specs.Writing.{spelling_of_response}
 use Rattle.update_messages.specs.declared.response.FetchResponse.{FetchResponse}
@@ -42,9 +42,9 @@ wish_with history asked held =
 abbrev pub wish_of : History → AskedList → Option Wish
 wish_of history asked = wish_with history asked (version_named history (server_naming history) asked.name asked.state)
 
--- Each item has a wish, and in order they are these.
+-- Each item whose list is declared has a wish, and in order they are these. Other items are not answered.
 abbrev pub AreWishesOf : History → List AskedList → List Wish → Type 0
-AreWishesOf history items wishes = map (wish_of history) items ≡ map Some wishes
+AreWishesOf history items wishes = map (wish_of history) (declared_items history items) ≡ map Some wishes
 
 -- ---- the answer to wishes
 
@@ -72,10 +72,9 @@ wished_update history wish = update_to history (server_naming history) (asked_by
 abbrev pub wished_answer : History → ℕ → List Wish → FetchResponse
 wished_answer history wait wishes = record { items = map (wished_update history) wishes; wait = wait * 1000000000 }
 
--- Its text is the answer to wishes, whose lists are declared.
-pub record IsWishedText (history : History) (times : Settings) (wishes : List Wish) (text : List ℕ) : Type 0 where
-  pub declared : All (λ wish. declares history wish.list ≡ true) wishes
-  pub spelled : text ≡ spelling_of_response (wished_answer history times.wait wishes)
+-- Its text is the answer to wishes.
+abbrev pub IsWishedText : History → Settings → List Wish → List ℕ → Type 0
+IsWishedText history times wishes text = text ≡ spelling_of_response (wished_answer history times.wait wishes)
 
 -- ---- which wishes are the same
 

@@ -9,16 +9,16 @@ ghost use Rattle.http_serving.specs.Law.{HasOneAnswer};
 ghost use Rattle.http_serving.specs.Serving.{unavailable_text, AnswersAtMost, IsWholeOrFault, Serves};
 ghost use Rattle.http_serving.specs.Written.{IsRightAnswer};
 ghost use Rattle.delta_server.specs.declared.answering.Settings.{Settings as Times};
-ghost use Rattle.sb_service.specs.Connection.{list_routes, ListServed, matches_text, IsResponseAt, IsResponseTo, HasGoodRequest};
+ghost use Rattle.sb_service.specs.Connection.{list_routes, ListServed, matches_text, updates_text, IsResponseAt, IsResponseTo, HasGoodRequest};
 ghost use Rattle.sb_service.specs.ConnectionLaws.{HasOneResponse, IsAnsweredAsRead};
-ghost use Rattle.sb_service.specs.ConnectionSteps.{IsResponseToMessage, IsBareRefusal, IsSentAs, MayBeKept};
+ghost use Rattle.sb_service.specs.ConnectionSteps.{IsBareRefusal, IsSentAs, MayBeKept};
 ghost use Rattle.update_messages.specs.Messages.{Request};
 ghost use Rattle.update_messages.specs.Reading.{ReadsRequest, IsTextOf};
 ghost use Rattle.sb_service.specs.Kept.{AreKeptOf};
 
 use crate::kept::KeptAnswers;
 use crate::wish::{Wish, wishes_of};
-use delta_server::{ServeFault, Settings, answer_fetch, answer_find};
+use delta_server::{Settings, answer_fetch, answer_find};
 use hash_messages::{FindRequest, find_values_read_one_way, read_find, write_matches};
 use http_edge::{Allow, HttpRequest, Status, path_of};
 use http_serving::{
@@ -45,18 +45,15 @@ fn answer_message(
     settings: &Settings,
     message: &FetchRequest,
 ) -> Result<Response, OutOfMemory>
-    ensures { IfOk result (λ response. IsResponseToMessage history.now.versions settings.now message.now
-        response.status response.body) }
+    ensures status { IfOk result (λ response. response.status ≡ Status.Success) }
+    ensures body { IfOk result (λ response. response.body ≡ updates_text history.now.versions settings.now message.now) }
 {
-    match answer_fetch(alloc, history, settings, message) {
-        Ok(answer) => Ok(Response {
-            status: Status::Success,
-            allow: Allow::Post,
-            body: write_answer(alloc, &answer)?,
-        }),
-        Err(ServeFault::UnknownList(_)) => Ok(bare(alloc, Status::BadRequest, Allow::Post)),
-        Err(ServeFault::OutOfMemory) => Err(OutOfMemory),
-    }
+    let answer = answer_fetch(alloc, history, settings, message)?;
+    Ok(Response {
+        status: Status::Success,
+        allow: Allow::Post,
+        body: write_answer(alloc, &answer)?,
+    })
 }
 
 /// The response to a body that is no message.
@@ -103,8 +100,8 @@ fn answer_hashes_body(
     }
 }
 
-/// The answer that a response with the status 200 is whose text is written out. It may be kept. If memory to share it is refused,
-/// it is sent all the same.
+/// The answer that a response is whose text is written out. It may be kept. If memory to share it is refused, it is sent all the
+/// same.
 fn keep_written(
     kept: &mut KeptAnswers,
     asked: &[u8],
@@ -112,8 +109,7 @@ fn keep_written(
     response: Response,
     text: Bytes,
 ) -> Answer
-    requires status { response.status ≡ Status.Success }
-    requires text { text ≡ response_text response.status response.allow response.body }
+    requires { text ≡ response_text response.status response.allow response.body }
     ensures answer { IsSentAs response result }
     ensures kept { MayBeKept asked.now wishes response kept.old kept.new }
 {
@@ -127,8 +123,8 @@ fn keep_written(
     })
 }
 
-/// The answer that a response is. One with the status 200 is written out and may be kept. If it is too long for that or memory
-/// is refused, it is sent all the same.
+/// The answer that a response is. It is written out and may be kept. If it is too long for that or memory is refused, it is sent
+/// all the same.
 fn keep_made(
     alloc: Global,
     kept: &mut KeptAnswers,
@@ -139,9 +135,6 @@ fn keep_made(
     ensures answer { IsSentAs response result }
     ensures kept { MayBeKept asked.now wishes response kept.old kept.new }
 {
-    let Status::Success = response.status else {
-        return Answer::Made(response);
-    };
     if response.body.len() > MOST_KEPT {
         return Answer::Made(response);
     }
@@ -313,10 +306,10 @@ impl<'a> Answers for ListServer<'a> {
 
 /// Reads one request and writes one response (RFC 9112).
 ///
-/// A POST request to `/v4/threatListUpdates:fetch` is answered 200 with the updates that it asks
-/// for, and one to `/v4/fullHashes:find` with the full hashes that it asks for. Other responses have no body: 400 where the request is malformed or cut off, where its body
-/// is no message, and where it asks for a list that is not declared; 404 for another path; 405 for
-/// another method; 411 where the length of the body is not given; 413 where it is more than
+/// A POST request to `/v4/threatListUpdates:fetch` is answered 200 with the updates of those lists
+/// that it asks for and that are declared, and one to `/v4/fullHashes:find` with the full hashes
+/// that it asks for. Other responses have no body: 400 where the request is malformed or cut off,
+/// and where its body is no message; 404 for another path; 405 for another method; 411 where the length of the body is not given; 413 where it is more than
 /// 1,048,576 bytes; 431 where the head is too long; 503 if memory is refused, of which a front may be
 /// written as with any other. What follows a `?` in the target is not looked at, nor what follows the
 /// request.

@@ -1,10 +1,9 @@
-ghost use Rattle.std.specs.Prelude.{◌≡◌, ◌++◌, ◌∷◌, [], IfOk, codes, decimal};
+ghost use Rattle.std.specs.Prelude.{◌≡◌, ◌++◌, ◌∷◌, [], IfOk, codes};
 ghost use Rattle.sb_json.specs.Printed.{cause_text as message_cause};
 ghost use Rattle.list_versions.specs.Lines.{newline};
 ghost use Rattle.update_messages.specs.Writing.{spelling_of_response};
 ghost use Rattle.hash_messages.specs.Writing.{spelling_of_find_response};
-ghost use Rattle.delta_server.specs.declared.answering.ServeFault.{ServeFault};
-ghost use Rattle.sb_service.specs.Printed.{answer_line, journal_line as line_of_journal, request_line, serve_cause};
+ghost use Rattle.sb_service.specs.Printed.{answer_line, journal_line as line_of_journal, request_line};
 
 use hash_messages::{FindResponse, write_matches};
 use list_versions::{JournalFault, push_journal_cause};
@@ -31,18 +30,6 @@ pub(crate) fn message_line(alloc: Global, fault: &MessageFault) -> Result<Bytes,
     let mut line = Bytes::new(alloc);
     line.append(b"request ")?;
     push_message_cause(&mut line, fault)?;
-    line.push(b'\n')?;
-    Ok(line)
-}
-
-/// The line of a request whose item at this place, counted from 0, names a list that is not declared.
-pub(crate) fn unknown_line(alloc: Global, place: u32) -> Result<Bytes, OutOfMemory>
-    ensures { IfOk result (λ line. line ≡ request_line (serve_cause (ServeFault.UnknownList place))) }
-{
-    let mut line = Bytes::new(alloc);
-    line.append(b"request ")?;
-    line.append(b"unknown-list ")?;
-    line.append_decimal(u64::from(place))?;
     line.push(b'\n')?;
     Ok(line)
 }

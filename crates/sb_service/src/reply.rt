@@ -1,14 +1,13 @@
 ghost use Rattle.std.specs.Prelude.{◌≡◌, ◌≢◌, IfOk};
 ghost use Rattle.sb_json.specs.Printed.{cause_text as message_cause};
-ghost use Rattle.delta_server.specs.Answering.{serve_fault};
-ghost use Rattle.sb_service.specs.Printed.{refusal_of, reply_because, reply_unless, reply_with};
+ghost use Rattle.sb_service.specs.Printed.{refusal_of, reply_because, reply_with};
 ghost use Rattle.sb_service.specs.Answer.{IsReplyTo};
-ghost use Rattle.sb_service.specs.Connection.{matches_text};
+ghost use Rattle.sb_service.specs.Connection.{matches_text, updates_text};
 
 use crate::command::MessageKind;
-use crate::printing::{journal_line, matches_line, message_line, response_line, unknown_line};
+use crate::printing::{journal_line, matches_line, message_line, response_line};
 use crate::stop::Stop;
-use delta_server::{ServeFault, Settings, answer_fetch, answer_find};
+use delta_server::{Settings, answer_fetch, answer_find};
 use hash_messages::{FindRequest, read_find};
 use list_versions::{History, JournalFault};
 use sb_json::MessageFault;
@@ -59,33 +58,21 @@ fn refuse_body(alloc: Global, fault: &MessageFault) -> Result<Reply, OutOfMemory
     })
 }
 
-/// The reply to a request.
-fn reply_to_request(
+/// The reply to a request for updates.
+fn reply_with_updates(
     alloc: Global,
     history: &History,
     settings: &Settings,
     request: &FetchRequest,
 ) -> Result<Reply, OutOfMemory>
-    ensures { IfOk result (λ reply. reply ≡ reply_unless history.now.versions settings.now request.now
-        (serve_fault history.now.versions request.now)) }
+    ensures { IfOk result (λ reply. reply ≡ reply_with (updates_text history.now.versions settings.now request.now)) }
 {
-    match answer_fetch(alloc, history, settings, request) {
-        Ok(response) => {
-            let text = response_line(alloc, &response)?;
-            Ok(Reply {
-                text,
-                stop: Stop::Done,
-            })
-        }
-        Err(ServeFault::UnknownList(place)) => {
-            let text = unknown_line(alloc, place)?;
-            Ok(Reply {
-                text,
-                stop: Stop::BadRequest,
-            })
-        }
-        Err(ServeFault::OutOfMemory) => Err(OutOfMemory),
-    }
+    let response = answer_fetch(alloc, history, settings, request)?;
+    let text = response_line(alloc, &response)?;
+    Ok(Reply {
+        text,
+        stop: Stop::Done,
+    })
 }
 
 /// The reply to the body of a fetch request.
@@ -98,7 +85,7 @@ fn reply_to_fetch(
     ensures { IfOk result (λ reply. IsReplyTo history.now.versions settings.now MessageKind.Fetch body.now reply) }
 {
     match read_request(alloc, body) {
-        Ok(request) => reply_to_request(alloc, history, settings, &request),
+        Ok(request) => reply_with_updates(alloc, history, settings, &request),
         Err(fault) => refuse_body(alloc, &fault),
     }
 }

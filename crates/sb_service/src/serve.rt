@@ -82,8 +82,8 @@ fn refuse<O: Sink>(alloc: Global, fault: JournalFault, out: &mut O) -> Stop
     }
 }
 
-/// Lets the history grow from the journal, and serves a connection that the door gave. If a change came, nothing is kept any
-/// more. Answers `Done`, or what ends the run.
+/// Lets the history grow from the journal, and serves a connection that the door gave. If the journal gave any byte, nothing
+/// is kept any more: a list that it declares now was left out of what was kept. Answers `Done`, or what ends the run.
 fn take_turn<J: Source, O: Sink, D: Door>(
     alloc: Global,
     history: &mut History,
@@ -111,10 +111,8 @@ fn take_turn<J: Source, O: Sink, D: Door>(
     ensures coming { D.coming door.new ≡ D.coming door.old }
     ensures answers { AreKeptOf history.new.versions settings.now kept.new }
 {
-    let known = history.len();
-    match history.grow(alloc, journal) {
-        Ok(()) => {
-            let grown = history.len() != known;
+    match history.grow_if_more(alloc, journal) {
+        Ok(grown) => {
             kept.forget_if(grown);
             serve_taken(alloc, history, settings, kept, number, out, door, wire)
         }

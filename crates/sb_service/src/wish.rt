@@ -1,11 +1,11 @@
-ghost use Rattle.std.specs.Prelude.{◌≡◌, ℕ, List, None, IfOk, IfSome, IfNone};
+ghost use Rattle.std.specs.Prelude.{◌≡◌, ℕ, List, true, None, IfOk, IfSome, IfNone};
 ghost use Rattle.std.specs.List.{Any, list_all};
 ghost use Rattle.std.specs.Cmp.Lexicographic.{pointwise};
 ghost use Rattle.sb_model.specs.Names.{same_name};
 ghost use Rattle.sb_model.specs.Target.{is_within};
-ghost use Rattle.sb_model.specs.History.{History as Versions};
+ghost use Rattle.sb_model.specs.History.{declares, History as Versions};
 ghost use Rattle.list_versions.specs.Limits.{WithinLimits};
-ghost use Rattle.update_messages.specs.Answer.{fetch_answer, version_named};
+ghost use Rattle.update_messages.specs.Answer.{declared_items, fetch_answer, version_named};
 ghost use Rattle.update_messages.specs.Messages.{Request};
 ghost use Rattle.delta_server.specs.Tokens.{server_naming};
 ghost use Rattle.sb_service.specs.declared.wish.Wish.{Wish as ItemWish};
@@ -109,15 +109,15 @@ fn is_free(history: &History, asked: &ListRequest, held: Option<u64>, size: u32)
     }
 }
 
-/// What an item wishes. `None` exactly if its list is not declared or a limit may bind.
-fn wish_of(history: &History, asked: &ListRequest) -> Option<Wish>
+/// What an item wishes whose list is declared. `None` exactly if a limit may bind. The newest set of the list has so many
+/// prefixes.
+fn wish_of(history: &History, asked: &ListRequest, size: u32) -> Option<Wish>
+    requires declared { declares history.now.versions asked.now.name ≡ true }
+    requires size { size ≡ newest_size history.now.versions asked.now.name }
     ensures { result ≡ wish_of history.now.versions asked.now }
 {
-    let Some(newest) = history.newest(asked.name) else {
-        return None;
-    };
     let held = held_by(history, asked);
-    if !is_free(history, asked, held, newest.set.len()) {
+    if !is_free(history, asked, held, size) {
         return None;
     }
     Some(Wish {
@@ -127,18 +127,22 @@ fn wish_of(history: &History, asked: &ListRequest) -> Option<Wish>
     })
 }
 
-/// What the items of a request wish, in order. `None` exactly if one of them has no wish.
+/// What those items of a request wish whose lists are declared, in order. `None` exactly if one of them has no wish.
 pub(crate) fn wishes_of(
     alloc: Global,
     history: &History,
     items: &[ListRequest],
 ) -> Result<Option<Row<Wish>>, OutOfMemory>
     ensures wishes { IfOk result (λ found. IfSome found (AreWishesOf history.now.versions items.now)) }
-    ensures none { IfOk result (λ found. IfNone found (Any (λ asked. wish_of history.now.versions asked ≡ None) items.now)) }
+    ensures none { IfOk result (λ found. IfNone found (Any (λ asked. wish_of history.now.versions asked ≡ None)
+        (declared_items history.now.versions items.now))) }
 {
     let mut wishes = Row::with_capacity(alloc, items.len())?;
     for asked in items {
-        match wish_of(history, asked) {
+        let Some(newest) = history.newest(asked.name) else {
+            continue;
+        };
+        match wish_of(history, asked, newest.set.len()) {
             Some(wish) => wishes.push(wish)?,
             None => return Ok(None),
         }
@@ -146,7 +150,7 @@ pub(crate) fn wishes_of(
     Ok(Some(wishes))
 }
 
-/// Two requests to one history that wish the same have one answer, and it is the answer to what they wish.
+/// Two requests to one history whose declared items wish the same have one answer, and it is the answer to what they wish.
 pub fn wishes_have_one_answer()
     ensures answered { (history : Versions) (wait : ℕ) (request : Request) (wishes : List ItemWish) → WithinLimits history → AreWishesOf history request.items wishes
         → fetch_answer history (server_naming history) wait request ≡ wished_answer history wait wishes }

@@ -24,6 +24,7 @@ use Rattle.sb_round.specs.Round.{Round, lists_after_round, updates_of}
 use Rattle.sb_round.specs.declared.rounds.RoundFault.{RoundFault}
 use Rattle.served_runs.specs.Answered.{HasByteTokens, IsToken, AreAskable}
 use Rattle.served_runs.specs.Versions.{IsAnswered, IsUnanswered}
+use Rattle.served_runs.proofs.AllAnswered.{all_answered}
 use Rattle.served_runs.proofs.Answers.{TargetsAreVersions, count_up_to}
 
 -- ---- the request of such lists keeps to its ranges
@@ -176,8 +177,9 @@ pub askable_after_answer : TargetsAreVersions → (history : History) (token_at 
     → AreAskable history lists → IsAnswered history token_at options lists round version → AreAskable history (lists_after_round lists round)
 askable_after_answer last history token_at options lists round version naming bytes askable is =
     subst (λ (answer : Result FetchResponse RoundFault). AreAskable history (after_updates lists (updates_of answer))) (sym is.message)
+    (subst (λ (updates : List UpdatedList). AreAskable history (after_updates lists updates)) (sym (all_answered history token_at options version is.wait lists askable.declared))
     (askable_after history lists (map (update_for (up_to_version version history) token_at) (map (asked_list options) lists))
-    (answer_has_tokens last history token_at naming bytes options version is.within lists askable.declared) askable)
+    (answer_has_tokens last history token_at naming bytes options version is.within lists askable.declared) askable))
 
 pub nothing_came : (lists : List Held) (round : Round) → IsUnanswered round → lists_after_round lists round ≡ lists
 nothing_came lists round is = ap (λ (answer : Result FetchResponse RoundFault). after_updates lists (updates_of answer)) is.none

@@ -33,6 +33,7 @@ use Rattle.served_runs.specs.Answered.{IsAnsweredAt, IsAnsweredIn, IsLost, AreAn
 use Rattle.served_runs.specs.Complete.{InstallsEach, InstallAnswers, AnsweredRunsAreComplete, AnsweredRunsKeepVersions}
 use Rattle.served_runs.specs.Installs.{CanBeServed, IsInstalled}
 use Rattle.served_runs.specs.Versions.{IsAnswered}
+use Rattle.served_runs.proofs.AllAnswered.{all_answered}
 use Rattle.served_runs.proofs.Answers.{TargetsAreGreatest, TargetsAreVersions}
 use Rattle.served_runs.proofs.Asking.{request_in_range, askable_after_answer, nothing_came, names_after, as_many}
 use Rattle.served_runs.proofs.Beginning.{first_are_lists, first_askable}
@@ -106,7 +107,9 @@ module _ (under : Below) (go : NamesGo) (itself : (name : ListName) → same_nam
         record {
           taken = named_results message.items (results_of lists message.items);
           ok = ap (taken_from lists) answered.message;
-          all = as_many_results lists message.items ∙ answer_names (up_to_version version history) token_at options lists;
+          all = as_many_results lists message.items
+              ∙ ap (map (λ (update : UpdatedList). update.name)) (all_answered history token_at options version answered.wait lists served.askable.declared)
+              ∙ answer_names (up_to_version version history) token_at options lists;
           installed =
               all_taken message.items (results_of lists message.items)
               (installs go itself decodes genuine history token_at options lists version answered.wait can naming answered.within served.held served.askable.declared served.replicas);
@@ -124,7 +127,9 @@ module _ (under : Below) (go : NamesGo) (itself : (name : ListName) → same_nam
           };
           replicas =
               subst (λ (answer : Result FetchResponse RoundFault). AreReplicas history token_at (after_updates lists (updates_of answer))) (sym answered.message)
-              (replicas_after go itself decodes genuine history token_at options lists version can naming answered.within served.held.rising served.askable.declared served.replicas);
+              (subst (λ (updates : List UpdatedList). AreReplicas history token_at (after_updates lists updates))
+              (sym (all_answered history token_at options version answered.wait lists served.askable.declared))
+              (replicas_after go itself decodes genuine history token_at options lists version can naming answered.within served.held.rising served.askable.declared served.replicas));
         }
 
     served_then : (lists : List Held) (waits : WaitState) (round : Round) → AreServed history token_at lists → IsRound lists waits options target need round

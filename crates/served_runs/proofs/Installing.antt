@@ -21,10 +21,11 @@ use Rattle.update_client.specs.Replica.{IsReplicaOf, AreReplicas}
 use Rattle.update_client.specs.Step.{proposed, candidate_of, meaning_of, first_fault, held_after, list_step, after_updates}
 use Rattle.update_client.specs.declared.options.FetchOptions.{FetchOptions}
 use Rattle.served_runs.specs.Installs.{CanBeServed}
+use Rattle.served_runs.proofs.AllAnswered.{all_answered}
 use Rattle.served_runs.proofs.Answers.{named_within, count_up_to}
 use Rattle.served_runs.proofs.Faults.{HasMeaning, has_meaning, means}
 use Rattle.served_runs.proofs.Items.{same_candidate, not_empty, set_at, found_true, item_fits}
-use Rattle.served_runs.proofs.Lists.{names_in, Others, done_others, rest_others, one_changes, names_stay, asked_declared, update_name, map_twice}
+use Rattle.served_runs.proofs.Lists.{names_in, Others, done_others, rest_others, one_changes, names_stay, update_name, map_twice}
 use Rattle.served_runs.proofs.Places.{DecodesAgain}
 use Rattle.served_runs.proofs.Steps.{NamesGo}
 
@@ -136,7 +137,8 @@ pub replicas_after : NamesGo → ((name : ListName) → same_name name name ≡ 
     → CanBeServed history → IsNaming history token_at → version ≤ version_count history → IsStrictlySortedBy name_cmp (names_in lists) → All (λ held. IsTrue (declares history held.name)) lists → AreReplicas history token_at lists
     → AreReplicas history token_at (after_updates lists (map (update_for (up_to_version version history) token_at) (map (asked_list options) lists)))
 replicas_after go itself decodes genuine history token_at options lists version can naming within sorted declared replicas =
-    let items = genuine history token_at version 0 (request_asked lists options) can.well_formed naming can.prefixes can.hashes within (asked_declared history options lists declared) in
+    let items = subst (All (IsAnswerItem history token_at)) (all_answered history token_at options version 0 lists declared)
+    (genuine history token_at version 0 (request_asked lists options) can.well_formed naming can.prefixes can.hashes within) in
     let update_of : Held → UpdatedList = λ held. update_for (up_to_version version history) token_at (asked_list options held) in
     subst (AreReplicas history token_at)
     (sym (ap (after_updates lists) (map_twice (update_for (up_to_version version history) token_at) (asked_list options) lists)

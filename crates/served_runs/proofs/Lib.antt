@@ -1,3 +1,4 @@
+pub mod AllAnswered
 pub mod Answers
 pub mod Asking
 pub mod Beginning

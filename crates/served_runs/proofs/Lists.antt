@@ -21,6 +21,7 @@ use Rattle.update_client.specs.Step.{first_fault, held_after, list_step, after_u
 use Rattle.update_client.specs.declared.fault.UpdateFault.{UpdateFault}
 use Rattle.update_client.specs.declared.options.FetchOptions.{FetchOptions}
 use Rattle.served_runs.specs.Installs.{CanBeServed, InstallsAnswers, IsInstalled}
+use Rattle.served_runs.proofs.AllAnswered.{all_answered}
 use Rattle.served_runs.proofs.Items.{item_fits}
 use Rattle.served_runs.proofs.Places.{DecodesAgain}
 use Rattle.served_runs.proofs.Steps.{NamesGo}
@@ -129,12 +130,6 @@ pub map_twice : {A B C : Type 0} (f : B → C) (g : A → B) (items : List A) �
 map_twice f g [] = refl
 map_twice f g (item ∷ items) = ap (λ rest. f (g item) ∷ rest) (map_twice f g items)
 
-pub asked_declared : (history : History) (options : FetchOptions) (lists : List Held) → All (λ held. IsTrue (declares history held.name)) lists → All (λ (asked : AskedList). IsTrue (declares history asked.name)) (map (asked_list options) lists)
-asked_declared history options [] h = All-nil (λ (asked : AskedList). IsTrue (declares history asked.name))
-asked_declared history options (held ∷ lists) h =
-    All-cons (λ (asked : AskedList). IsTrue (declares history asked.name)) (asked_list options held) (map (asked_list options) lists) (All-head (λ held. IsTrue (declares history held.name)) held lists h)
-    (asked_declared history options lists (All-tail (λ held. IsTrue (declares history held.name)) held lists h))
-
 module _ (decodes : DecodesAgain) (genuine : AnswersAreGenuine) (history : History) (token_at : Naming) (options : FetchOptions) (version : ℕ)
     (can : CanBeServed history) (naming : IsNaming history token_at) (within : version ≤ version_count history)
   where
@@ -161,7 +156,8 @@ pub installs : NamesGo → ((name : ListName) → same_name name name ≡ true) 
     → (history : History) (token_at : Naming) (options : FetchOptions) (lists : List Held) (version wait : ℕ) → InstallsAnswers history token_at options lists version wait
 unfolding update_of_held names_in
 installs go itself decodes genuine history token_at options lists version wait can naming within are declared replicas =
-    let items = genuine history token_at version wait (request_asked lists options) can.well_formed naming can.prefixes can.hashes within (asked_declared history options lists declared) in
-    let fit = all_fit decodes genuine history token_at options version can naming within lists declared replicas items in
-    subst (λ (updates : List UpdatedList). All IsInstalled (results_of lists updates)) (sym (map_twice (update_for (up_to_version version history) token_at) (asked_list options) lists))
+    let each = all_answered history token_at options version wait lists declared in
+    let items = genuine history token_at version wait (request_asked lists options) can.well_formed naming can.prefixes can.hashes within in
+    let fit = all_fit decodes genuine history token_at options version can naming within lists declared replicas (subst (All (IsAnswerItem history token_at)) each items) in
+    subst (λ (updates : List UpdatedList). All IsInstalled (results_of lists updates)) (sym (each ∙ map_twice (update_for (up_to_version version history) token_at) (asked_list options) lists))
     (all_installed go itself (update_of_held decodes genuine history token_at options version can naming within) (name_of_update decodes genuine history token_at options version can naming within) [] lists are.rising fit)

@@ -4,6 +4,7 @@ use Rattle.std.specs.Prelude.{All, IsTrue, Result}
 use Rattle.sb_model.specs.History.{History, declares, up_to_version, version_count}
 use Rattle.sb_model.specs.Naming.{Naming}
 use Rattle.update_messages.specs.Answer.{update_for}
+use Rattle.update_messages.specs.Messages.{UpdatedList}
 use Rattle.update_messages.specs.declared.response.FetchResponse.{FetchResponse}
 use Rattle.update_client.specs.Asked.{asked_list}
 use Rattle.update_client.specs.Genuine.{IsWithinLimitsAlways}
@@ -15,6 +16,7 @@ use Rattle.sb_round.specs.Rounds.{body_of}
 use Rattle.sb_round.specs.Run.{lists_after}
 use Rattle.sb_round.specs.declared.rounds.RoundFault.{RoundFault}
 use Rattle.served_runs.specs.Versions.{HasNoLimits, IsAnswered, IsUnanswered, AreAnsweredFrom, HoldsVersion, GoesOn, GoOn, KeepsVersions}
+use Rattle.served_runs.proofs.AllAnswered.{all_answered}
 use Rattle.served_runs.proofs.Answers.{TargetsAreGreatest, TargetsAreVersions, updates_are_to}
 use Rattle.served_runs.proofs.Steps.{NamesGo, Each, each_through, ComesTo, after_all, declared_after}
 
@@ -62,8 +64,9 @@ module _ (go : NamesGo) (greatest : TargetsAreGreatest) (last : TargetsAreVersio
       → Each (ComesTo token_at version) lists (lists_after_round lists round)
   comes_in lists round version declared is =
       subst (λ (answer : Result FetchResponse RoundFault). Each (ComesTo token_at version) lists (after_updates lists (updates_of answer))) (sym is.message)
+      (subst (λ (updates : List UpdatedList). Each (ComesTo token_at version) lists (after_updates lists updates)) (sym (all_answered history token_at options version is.wait lists declared))
       (after_all go token_at version lists (map (update_for (up_to_version version history) token_at) (map (asked_list options) lists))
-      (updates_are_to greatest last history token_at options limits always version is.within lists declared))
+      (updates_are_to greatest last history token_at options limits always version is.within lists declared)))
 
   nothing_came : (lists : List Held) (round : Round) → IsUnanswered round → lists_after_round lists round ≡ lists
   nothing_came lists round is = ap (λ (answer : Result FetchResponse RoundFault). after_updates lists (updates_of answer)) is.none

@@ -1,10 +1,10 @@
 -- What a server answers is genuine.
-use Rattle.std.proofs.Common.{◌≡◌, ℕ, ◌+◌, ◌^◌, ◌<◌, ◌≤◌, inl, inr, List, [], ◌++◌, length, map, get_or, refl, sym, ap, subst, ◌∙◌, arith, Option, Some, None, Result, Ok}
+use Rattle.std.proofs.Common.{◌≡◌, ℕ, ◌+◌, ◌^◌, ◌<◌, ◌≤◌, inl, inr, List, [], ◌++◌, length, map, get_or, refl, sym, ap, subst, ◌∙◌, arith, true, Option, Some, None, Result, Ok}
 use Rattle.std.specs.Prelude.{◌↔◌, Contains, IsTrue, IsOkAnd, not, if◌then◌else◌}
 use Rattle.std.specs.Str.{bytes_eq}
 use Rattle.std.specs.List.{AllByRecursion, range_with_len}
 use Rattle.std.proofs.lemmas.List.{length-take-le}
-use Rattle.std.proofs.lemmas.List.Elements.{All-map, All-weaker, recursion_from_All}
+use Rattle.std.proofs.lemmas.List.Elements.{All-map, All-weaker, filter_passes, recursion_from_All}
 use Rattle.std.proofs.lemmas.Slice.Eq.{bytes_eq-Decides}
 use Rattle.sb_model.specs.declared.names.ListName.{ListName}
 use Rattle.sb_model.specs.History.{History, IsWellFormed, version_count, up_to_version, declares, sizes_at, prefix_of, prefixes_at}
@@ -17,7 +17,7 @@ use Rattle.rice_coding.specs.declared.fault.RiceFault.{RiceFault}
 use Rattle.prefix_set.specs.Apply.{applied}
 use Rattle.update_messages.specs.Messages.{AskedList, UpdatedList}
 use Rattle.update_messages.specs.Rising.{SentNumbersRise}
-use Rattle.update_messages.specs.Answer.{version_named, declared_size, addition_sets, update_to, update_for}
+use Rattle.update_messages.specs.Answer.{declared_items, version_named, declared_size, addition_sets, update_to, update_for}
 use Rattle.update_client.specs.Held.{digest_of}
 use Rattle.update_client.specs.Step.{◌>>=◌, most_values, prefixes_of, places_of, joined, meaning_of}
 use Rattle.update_client.specs.Genuine.{IsWithinLimitsAlways, HasByteHashes, IsAnswerItem, AnswersAreGenuine}
@@ -213,7 +213,9 @@ module _ (laws : LowerLaws) where
         (omega (arith, laws.last known asked.name (version_named known token_at asked.name asked.state) asked.max_update asked.max_database, known_count))
 
   pub answers : AnswersAreGenuine
-  answers history token_at count wait request formed naming limits hashes below declared =
-      All-map (IsAnswerItem history token_at) (update_for (up_to_version count history) token_at) request.items
-      (All-weaker (λ (asked : AskedList). IsTrue (declares history asked.name)) (λ (asked : AskedList). IsAnswerItem history token_at (update_for (up_to_version count history) token_at asked))
-      (λ asked h. answer_item history token_at formed limits hashes count below asked h) request.items declared)
+  answers history token_at count wait request formed naming limits hashes below =
+      let known : List AskedList = declared_items (up_to_version count history) request.items in
+      All-map (IsAnswerItem history token_at) (update_for (up_to_version count history) token_at) known
+      (All-weaker (λ (asked : AskedList). declares history asked.name ≡ true) (λ (asked : AskedList). IsAnswerItem history token_at (update_for (up_to_version count history) token_at asked))
+      (λ asked h. answer_item history token_at formed limits hashes count below asked h) known
+      (filter_passes (λ (asked : AskedList). declares history asked.name) request.items))

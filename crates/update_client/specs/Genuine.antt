@@ -39,10 +39,9 @@ pub record IsAnswerItem (history : History) (token_at : Naming) (update : Update
   pub genuine : IsGenuine history token_at update made_from
   pub names_base : update.full ≡ false → update.base ≡ token_at update.name made_from
 
--- What a server answers to a request for lists that it declares is genuine, however far its history has come by then.
+-- What a server answers is genuine, however far its history has come by then.
 abbrev pub AnswersAreGenuine : Type 0
 AnswersAreGenuine =
     (history : History) (token_at : Naming) (count wait : ℕ) (request : Request)
     → IsWellFormed history → IsNaming history token_at → IsWithinLimitsAlways history → HasByteHashes history → count ≤ version_count history
-    → All (λ asked. IsTrue (declares history asked.name)) request.items
     → All (IsAnswerItem history token_at) (fetch_answer (up_to_version count history) token_at wait request).items

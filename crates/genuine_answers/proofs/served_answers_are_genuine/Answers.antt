@@ -20,15 +20,15 @@ few_prefixes history within = record {
 }
 
 pub returns-clause-earlier : goal.returns-clause-earlier
-returns-clause-earlier c count wait request is declared =
+returns-clause-earlier c count wait request is =
     let history = c.args.history.now.versions in
     c.answers_are_genuine.ensures history _ count wait request c.len.ensures.well_formed
     (c.tokens_name_versions.ensures history (omega (arith)) (omega (arith)))
-    (few_prefixes history c.len.ensures.within) (subst (λ (changes : List Change). All (λ (change : Change). All (λ (added : Added). All (λ byte. byte < 256) added.hash) change.adds) changes) c.changes.ensures c.hashes_are_bytes.ensures) is declared
+    (few_prefixes history c.len.ensures.within) (subst (λ (changes : List Change). All (λ (change : Change). All (λ (added : Added). All (λ byte. byte < 256) added.hash) change.adds) changes) c.changes.ensures c.hashes_are_bytes.ensures) is
 
 pub returns-clause-now : goal.returns-clause-now
-returns-clause-now c wait request declared =
+returns-clause-now c wait request =
     let history = c.args.history.now.versions in
     subst (λ (changes : List Change). All (IsAnswerItem history (server_naming history)) (fetch_answer (record history { changes = changes }) (server_naming history) wait request).items)
     (take_all (version_count history) history.changes (omega (arith)))
-    (returns-clause-earlier c (version_count history) wait request (omega (arith)) declared)
+    (returns-clause-earlier c (version_count history) wait request (omega (arith)))

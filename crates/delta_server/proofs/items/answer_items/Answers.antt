@@ -1,5 +1,7 @@
+use Rattle.std.proofs.Common.{sym, ◌∙◌}
 use Rattle.update_messages.specs.Answer.{update_for}
-use Rattle.sb_model.specs.History.{History}
+use Rattle.update_messages.specs.Messages.{AskedList}
+use Rattle.sb_model.specs.History.{History, declares}
 use Rattle.delta_server.specs.Tokens.{server_naming}
 use Rattle.delta_server.proofs.AnswerFacts.{answered_more}
 use Rattle.delta_server.proofs.items.answer_items.Goals as goal
@@ -10,6 +12,7 @@ loop-asked-preserved c =
     record {
       swept = c.in_ok-answer_item.ensures.swept;
       updates =
-          answered_more (update_for versions (server_naming versions)) c.args.items.now c.loop-asked.asked-index c.asked-item.result c.loop-asked.updates c.push.new.self
-          c.in_ok-answer_item.field-0 c.loop-asked-test.true c.asked-item.is c.loop-asked.invariant.updates c.in_ok-answer_item.ensures.update c.in_ok-push.ensures.ok;
+          answered_more (λ (asked : AskedList). declares versions asked.name) c.args.items.now c.loop-asked.asked-index c.asked-item.result c.loop-asked-test.true c.asked-item.is
+          (update_for versions (server_naming versions)) c.loop-asked.updates c.push.new.self
+          c.in_ok-answer_item.field-0 (sym c.is_known.ensures ∙ c.if-not-is_known.false) c.loop-asked.invariant.updates c.in_ok-answer_item.ensures.update c.in_ok-push.ensures.ok;
     }

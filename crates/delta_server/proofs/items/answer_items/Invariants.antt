@@ -1,5 +1,5 @@
 use Rattle.std.proofs.Common.{◌≡◌, map, take}
-use Rattle.update_messages.specs.Answer.{update_for}
+use Rattle.update_messages.specs.Answer.{declared_items, update_for}
 use Rattle.delta_server.specs.Swept.{AreOf}
 use Rattle.delta_server.specs.Tokens.{server_naming}
 use Rattle.delta_server.proofs.items.answer_items.Given as goal
@@ -7,5 +7,5 @@ use Rattle.delta_server.proofs.items.answer_items.Given as goal
 abbrev pub invariant-loop-asked : goal.invariant-loop-asked
 invariant-loop-asked l = record {
   swept : AreOf l.history.versions l.swept;
-  updates : l.updates ≡ map (update_for l.history.versions (server_naming l.history.versions)) (take l.asked-index l.items);
+  updates : l.updates ≡ map (update_for l.history.versions (server_naming l.history.versions)) (declared_items l.history.versions (take l.asked-index l.items));
 }

@@ -8,7 +8,7 @@ use Rattle.generated_load.proofs.exercising.first_checksum.Goals as goal
 pub returns-clause-checksum : goal.returns-clause-checksum
 returns-clause-checksum c =
     let history = c.args.history.now.versions in
-    let update = item_is history [] c.in_ok-response.response c.at.result.now c.in_ok-response.ensures.answer c.at.ensures in
+    let update = item_is history [] c.in_ok-response.response c.at.result.now c.requires c.in_ok-response.ensures c.at.ensures in
     ap (λ (u : UpdatedList). u.checksum) c.behind-response.view_is ∙ ap (λ (u : UpdatedList). u.checksum) update
     ∙ first_checksum history (c.targets_are_the_greatest.ensures.greatest history generated_list None 0 0 (version_count history) (omega arith))
     (c.targets_are_the_greatest.ensures.last history generated_list None 0 0)

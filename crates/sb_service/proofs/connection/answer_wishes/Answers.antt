@@ -29,7 +29,7 @@ returns-clause-right c =
     let response = c.in_ok-response.response in
     sent_right c.args.history.now.versions c.args.settings.now c.args.request.now response c.keep_made.result c.keep_made.ensures.answer
     (response_of_message c.args.history.now.versions c.args.settings.now c.args.request.now c.args.message.now response.status response.allow response.body
-    c.requires.reads c.requires.only c.in_ok-response.ensures)
+    c.requires.reads c.in_ok-response.ensures.status c.in_ok-response.ensures.body)
 
 pub returns-clause-kept : goal.returns-clause-kept
 returns-clause-kept c =
@@ -39,4 +39,4 @@ returns-clause-kept c =
     kept_after c.args.history.now.versions c.args.settings.now c.len.ensures.within c.args.request.now c.args.message.now c.as_slice-asked.result.now
     c.in_ok-wishes.wishes c.in_ok-response.response c.text_by_wishes.new.self c.keep_made.new.kept c.as_slice-asked.ensures c.requires.reads
     (subst (λ (items : List AskedList). IfSome c.in_ok-wishes.wishes (AreWishesOf c.args.history.now.versions items)) same c.in_ok-wishes.ensures.wishes)
-    c.in_ok-response.ensures before c.keep_made.ensures.kept
+    c.in_ok-response.ensures.status c.in_ok-response.ensures.body before c.keep_made.ensures.kept

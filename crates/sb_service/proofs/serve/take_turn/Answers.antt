@@ -1,10 +1,8 @@
-use Rattle.std.proofs.Common.{inl, inr, not, sym, subst, ◌∙◌}
-use Rattle.std.specs.Prelude.{◌==◌}
+use Rattle.std.proofs.Common.{inl, inr, sym, subst}
 use Rattle.http_serving.specs.Serving.{IsUntouched}
 use Rattle.sb_service.specs.Kept.{AreKeptOf}
 use Rattle.sb_service.proofs.Entries.{logged}
-use Rattle.sb_service.proofs.Growing.{read_later}
-use Rattle.sb_service.proofs.Staying.{kept_or_forgotten, one_count}
+use Rattle.sb_service.proofs.Keeping.{kept_or_forgotten}
 use Rattle.sb_service.proofs.serve.take_turn.Goals as goal
 
 pub returns-in-Ok-clause-turn : goal.returns-in-Ok-clause-turn
@@ -36,10 +34,7 @@ returns-in-Err-clause-turn g c = λ before coming pieces opening taken fresh.
 
 pub serve_taken-requires : goal.serve_taken-requires
 serve_taken-requires g c =
-    let grown = c.in-Ok.ensures.ok in
     let old = c.args.history.now in
-    let new = c.grow.new.self in
+    let new = c.grow_if_more.new.self in
     subst (AreKeptOf new.versions c.args.settings.now) (sym c.forget_if.ensures)
-    (kept_or_forgotten old.versions new.versions c.args.settings.now c.args.kept.now (not (c.len.result == c.len-known.result))
-    (read_later old grown.0 new grown.2)
-    (λ same. sym c.len.ensures.count ∙ one_count c.len.result c.len-known.result same ∙ c.len-known.ensures.count) c.requires)
+    (kept_or_forgotten old new c.args.settings.now c.args.kept.now c.in-Ok.grown c.in-Ok.ensures.nothing c.requires)
