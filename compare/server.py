@@ -255,7 +255,7 @@ def answer_item(journal, asked):
 
 
 def fetch_body(journal, text, times):
-    """The body of the answer to a fetch request."""
+    """The body of the answer to a fetch request. Lists that are not declared have no item."""
     items = [answer_item(journal, asked) for asked in read_request(text) if asked["name"] in journal.declared]
     body = {"listUpdateResponses": items} if items else {}
     return body | some_seconds("minimumWaitDuration", times["wait"])

@@ -1,13 +1,14 @@
-ghost use Rattle.std.specs.Prelude.{◌≡◌, ◌≤◌, true, Some, None, map, All, IfOk, OnOk, IfSome};
+ghost use Rattle.std.specs.Prelude.{◌≡◌, ◌≤◌, true, Some, None, map, IfOk, OnOk, IfSome};
 ghost use Rattle.sha2.specs.Sha256.{sha256};
 ghost use Rattle.sb_model.specs.Prefixes.{concatenation};
 ghost use Rattle.sb_model.specs.History.{declares, prefixes_at, version_count};
 ghost use Rattle.sb_model.specs.Target.{target_version};
-ghost use Rattle.update_messages.specs.Answer.{version_named, update_to, update_for};
+ghost use Rattle.update_messages.specs.Answer.{declared_items, version_named, update_to, update_for};
 ghost use Rattle.delta_server.specs.Served.{IsServed, LeadsTo, LeadsToNewest};
 ghost use Rattle.delta_server.specs.Swept.{AreOf};
 ghost use Rattle.delta_server.specs.Tokens.{server_naming, server_token};
 
+use crate::answering::is_declared;
 use crate::passages::{Lead, kept_lead, kept_set};
 use crate::served::{Served, served_list, set_at};
 use crate::swept::Swept;
@@ -262,7 +263,15 @@ fn partial_answer(
         let token = state_token(history.epoch(), list, held);
         return unchanged_update(alloc, asked, served.digest, token);
     }
-    match newest_delta(alloc, history, swept, list, served.set, held, limits_of(asked))? {
+    match newest_delta(
+        alloc,
+        history,
+        swept,
+        list,
+        served.set,
+        held,
+        limits_of(asked),
+    )? {
         Some(delta) => newest_answer(alloc, history, served, asked, held, delta),
         None => swept_answer(alloc, history, swept, served, asked, held),
     }
@@ -299,13 +308,6 @@ fn answer_item(
     }
 }
 
-// Whether the list of an item is declared.
-fn is_known(history: &History, asked: &ListRequest) -> bool
-    ensures { result ≡ declares history.now.versions asked.now.name }
-{
-    is_declared(history, asked.name)
-}
-
 /// The updates of those asked lists that are declared, in their order. A list is swept at most once.
 pub(crate) fn answer_items(
     alloc: Global,
@@ -318,7 +320,7 @@ pub(crate) fn answer_items(
     let mut updates = Row::with_capacity(alloc, items.len())?;
     let mut swept = Swept::new(alloc);
     for asked in items {
-        if !is_known(history, asked) {
+        if !is_declared(history, asked.name) {
             continue;
         }
         updates.push(answer_item(alloc, history, &mut swept, asked)?)?;

@@ -335,7 +335,9 @@ fn takes_newest(
 {
     match from {
         None => Ok(takes_whole(newest, limits)),
-        Some(held) => Ok(newest_delta(alloc, history, swept, list, newest, held, limits)?.is_some()),
+        Some(held) => Ok(newest_delta(
+            alloc, history, swept, list, newest, held, limits,
+        )?.is_some()),
     }
 }
 
