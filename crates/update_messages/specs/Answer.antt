@@ -6,7 +6,7 @@ use Rattle.std.specs.Str.{bytes_eq}
 use Rattle.sha2.specs.Sha256.{sha256}
 use Rattle.sb_model.specs.declared.names.ListName.{ListName}
 use Rattle.sb_model.specs.Names.{same_name}
-use Rattle.sb_model.specs.History.{History, version_count, prefixes_at}
+use Rattle.sb_model.specs.History.{History, declares, version_count, prefixes_at}
 use Rattle.sb_model.specs.Naming.{Naming}
 use Rattle.sb_model.specs.Prefixes.{concatenation}
 use Rattle.sb_model.specs.Difference.{removed_places, added_members}
@@ -93,9 +93,14 @@ update_for history token_at asked =
     let held = version_named history token_at asked.name asked.state in
     update_to history token_at asked held (target_version history asked.name held asked.max_update asked.max_database)
 
--- the answer to a request, with a minimum wait in seconds: one item for each asked item, in order
+-- the items whose lists a history declares, in order
+abbrev pub declared_items : History → List AskedList → List AskedList
+declared_items history items = filter (λ asked. declares history asked.name) items
+
+-- The answer to a request, with a minimum wait in seconds: one item for each asked item whose list is declared, in their order, and none for
+-- others.
 abbrev pub fetch_answer : History → Naming → ℕ → Request → FetchResponse
 fetch_answer history token_at wait request = record {
-  items = map (update_for history token_at) request.items;
+  items = map (update_for history token_at) (declared_items history request.items);
   wait = wait * 1000000000;
 }
