@@ -219,6 +219,7 @@ module _ (plan : Plan) (kept : Option (List ℕ)) (waits : WaitState) (before : 
       fails = fails.fails;
       written = fails.written;
       text = fails.text;
+      unanswered = fails.unanswered;
       lacks = fails.lacks;
     }
 

@@ -31,16 +31,20 @@ saved_one_more lists (first ∷ rounds) round =
     ap (λ stores. saved_in lists first ++ stores) (saved_one_more (lists_after_round lists first) rounds round)
     ∙ sym (append_assoc (saved_in lists first) (saved_lists (lists_after_round lists first) rounds) (saved_in (lists_after (lists_after_round lists first) (map body_of rounds)) round))
 
+-- what is told of a round that was made from these lists
+abbrev told_from : ℕ → List Held → Round → List ℕ
+told_from number lists round = told_end number (lists_after_round lists round) (end_of lists round)
+
 text_one_more : (number : ℕ) (lists : List Held) (rounds : List Round) (round : Round)
-    → rounds_text number lists (rounds ++ round ∷ []) ≡ rounds_text number lists rounds ++ told_end (number + length rounds) (end_of (lists_after lists (map body_of rounds)) round)
+    → rounds_text number lists (rounds ++ round ∷ []) ≡ rounds_text number lists rounds ++ told_from (number + length rounds) (lists_after lists (map body_of rounds)) round
 text_one_more number lists [] round =
-    append-nil (told_end number (end_of lists round)) ∙ ap (λ n. told_end n (end_of lists round)) (omega arith)
+    append-nil (told_from number lists round) ∙ ap (λ n. told_from n lists round) (omega arith)
 text_one_more number lists (first ∷ rounds) round =
     let rest = text_one_more (number + 1) (lists_after_round lists first) rounds round in
-    let last = end_of (lists_after (lists_after_round lists first) (map body_of rounds)) round in
+    let last = lists_after (lists_after_round lists first) (map body_of rounds) in
     let count : (number + 1) + length rounds ≡ number + length (first ∷ rounds) = omega arith in
-    ap (λ text. told_end number (end_of lists first) ++ text) (rest ∙ ap (λ n. rounds_text (number + 1) (lists_after_round lists first) rounds ++ told_end n last) count)
-    ∙ sym (append_assoc (told_end number (end_of lists first)) (rounds_text (number + 1) (lists_after_round lists first) rounds) (told_end (number + length (first ∷ rounds)) last))
+    ap (λ text. told_from number lists first ++ text) (rest ∙ ap (λ n. rounds_text (number + 1) (lists_after_round lists first) rounds ++ told_from n last round) count)
+    ∙ sym (append_assoc (told_from number lists first) (rounds_text (number + 1) (lists_after_round lists first) rounds) (told_from (number + length (first ∷ rounds)) last round))
 
 or_nothing : (a : Bool) → (a || false) ≡ a
 or_nothing true = refl
@@ -87,10 +91,14 @@ module _ (plan : Plan) (number : ℕ) (rounds : List Round) (client between : Cl
     end_is : end ≡ end_of (lists_after client.lists (map body_of rounds)) made.round
     end_is = same_end end between.lists made.round made.begun made.taken ∙ ap (λ (ls : List Held). end_of ls made.round) so_far.lists_are
 
-    pub text_all : (client.page ++ rounds_text number client.lists rounds) ++ told_end (number + length rounds) end ≡ client.page ++ rounds_text number client.lists (rounds ++ made.round ∷ [])
+    lists_is : lists ≡ lists_after_round (lists_after client.lists (map body_of rounds)) made.round
+    lists_is = made.lists_after ∙ ap (λ (ls : List Held). lists_after_round ls made.round) so_far.lists_are
+
+    pub text_all : (client.page ++ rounds_text number client.lists rounds) ++ told_end (number + length rounds) lists end ≡ client.page ++ rounds_text number client.lists (rounds ++ made.round ∷ [])
     text_all =
-        append_assoc client.page (rounds_text number client.lists rounds) (told_end (number + length rounds) end)
-        ∙ ap (λ e. client.page ++ (rounds_text number client.lists rounds ++ told_end (number + length rounds) e)) end_is
+        append_assoc client.page (rounds_text number client.lists rounds) (told_end (number + length rounds) lists end)
+        ∙ ap (λ e. client.page ++ (rounds_text number client.lists rounds ++ told_end (number + length rounds) lists e)) end_is
+        ∙ ap (λ (ls : List Held). client.page ++ (rounds_text number client.lists rounds ++ told_end (number + length rounds) ls (end_of (lists_after client.lists (map body_of rounds)) made.round))) lists_is
         ∙ ap (λ text. client.page ++ text) (sym (text_one_more number client.lists rounds made.round))
 
     pub refusals_all : (refused more : Bool) → refused ≡ has_refusals client.lists rounds → more ≡ has_refusal end.taken → (refused || more) ≡ has_refusals client.lists (rounds ++ made.round ∷ [])
@@ -122,7 +130,7 @@ pub goes_on_taking : GoesOnWithRounds → GoesOnTaking
 goes_on_taking go plan number rounds client between client' before mid after refused more so_far takes =
     let saved = saved_all plan number rounds client between before mid after client'.lists client'.waits takes.end go so_far.made takes.made in
     let text = text_all plan number rounds client between before mid after client'.lists client'.waits takes.end go so_far.made takes.made in
-    let lines = told_end (number + length rounds) takes.end in record {
+    let lines = told_end (number + length rounds) client'.lists takes.end in record {
       made = made_all plan number rounds client between before mid after client'.lists client'.waits takes.end go so_far.made takes.made;
       saved = subst (λ all. HasSaved all before.keeper after.keeper) (sym saved)
           (saved_both before.keeper mid.keeper after.keeper (saved_lists client.lists rounds) (saved_after takes.end.taken client'.lists) so_far.saved takes.saved);

@@ -1,11 +1,11 @@
 -- What a keeper was handed, one store after the other.
-use Rattle.std.proofs.Common.{◌≡◌, ◌<◌, ℕ, List, [], ◌∷◌, ◌++◌, Bool, true, false, map, refl, sym, ap, ◌∙◌, subst, inl, inr, append-nil}
-use Rattle.std.specs.Prelude.{All, Option, Some, IsTrue, Result, Ok, Err, IfErr, if◌then◌else◌}
+use Rattle.std.proofs.Common.{◌≡◌, ◌≢◌, ◌<◌, ℕ, List, [], ◌∷◌, ◌++◌, Bool, true, false, map, refl, sym, ap, ◌∙◌, subst, inl, inr, append-nil}
+use Rattle.std.specs.Prelude.{All, Option, Some, IsTrue, Result, Ok, if◌then◌else◌}
 use Rattle.std.proofs.lemmas.List.{map-append}
 use Rattle.std.proofs.lemmas.List.Elements.{All-nil, All-cons, All-append}
 use Rattle.sb_outside.specs.Keeping.{IsTorn}
 use Rattle.sb_outside.specs.Outside.{IfTold, appended, with_entry}
-use Rattle.sb_outside.specs.Writing.{HasFront}
+use Rattle.sb_outside.specs.Writing.{IsOnItsWay, HasFront}
 use Rattle.client_store.specs.Reading.{store_reading}
 use Rattle.client_store.specs.Store.{store_text}
 use Rattle.timed_sessions.specs.Told.{with_more}
@@ -14,14 +14,14 @@ use Rattle.sb_round.specs.Printed.{round_lines}
 use Rattle.sb_round.specs.declared.rounds.RoundEnd.{RoundEnd}
 use Rattle.sb_round.specs.declared.rounds.RoundFault.{RoundFault}
 use Rattle.sb_round.specs.declared.rounds.Taken.{Taken}
-use Rattle.update_run.specs.Printed.{saved_line, told_end}
+use Rattle.update_run.specs.Printed.{not_answered, not_answered_lines, saved_line, saved_part, told_end}
 use Rattle.update_run.specs.Rounding.{StopsSaving}
 use Rattle.update_run.specs.Saved.{Keeping, HasSaved, FailsToSave, MayLackLast, ReadsAgain, has_installed, kept_then, saved_after}
 use Rattle.update_run.specs.Steps.{MayHaveSaved, StopsTelling}
 use Rattle.update_run.specs.declared.stop.RunStop.{RunStop}
 use Rattle.update_run.specs.declared.stop.RunStop.TheVariants as stop
 use Rattle.update_run.proofs.Entries.{told_itself, told_through, told_nothing, told_both}
-use Rattle.update_run.proofs.Ways.{nothing_taken}
+use Rattle.update_run.proofs.Ways.{front_of_more, front_of_rest, some_front, way_longer}
 
 -- ---- stores
 
@@ -74,9 +74,6 @@ failed_one lists text given before after same is again handed torn =
 
 -- ---- where a client stops when it tells a round
 
-no_end_yet : (known : Option (List ℕ)) (number : ℕ) (end : RoundEnd) → HasFront known known (told_end number end)
-no_end_yet known number end = nothing_taken known (told_end number end) (λ e. cc)
-
 line_true : (taken : Bool) (line : List ℕ) → IsTrue taken → line ≡ (if taken then line else [])
 line_true true line h = refl
 line_true false line h = absurd (cc)
@@ -85,35 +82,63 @@ lists_true : (taken : Bool) (lists : List Held) → IsTrue taken → lists ∷ [
 lists_true true lists h = refl
 lists_true false lists h = absurd (cc)
 
-told_lines : (waiting : List ℕ) (number : ℕ) (end : RoundEnd) → waiting ≡ round_lines number end → IsTrue (has_installed end.taken) → waiting ++ saved_line number ≡ told_end number end
-told_lines waiting number end page some =
-    ap (λ bytes. bytes ++ saved_line number) page
-    ∙ ap (λ line. round_lines number end ++ line) (line_true (has_installed end.taken) (saved_line number) some)
+-- the lines behind that of the store
+abbrev last_lines : ℕ → List Held → RoundEnd → List ℕ
+last_lines number lists end = not_answered_lines number (not_answered lists end.taken)
+
+told_lines : (waiting : List ℕ) (number : ℕ) (lists : List Held) (end : RoundEnd) → waiting ≡ round_lines number end → IsTrue (has_installed end.taken)
+    → (waiting ++ saved_line number) ++ last_lines number lists end ≡ told_end number lists end
+told_lines waiting number lists end page some =
+    ap (λ bytes. bytes ++ saved_line number ++ last_lines number lists end) page
+    ∙ ap (λ line. round_lines number end ++ line ++ last_lines number lists end) (line_true (has_installed end.taken) (saved_line number) some)
+
+front_told : (waiting : List ℕ) (number : ℕ) (lists : List Held) (end : RoundEnd) (held held' : Option (List ℕ)) → waiting ≡ round_lines number end → IsTrue (has_installed end.taken)
+    → HasFront held held' (waiting ++ saved_line number) → HasFront held held' (told_end number lists end)
+front_told waiting number lists end held held' page some front =
+    subst (λ text. HasFront held held' text) (told_lines waiting number lists end page some) (front_of_more (waiting ++ saved_line number) (last_lines number lists end) front)
 
 stops_telling : (why : RunStop) (number : ℕ) (end : RoundEnd) (lists : List Held) (before after : Keeping) (held held' : Option (List ℕ)) (waiting : List ℕ)
     → waiting ≡ round_lines number end → IsTrue (has_installed end.taken) → StopsSaving why number lists before after held held' waiting
     → StopsTelling why number end lists before after held held'
 stops_telling stop.WriteFault number end lists before after held held' waiting page some stops =
-    (stops.0, subst (λ text. HasFront held held' text) (told_lines waiting number end page some) stops.1)
+    (stops.0, front_told waiting number lists end held held' page some stops.1)
 stops_telling stop.KeepFault number end lists before after held held' waiting page some (fails, text) =
     (some, fails, text ∙ ap (appended held) page)
 stops_telling stop.OutOfMemory number end lists before after held held' waiting page some stops =
-    (may stops.0, subst (λ text. HasFront held held' text) (told_lines waiting number end page some) stops.1)
+    (may stops.0, front_told waiting number lists end held held' page some stops.1)
   where
     may : MayHaveSaved (lists ∷ []) before after → MayHaveSaved (saved_after end.taken lists) before after
     may (inl same) = inl same
     may (inr saves) = inr (subst (λ stores. HasSaved stores before after) (lists_true (has_installed end.taken) lists some) saves)
 
--- a round that could not be told
-pub not_told : (number : ℕ) (end : RoundEnd) (lists : List Held) (keeper : Keeping) (held : Option (List ℕ)) → StopsTelling stop.OutOfMemory number end lists keeper keeper held held
-not_told number end lists keeper held = (inl refl, no_end_yet held number end)
-
-pub told_err : {T : Type 0} (r : Result T RunStop) (number : ℕ) (end : RoundEnd) (lists : List Held) (before after : Keeping) (held held' : Option (List ℕ)) (waiting waiting' : List ℕ)
-    → waiting ≡ [] → waiting' ≡ waiting ++ round_lines number end → IfErr r (λ _. IsTrue (has_installed end.taken)) → IfErr r (λ why. StopsSaving why number lists before after held held' waiting')
-    → IfErr r (λ why. StopsTelling why number end lists before after held held')
-told_err (Ok x) number end lists before after held held' waiting waiting' none page some stops = tt
-told_err (Err why) number end lists before after held held' waiting waiting' none page some stops =
+-- a round of which a list was not saved
+pub told_err : (why : RunStop) (number : ℕ) (end : RoundEnd) (lists : List Held) (before after : Keeping) (held held' : Option (List ℕ)) (waiting waiting' : List ℕ)
+    → waiting ≡ [] → waiting' ≡ waiting ++ round_lines number end → IsTrue (has_installed end.taken) → StopsSaving why number lists before after held held' waiting'
+    → StopsTelling why number end lists before after held held'
+told_err why number end lists before after held held' waiting waiting' none page some stops =
     stops_telling why number end lists before after held held' waiting' (page ∙ ap (λ w. w ++ round_lines number end) none) some stops
+
+-- In what follows the lines of a round wait behind nothing, and then that of its store.
+module _ (number : ℕ) (end : RoundEnd) (lists : List Held) (held held' : Option (List ℕ)) (waiting waiting' waiting'' : List ℕ)
+    (none : waiting ≡ []) (page : waiting' ≡ waiting ++ round_lines number end) (way : IsOnItsWay held held' waiting'' (waiting' ++ saved_part number end.taken))
+  where
+    told_whole : (waiting' ++ saved_part number end.taken) ++ last_lines number lists end ≡ told_end number lists end
+    told_whole = ap (λ bytes. bytes ++ saved_part number end.taken ++ last_lines number lists end) (page ∙ ap (λ w. w ++ round_lines number end) none)
+
+    longer : IsOnItsWay held held' (waiting'' ++ last_lines number lists end) (told_end number lists end)
+    longer =
+        subst (λ text. IsOnItsWay held held' (waiting'' ++ last_lines number lists end) text) told_whole
+        (way_longer waiting'' (waiting' ++ saved_part number end.taken) (last_lines number lists end) way)
+
+    -- a round that was told to its end
+    pub told_to_end : (last : List ℕ) → last ≡ waiting'' ++ last_lines number lists end → IsOnItsWay held held' last (told_end number lists end)
+    told_to_end last is = subst (λ page. IsOnItsWay held held' page (told_end number lists end)) (sym is) longer
+
+    -- a round whose last lines could not be made
+    pub not_told_to_end : (before after : Keeping) → waiting'' ≢ [] → HasSaved (saved_after end.taken lists) before after
+        → StopsTelling stop.OutOfMemory number end lists before after held held'
+    not_told_to_end before after some saved =
+        (inr saved, front_of_rest (waiting'' ++ last_lines number lists end) (told_end number lists end) (some_front waiting'' (last_lines number lists end) some) longer)
 
 -- a round that installed nothing
 pub nothing_to_save : (taken : Result (List Taken) RoundFault) (lists : List Held) (keeper : Keeping) → has_installed taken ≡ false → HasSaved (saved_after taken lists) keeper keeper

@@ -11,7 +11,7 @@ use Rattle.sb_round.specs.Round.{Round, MakesRound}
 use Rattle.sb_round.specs.Rounds.{MakesRounds, GoesOnWithRounds}
 use Rattle.sb_round.specs.declared.rounds.RoundEnd.{RoundEnd}
 use Rattle.update_run.specs.Saved.{Keeping, HasSaved, FailsToSave, MayLackLast, has_installed, saved_after, saved_lists}
-use Rattle.update_run.specs.Printed.{saved_line, told_end}
+use Rattle.update_run.specs.Printed.{not_answered, not_answered_lines, saved_line, saved_part, told_end}
 use Rattle.update_run.specs.Run.{Seen}
 use Rattle.update_run.specs.Rounding.{StopsAtStart, StopsOneRound, StopsAfterRounds, BreaksOffAfterRounds, FailsAfterRounds, StopsRounds, text_so_far}
 use Rattle.update_run.specs.Steps.{MayHaveSaved, StopsWithin, StopsRound, TakesRounds}
@@ -81,14 +81,14 @@ how_many stores all lists installed first mid after are saved (inr saves) = reco
 stopped_telling : (plan : Plan) (number : ℕ) (rounds : List Round) (client between : Client) (first mid after : Seen) (refused : Bool) (lists : List Held) (waits : WaitState) (end : RoundEnd)
     → GoesOnWithRounds → 1 + length rounds ≡ number → number ≤ plan.rounds → between.page ≡ [] → TakesRounds plan 1 rounds client between first mid refused
     → MakesRound between.lists between.waits plan.options plan.target plan.need_digest mid.outside after.outside lists waits end
-    → MayHaveSaved (saved_after end.taken lists) mid.keeper after.keeper → HasFront mid.held after.held (told_end number end)
+    → MayHaveSaved (saved_after end.taken lists) mid.keeper after.keeper → HasFront mid.held after.held (told_end number lists end)
     → StopsAfterRounds plan client (text_so_far client) first after
 stopped_telling plan number rounds client between first mid after refused lists waits end go count few none so_far made may front =
     let text = text_all plan 1 rounds client between first mid after lists waits end go so_far.made made in
     let stores = saved_all plan 1 rounds client between first mid after lists waits end go so_far.made made in
-    let lines = told_end (1 + length rounds) end in
+    let lines = told_end (1 + length rounds) lists end in
     let saved = how_many (saved_lists client.lists rounds) (saved_lists client.lists (rounds ++ made.round ∷ [])) lists (has_installed end.taken) first.keeper mid.keeper after.keeper stores so_far.saved may in
-    let here = subst (λ n. HasFront mid.held after.held (told_end n end)) (sym count) front in
+    let here = subst (λ n. HasFront mid.held after.held (told_end n lists end)) (sym count) front in
     let behind = subst (λ (page : List ℕ). HasFront mid.held after.held (page ++ lines)) (sym none) here in record {
       rounds = rounds ++ made.round ∷ [];
       few = omega (arith, count, few, one_longer rounds made.round);
@@ -117,6 +117,7 @@ stopped_saving : (plan : Plan) (number : ℕ) (rounds : List Round) (client betw
 stopped_saving plan number rounds client between first mid after refused lists waits end go count few none so_far made some fails held =
     let page = text_so_far client rounds in
     let lines = round_lines number end in
+    let unanswered = not_answered lists end.taken in
     let stores = saved_all plan 1 rounds client between first mid after lists waits end go so_far.made made in
     let text = text_all plan 1 rounds client between first mid after lists waits end go so_far.made made in
     let longer = one_longer rounds made.round in record {
@@ -133,11 +134,13 @@ stopped_saving plan number rounds client between first mid after refused lists w
       fails = fails;
       written = page ++ lines;
       text = held ∙ ap (λ known. appended known lines) (taken_whole between.page page none so_far.text) ∙ appended_twice first.held page lines;
+      unanswered = unanswered;
       lacks =
-          append_assoc page lines (saved_line (length (rounds ++ made.round ∷ [])))
-          ∙ ap (λ n. page ++ (lines ++ saved_line n)) (let n : length (rounds ++ made.round ∷ []) ≡ number = omega (arith, longer, count) in n)
-          ∙ ap (λ line. page ++ (lines ++ line)) (sym (line_true (has_installed end.taken) (saved_line number) some))
-          ∙ ap (λ n. page ++ told_end n end) (sym count)
+          ap (λ n. page ++ lines ++ saved_line n ++ not_answered_lines n unanswered) (let n : length (rounds ++ made.round ∷ []) ≡ number = omega (arith, longer, count) in n)
+          ∙ ap (λ line. page ++ lines ++ line ++ not_answered_lines number unanswered) (sym (line_true (has_installed end.taken) (saved_line number) some))
+          ∙ ap (λ text. text ++ not_answered_lines number unanswered) (append_assoc page lines (saved_part number end.taken))
+          ∙ append_assoc page (lines ++ saved_part number end.taken) (not_answered_lines number unanswered)
+          ∙ ap (λ n. page ++ told_end n lists end) (sym count)
           ∙ text;
     }
 

@@ -77,6 +77,10 @@ front_of_more text later v = record {
   missing = some_front v.lost later v.missing;
 }
 
+-- what waits, where there is some, is not taken
+pub front_of_rest : {a b : Option (List ℕ)} (waiting text : List ℕ) → waiting ≢ [] → IsOnItsWay a b waiting text → HasFront a b text
+front_of_rest waiting text some w = record { taken = w.taken; lost = waiting; has = w.has; rest = w.rest; missing = some }
+
 pub nothing_taken : (known : Option (List ℕ)) (text : List ℕ) → text ≢ [] → HasFront known known text
 nothing_taken known text some = record { taken = []; lost = text; has = appended_nothing known; rest = refl; missing = some }
 

@@ -1,7 +1,8 @@
 -- What a run prints.
-use Rattle.std.specs.Prelude.{ℕ, ◌+◌, Bool, true, false, ◌||◌, if◌then◌else◌, List, [], ◌∷◌, ◌++◌, length, map, Option, Some, None, Result, Ok, Err, codes, decimal}
+use Rattle.std.specs.Prelude.{ℕ, ◌+◌, Bool, true, false, not, ◌||◌, if◌then◌else◌, List, [], ◌∷◌, ◌++◌, length, map, filter, Option, Some, None, Result, Ok, Err, codes, decimal}
 use Rattle.std.specs.List.{list_any, flat_map}
-use Rattle.sb_model.specs.Names.{text_of}
+use Rattle.sb_model.specs.declared.names.ListName.{ListName}
+use Rattle.sb_model.specs.Names.{same_name, text_of}
 use Rattle.update_client.specs.Held.{Held}
 use Rattle.update_client.specs.Printed.{token_text}
 use Rattle.update_client.specs.Step.{is_refused}
@@ -42,15 +43,32 @@ end_of lists round = record { begun = round.session.begun; taken = taken_from li
 abbrev pub saved_part : ℕ → Result (List Taken) RoundFault → List ℕ
 saved_part number taken = if has_installed taken then saved_line number else []
 
--- the lines of a round, and that of its store
-abbrev pub told_end : ℕ → RoundEnd → List ℕ
-told_end number end = round_lines number end ++ saved_part number end.taken
+-- whether one of these updates is that of a list
+abbrev pub is_answered : List Taken → ListName → Bool
+is_answered taken name = list_any (λ (one : Taken). same_name one.name name) taken
+
+-- the names of the lists for which a round's answer had no update, in their order, and none where the round brought no answer
+abbrev pub not_answered : List Held → Result (List Taken) RoundFault → List ListName
+not_answered lists (Ok taken) = filter (λ name. not (is_answered taken name)) (map (λ (held : Held). held.name) lists)
+not_answered lists (Err fault) = []
+
+-- the line of such a list
+abbrev pub not_answered_line : ℕ → ListName → List ℕ
+not_answered_line number name = round_line number (text_of name ++ codes " not-answered")
+
+abbrev pub not_answered_lines : ℕ → List ListName → List ℕ
+not_answered_lines number names = flat_map (not_answered_line number) names
+
+-- the lines of a round that led to these lists, that of its store, and those of the lists for which its answer had no update
+abbrev pub told_end : ℕ → List Held → RoundEnd → List ℕ
+told_end number lists end =
+    round_lines number end ++ saved_part number end.taken ++ not_answered_lines number (not_answered lists end.taken)
 
 -- the lines of rounds, each where the rounds before it led
 abbrev pub rounds_text : ℕ → List Held → List Round → List ℕ
 rounds_text number lists [] = []
 rounds_text number lists (round ∷ rounds) =
-    told_end number (end_of lists round) ++ rounds_text (number + 1) (lists_after_round lists round) rounds
+    told_end number (lists_after_round lists round) (end_of lists round) ++ rounds_text (number + 1) (lists_after_round lists round) rounds
 
 -- ---- lists
 

@@ -1,6 +1,7 @@
 -- What is known of a run on the way through it.
 use Rattle.std.specs.Prelude.{◌≡◌, ◌⊎◌, ◌≤◌, ◌<◌, ℕ, nat_lt, if◌then◌else◌, Bool, List, [], ◌∷◌, ◌++◌, length, map, Option, Ok, Err}
 use Rattle.std.specs.List.{flat_map}
+use Rattle.sb_model.specs.declared.names.ListName.{ListName}
 use Rattle.sb_outside.specs.Outside.{appended}
 use Rattle.sb_outside.specs.Writing.{HasFront}
 use Rattle.update_client.specs.Held.{Held}
@@ -9,7 +10,7 @@ use Rattle.timed_sessions.specs.Told.{Outside}
 use Rattle.sb_round.specs.Round.{Round, BreaksOff}
 use Rattle.sb_round.specs.Rounds.{MakesRounds, body_of}
 use Rattle.sb_round.specs.Run.{lists_after}
-use Rattle.update_run.specs.Printed.{list_line, saved_line, has_refusals, rounds_text}
+use Rattle.update_run.specs.Printed.{list_line, saved_line, not_answered_lines, has_refusals, rounds_text}
 use Rattle.update_run.specs.Run.{Seen, RunEnding}
 use Rattle.update_run.specs.Saved.{Keeping, HasSaved, FailsToSave, MayLackLast, saved_lists}
 use Rattle.update_run.specs.Steps.{MayHaveSaved, WritesPage, TakesRound, StopsRound, TakesRounds}
@@ -115,7 +116,8 @@ pub record FailsAfterRounds (plan : Plan) (client : Client) (before after : Seen
   pub fails : FailsToSave last between after.keeper
   pub written : List ℕ
   pub text : after.held ≡ appended before.held written
-  pub lacks : written ++ saved_line (length rounds) ≡ text_so_far client rounds
+  pub unanswered : List ListName
+  pub lacks : written ++ saved_line (length rounds) ++ not_answered_lines (length rounds) unanswered ≡ text_so_far client rounds
 
 -- A client stopped after some rounds, of which this was to be written, or in one.
 abbrev pub StopsRounds : RunStop → Plan → Client → (text : List Round → List ℕ) → (before after : Seen) → Type 0

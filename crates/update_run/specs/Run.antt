@@ -1,6 +1,7 @@
 -- A run of a client: it begins with what its keeper kept, makes rounds of updates, saves its lists after each round that
 -- installed one, and prints what became of all.
 use Rattle.std.specs.Prelude.{◌≡◌, ◌⊎◌, ℕ, ◌≤◌, ◌<◌, nat_lt, if◌then◌else◌, Bool, List, [], ◌∷◌, ◌++◌, length, Option, IfSome, Result, Ok, Err}
+use Rattle.sb_model.specs.declared.names.ListName.{ListName}
 use Rattle.sb_outside.specs.Outside.{appended}
 use Rattle.sb_outside.specs.Writing.{HasFront}
 use Rattle.update_client.specs.Held.{Held}
@@ -10,7 +11,7 @@ use Rattle.sb_round.specs.Round.{Round, BreaksOff}
 use Rattle.sb_round.specs.Rounds.{MakesRounds}
 use Rattle.update_run.specs.Opening.{first_lists, HasOpened}
 use Rattle.update_run.specs.Saved.{Keeping, HasSaved, FailsToSave, saved_lists, MayLackLast}
-use Rattle.update_run.specs.Printed.{told_rounds, run_text, saved_line, has_refusals}
+use Rattle.update_run.specs.Printed.{told_rounds, run_text, saved_line, not_answered_lines, has_refusals}
 use Rattle.update_run.specs.declared.plan.Plan.{Plan}
 use Rattle.update_run.specs.declared.stop.RunStop.{RunStop}
 use Rattle.update_run.specs.declared.stop.RunStop.TheVariants as stop
@@ -58,7 +59,7 @@ abbrev pub HasNotBegun : Seen → Seen → Type 0
 HasNotBegun before after = after ≡ before
 
 -- The keeper failed when the lists of the last round were handed in. All before it is saved, and what is written lacks
--- only the line that tells so of this round.
+-- only the line that tells so of this round, and those of the lists behind it for which the answer had no update.
 pub record StopsAtSave (plan : Plan) (before after : Seen) : Type 0 where
   pub kept : Option (List ℕ)
   pub loaded : IsLoaded kept before.keeper.kept
@@ -73,7 +74,8 @@ pub record StopsAtSave (plan : Plan) (before after : Seen) : Type 0 where
   pub fails : FailsToSave last between after.keeper
   pub written : List ℕ
   pub text : after.held ≡ appended before.held written
-  pub lacks : written ++ saved_line (length rounds) ≡ told_rounds kept (first_lists plan.names kept) rounds
+  pub unanswered : List ListName
+  pub lacks : written ++ saved_line (length rounds) ++ not_answered_lines (length rounds) unanswered ≡ told_rounds kept (first_lists plan.names kept) rounds
 
 -- the text up to where a run stopped after these rounds: the lines of the rounds, and only after the last round those of the lists
 abbrev pub text_to_stop : ℕ → Option (List ℕ) → List Held → List Round → List ℕ

@@ -32,7 +32,7 @@ pub record TakesRound (plan : Plan) (number : ℕ) (client client' : Client) (be
   pub end : RoundEnd
   pub made : MakesRound client.lists client.waits plan.options plan.target plan.need_digest before.outside after.outside client'.lists client'.waits end
   pub saved : HasSaved (saved_after end.taken client'.lists) before.keeper after.keeper
-  pub text : IsOnItsWay before.held after.held client'.page (told_end number end)
+  pub text : IsOnItsWay before.held after.held client'.page (told_end number client'.lists end)
   pub refusal : refused ≡ has_refusal end.taken
 
 -- The same, with what is told of the round: whether with a refusal, and whether a list was installed.
@@ -48,14 +48,14 @@ MayHaveSaved saved before after = (after ≡ before) ⊎ HasSaved saved before a
 
 -- What is saved and written of a round that was made and came to these lists. Where the output failed, nothing is saved; where
 -- memory was refused, the lists may be. What is written is then a front of the round's lines, of which something is missing.
--- Where the keeper failed, all lines but that of the store are written.
+-- Where the keeper failed, all lines before that of the store are written.
 abbrev pub StopsTelling : RunStop → ℕ → RoundEnd → List Held → (before after : Keeping) → (held held' : Option (List ℕ)) → Type 0
 StopsTelling stop.WriteFault number end lists before after held held' =
-    (after ≡ before) × HasFront held held' (told_end number end)
+    (after ≡ before) × HasFront held held' (told_end number lists end)
 StopsTelling stop.KeepFault number end lists before after held held' =
     IsTrue (has_installed end.taken) × FailsToSave lists before after × (held' ≡ appended held (round_lines number end))
 StopsTelling stop.OutOfMemory number end lists before after held held' =
-    MayHaveSaved (saved_after end.taken lists) before after × HasFront held held' (told_end number end)
+    MayHaveSaved (saved_after end.taken lists) before after × HasFront held held' (told_end number lists end)
 
 -- A client made a round, and stopped when it told it or saved what it installed.
 pub record StopsAtEnd (why : RunStop) (plan : Plan) (number : ℕ) (client : Client) (before after : Seen) : Type 0 where

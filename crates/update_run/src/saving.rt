@@ -10,7 +10,7 @@ ghost use Rattle.update_run.specs.Rounding.{StopsSaving};
 ghost use Rattle.update_run.specs.Steps.{StopsTelling};
 
 use crate::RunStop;
-use crate::printing::push_saved_line;
+use crate::printing::{push_not_answered, push_saved_line};
 use client_store::write_store;
 use sb_model::{Bytes, OutOfMemory, Row};
 use sb_outside::{KeepFault, Keeper, Sink, flush};
@@ -67,6 +67,7 @@ fn save<O: Sink, K: Keeper>(
         (keeping (K.handed keep.new) (K.kept keep.new))) }
     ensures text { OnOk result (IsOnItsWay (O.contents out.old) (O.contents out.new) page.new
         (page.old ++ saved_line number)) }
+    ensures waits { OnOk result (page.new ≢ []) }
     ensures stopped { IfErr result (λ stop. StopsSaving stop number lists.now (keeping (K.handed keep.old) (K.kept keep.old))
         (keeping (K.handed keep.new) (K.kept keep.new)) (O.contents out.old) (O.contents out.new) page.old) }
     ensures output_failed { IsErrOf result RunStop.WriteFault → Rose (O.faults out.old) (O.faults out.new) }
@@ -80,7 +81,7 @@ fn save<O: Sink, K: Keeper>(
     Ok(())
 }
 
-/// Saves the lists where the round of this number installed one.
+/// Saves the lists where the round of this number installed one. Some text waits before, and some after.
 fn save_installed<O: Sink, K: Keeper>(
     alloc: Global,
     number: u64,
@@ -90,10 +91,12 @@ fn save_installed<O: Sink, K: Keeper>(
     keep: &mut K,
     page: &mut Bytes,
 ) -> Result<(), RunStop>
+    requires { page.old ≢ [] }
     ensures saved { OnOk result (HasSaved (saved_after end.now.taken lists.now) (keeping (K.handed keep.old) (K.kept keep.old))
         (keeping (K.handed keep.new) (K.kept keep.new))) }
     ensures text { OnOk result (IsOnItsWay (O.contents out.old) (O.contents out.new) page.new
         (page.old ++ saved_part number end.now.taken)) }
+    ensures waits { OnOk result (page.new ≢ []) }
     ensures some { IfErr result (λ _. IsTrue (has_installed_one end.now.taken)) }
     ensures stopped { IfErr result (λ stop. StopsSaving stop number lists.now (keeping (K.handed keep.old) (K.kept keep.old))
         (keeping (K.handed keep.new) (K.kept keep.new)) (O.contents out.old) (O.contents out.new) page.old) }
@@ -108,7 +111,8 @@ fn save_installed<O: Sink, K: Keeper>(
     Ok(())
 }
 
-/// Tells of a round that was made, where nothing waits to be written, and saves the lists where it installed one.
+/// Tells of a round that was made, where nothing waits to be written, and saves the lists where it installed one. Behind all this
+/// it tells of the lists for which the round's answer had no update.
 pub(crate) fn tell_round<O: Sink, K: Keeper>(
     alloc: Global,
     number: u64,
@@ -121,7 +125,7 @@ pub(crate) fn tell_round<O: Sink, K: Keeper>(
     requires { page.old ≡ [] }
     ensures saved { OnOk result (HasSaved (saved_after end.now.taken lists.now) (keeping (K.handed keep.old) (K.kept keep.old))
         (keeping (K.handed keep.new) (K.kept keep.new))) }
-    ensures text { OnOk result (IsOnItsWay (O.contents out.old) (O.contents out.new) page.new (told_end number end.now)) }
+    ensures text { OnOk result (IsOnItsWay (O.contents out.old) (O.contents out.new) page.new (told_end number lists.now end.now)) }
     ensures stopped { IfErr result (λ stop. StopsTelling stop number end.now lists.now (keeping (K.handed keep.old) (K.kept keep.old))
         (keeping (K.handed keep.new) (K.kept keep.new)) (O.contents out.old) (O.contents out.new)) }
     ensures output_failed { IsErrOf result RunStop.WriteFault → Rose (O.faults out.old) (O.faults out.new) }
@@ -129,8 +133,14 @@ pub(crate) fn tell_round<O: Sink, K: Keeper>(
     ensures keeper_failed { IsErrOf result RunStop.KeepFault → Rose (K.faults keep.old) (K.faults keep.new) }
     ensures keeper_kept { result ≢ Err RunStop.KeepFault → K.faults keep.new ≡ K.faults keep.old }
 {
-    match push_round(page, number, end) {
-        Ok(()) => save_installed(alloc, number, end, lists, out, keep, page),
-        Err(OutOfMemory) => Err(RunStop::OutOfMemory),
+    let Ok(()) = push_round(page, number, end) else {
+        return Err(RunStop::OutOfMemory);
+    };
+    match save_installed(alloc, number, end, lists, out, keep, page) {
+        Ok(()) => match push_not_answered(page, number, lists.lists(), &end.taken) {
+            Ok(()) => Ok(()),
+            Err(OutOfMemory) => Err(RunStop::OutOfMemory),
+        },
+        Err(stop) => Err(stop),
     }
 }

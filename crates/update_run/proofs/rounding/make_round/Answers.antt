@@ -10,7 +10,7 @@ returns-in-Ok-tell_round-clause-took g c = record {
     end = c.in-Ok.end;
     made = c.in-Ok.ensures.made;
     saved = c.in-Ok-tell_round.ensures.saved;
-    text = subst (λ (n : ℕ). IsOnItsWay (g.O.Sink.contents c.args.out.now) (g.O.Sink.contents c.tell_round.new.out) c.tell_round.new.page (told_end n c.in-Ok.end)) c.from-number.ensures
+    text = subst (λ (n : ℕ). IsOnItsWay (g.O.Sink.contents c.args.out.now) (g.O.Sink.contents c.tell_round.new.out) c.tell_round.new.page (told_end n c.run_round.new.lists c.in-Ok.end)) c.from-number.ensures
         c.in-Ok-tell_round.ensures.text;
     refusal = c.has_refusal.ensures;
   };
