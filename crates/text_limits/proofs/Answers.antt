@@ -4,12 +4,12 @@ use Rattle.std.specs.Prelude.{filter}
 use Rattle.std.specs.List.{AllByRecursion, list_any, range_with_len}
 use Rattle.std.proofs.lemmas.List.{length-map}
 use Rattle.std.proofs.lemmas.List.FromFn.{length-range_with_len}
-use Rattle.sb_model.specs.History.{History, prefixes_at}
+use Rattle.sb_model.specs.History.{History, declares, prefixes_at}
 use Rattle.sb_model.specs.Naming.{Naming}
 use Rattle.sb_model.specs.Difference.{removed_places, added_members}
 use Rattle.sb_model.specs.Target.{target_version}
 use Rattle.rice_coding.specs.Encoding.{encoding_of}
-use Rattle.update_messages.specs.Answer.{addition_set, addition_sets, has_size, sizes_of, removal_sets, declared_size, version_named, update_to, update_for, fetch_answer}
+use Rattle.update_messages.specs.Answer.{addition_set, addition_sets, has_size, sizes_of, removal_sets, declared_items, declared_size, version_named, update_to, update_for, fetch_answer}
 use Rattle.update_messages.specs.declared.sets.Removals.TheVariants as removed
 use Rattle.update_messages.specs.Messages.{AskedList, Request}
 use Rattle.update_messages.specs.Writing.{response_written}
@@ -73,8 +73,18 @@ updates_have_few history token_at (asked ∷ items) = (
   updates_have_few history token_at items,
 )
 
+no_more_kept : {X : Type 0} (test : X → Bool) (items : List X) → length (filter test items) ≤ length items
+no_more_kept test [] = omega arith
+no_more_kept test (item ∷ items) = go (test item) (no_more_kept test items)
+  where
+    go : (kept : Bool) → length (filter test items) ≤ length items → length (cond kept (item ∷ filter test items) (filter test items)) ≤ length (item ∷ items)
+    go true rest = omega (arith, rest)
+    go false rest = omega (arith, rest)
+
 pub fetch_answers_sparse : (history : History) (token_at : Naming) (wait : ℕ) (request : Request) → length request.items ≤ 8
     → IsSparse (response_written (fetch_answer history token_at wait request))
 fetch_answers_sparse history token_at wait request few =
-    responses_sparse (fetch_answer history token_at wait request) (omega (arith, few, length-map request.items (update_for history token_at)))
-    (updates_have_few history token_at request.items)
+    let items = declared_items history request.items in
+    responses_sparse (fetch_answer history token_at wait request)
+    (omega (arith, few, length-map items (update_for history token_at), no_more_kept (λ (asked : AskedList). declares history asked.name) request.items))
+    (updates_have_few history token_at items)
