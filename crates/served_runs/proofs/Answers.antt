@@ -1,10 +1,9 @@
 -- What a server answers where no limit binds: updates to its newest version.
-use Rattle.std.proofs.Common.{◌≡◌, ◌⊎◌, ◌≤◌, ◌<◌, ◌+◌, ℕ, zero, suc, List, [], ◌∷◌, Bool, true, false, length, take, map, refl, sym, ap, ◌∙◌, subst, inl, inr, Option, Some, None, arith}
+use Rattle.std.proofs.Common.{◌≡◌, ◌⊎◌, ◌≤◌, ◌<◌, ◌+◌, ℕ, zero, suc, List, Bool, true, false, length, take, refl, sym, ap, ◌∙◌, subst, inl, inr, Option, Some, None, arith}
 use Rattle.std.specs.Prelude.{All, IsTrue, IfSome, find, ◌&&◌, ◌||◌, ◌==◌, nat_le, if◌then◌else◌}
 use Rattle.std.specs.List.{range_with_len}
 use Rattle.std.specs.Str.{bytes_eq}
 use Rattle.std.proofs.lemmas.List.{take_all, length-take}
-use Rattle.std.proofs.lemmas.List.Elements.{All-nil, All-cons, All-head, All-tail}
 use Rattle.sb_model.specs.declared.names.ListName.{ListName}
 use Rattle.sb_model.specs.History.{History, declares, up_to_version, version_count, prefixes_at}
 use Rattle.sb_model.specs.Naming.{Naming}
@@ -16,6 +15,7 @@ use Rattle.update_client.specs.Genuine.{IsWithinLimitsAlways}
 use Rattle.update_client.specs.Held.{Held}
 use Rattle.update_client.specs.declared.options.FetchOptions.{FetchOptions}
 use Rattle.served_runs.specs.Versions.{HasNoLimits}
+use Rattle.served_runs.proofs.Declared.{all_kept, update_of, updates_for}
 use Rattle.served_runs.proofs.Steps.{IsTo}
 
 -- ---- versions that are found
@@ -114,10 +114,6 @@ module _ (greatest : TargetsAreGreatest) (last : TargetsAreVersions) (history : 
         ∙ ap (λ (n : ℕ). token_at held.name n) is
         ∙ ap (λ name. token_at name version) (sym (name_of (up_to_version version history) token_at asked found target))
 
-    pub updates_are_to : (lists : List Held) → All (λ held. IsTrue (declares history held.name)) lists
-        → All (IsTo token_at version) (map (update_for (up_to_version version history) token_at) (map (asked_list options) lists))
-    updates_are_to [] declared = All-nil (IsTo token_at version)
-    updates_are_to (held ∷ lists) declared =
-        All-cons (IsTo token_at version) (update_for (up_to_version version history) token_at (asked_list options held)) (map (update_for (up_to_version version history) token_at) (map (asked_list options) lists))
-        (update_is_to held (All-head (λ held. IsTrue (declares history held.name)) held lists declared))
-        (updates_are_to lists (All-tail (λ held. IsTrue (declares history held.name)) held lists declared))
+    pub updates_are_to : (lists : List Held) → All (IsTo token_at version) (updates_for history token_at options version lists)
+    updates_are_to lists =
+        all_kept (IsTo token_at version) (update_of history token_at options version) (λ (held : Held). declares history held.name) update_is_to lists

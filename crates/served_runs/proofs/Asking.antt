@@ -26,6 +26,7 @@ use Rattle.served_runs.specs.Answered.{HasByteTokens, IsToken, AreAskable}
 use Rattle.served_runs.specs.Versions.{IsAnswered, IsUnanswered}
 use Rattle.served_runs.proofs.AllAnswered.{all_answered}
 use Rattle.served_runs.proofs.Answers.{TargetsAreVersions, count_up_to}
+use Rattle.served_runs.proofs.Declared.{all_kept, answer_is, update_of, updates_for}
 
 -- ---- the request of such lists keeps to its ranges
 
@@ -63,8 +64,8 @@ text_of_version : IsText (codes "1")
 unfolding chars encode_utf8
 text_of_version = refl
 
-pub request_in_range : (history : History) (options : FetchOptions) (lists : List Held) → AreAskable history lists → IsRequestInRange (request_asked lists options)
-request_in_range history options lists askable = record {
+pub request_in_range : (options : FetchOptions) (lists : List Held) → AreAskable lists → IsRequestInRange (request_asked lists options)
+request_in_range options lists askable = record {
   limits = record { few = omega (arith, length-map-asked options lists, askable.few) };
   client = record { id = text_of_id; version = text_of_version };
   items = all_in_range options lists askable.tokens;
@@ -113,19 +114,6 @@ tokens_after lists [] new h = h
 tokens_after lists (update ∷ updates) new h =
     tokens_after (after_update lists update) updates (All-tail HasToken update updates new) (tokens_after_one lists update (All-head HasToken update updates new) h)
 
--- what holds of names holds of lists with the same names
-pub by_names : (P : ListName → Type 0) (lists : List Held) → All P (map (λ (held : Held). held.name) lists) → All (λ (held : Held). P held.name) lists
-by_names P [] h = All-nil (λ (held : Held). P held.name)
-by_names P (held ∷ lists) h =
-    All-cons (λ (held : Held). P held.name) held lists (All-head P held.name (map (λ (held : Held). held.name) lists) h)
-    (by_names P lists (All-tail P held.name (map (λ (held : Held). held.name) lists) h))
-
-pub of_names : (P : ListName → Type 0) (lists : List Held) → All (λ (held : Held). P held.name) lists → All P (map (λ (held : Held). held.name) lists)
-of_names P [] h = All-nil P
-of_names P (held ∷ lists) h =
-    All-cons P held.name (map (λ (held : Held). held.name) lists) (All-head (λ (held : Held). P held.name) held lists h)
-    (of_names P lists (All-tail (λ (held : Held). P held.name) held lists h))
-
 pub length-names : (lists : List Held) → length (map (λ (held : Held). held.name) lists) ≡ length lists
 length-names [] = refl
 length-names (held ∷ lists) = omega (arith, length-names lists)
@@ -133,18 +121,11 @@ length-names (held ∷ lists) = omega (arith, length-names lists)
 pub as_many : (lists lists' : List Held) → map (λ (held : Held). held.name) lists' ≡ map (λ (held : Held). held.name) lists → length lists' ≡ length lists
 as_many lists lists' same = sym (length-names lists') ∙ ap length same ∙ length-names lists
 
-pub declared_by_names : (history : History) (lists lists' : List Held) → map (λ (held : Held). held.name) lists' ≡ map (λ (held : Held). held.name) lists
-    → All (λ (held : Held). IsTrue (declares history held.name)) lists → All (λ (held : Held). IsTrue (declares history held.name)) lists'
-declared_by_names history lists lists' same h =
-    by_names (λ name. IsTrue (declares history name)) lists'
-    (subst (All (λ (name : ListName). IsTrue (declares history name))) (sym same) (of_names (λ name. IsTrue (declares history name)) lists h))
-
-pub askable_after : (history : History) (lists : List Held) (updates : List UpdatedList) → All HasToken updates → AreAskable history lists → AreAskable history (after_updates lists updates)
-askable_after history lists updates new askable =
+pub askable_after : (lists : List Held) (updates : List UpdatedList) → All HasToken updates → AreAskable lists → AreAskable (after_updates lists updates)
+askable_after lists updates new askable =
     let same = names_after lists updates in
     record {
       few = omega (arith, as_many lists (after_updates lists updates) same, askable.few);
-      declared = declared_by_names history lists (after_updates lists updates) same askable.declared;
       tokens = tokens_after lists updates new askable.tokens;
     }
 
@@ -165,21 +146,15 @@ module _ (last : TargetsAreVersions) (history : History) (token_at : Naming) (na
       subst IsToken (sym (state_to (up_to_version version history) token_at asked found target))
       (record { bytes = bytes.bytes held.name target declared low; short = naming.short held.name target declared low })
 
-  answer_has_tokens : (lists : List Held) → All (λ (held : Held). IsTrue (declares history held.name)) lists
-      → All HasToken (map (update_for (up_to_version version history) token_at) (map (asked_list options) lists))
-  answer_has_tokens [] declared = All-nil HasToken
-  answer_has_tokens (held ∷ lists) declared =
-      All-cons HasToken (update_for (up_to_version version history) token_at (asked_list options held)) (map (update_for (up_to_version version history) token_at) (map (asked_list options) lists))
-      (update_has_token held (All-head (λ (held : Held). IsTrue (declares history held.name)) held lists declared))
-      (answer_has_tokens lists (All-tail (λ (held : Held). IsTrue (declares history held.name)) held lists declared))
+  answer_has_tokens : (lists : List Held) → All HasToken (updates_for history token_at options version lists)
+  answer_has_tokens lists = all_kept HasToken (update_of history token_at options version) (λ (held : Held). declares history held.name) update_has_token lists
 
 pub askable_after_answer : TargetsAreVersions → (history : History) (token_at : Naming) (options : FetchOptions) (lists : List Held) (round : Round) (version : ℕ) → IsNaming history token_at → HasByteTokens history token_at
-    → AreAskable history lists → IsAnswered history token_at options lists round version → AreAskable history (lists_after_round lists round)
+    → AreAskable lists → IsAnswered history token_at options lists round version → AreAskable (lists_after_round lists round)
 askable_after_answer last history token_at options lists round version naming bytes askable is =
-    subst (λ (answer : Result FetchResponse RoundFault). AreAskable history (after_updates lists (updates_of answer))) (sym is.message)
-    (subst (λ (updates : List UpdatedList). AreAskable history (after_updates lists updates)) (sym (all_answered history token_at options version is.wait lists askable.declared))
-    (askable_after history lists (map (update_for (up_to_version version history) token_at) (map (asked_list options) lists))
-    (answer_has_tokens last history token_at naming bytes options version is.within lists askable.declared) askable))
+    subst (λ (answer : Result FetchResponse RoundFault). AreAskable (after_updates lists (updates_of answer))) (sym is.message)
+    (subst (λ (updates : List UpdatedList). AreAskable (after_updates lists updates)) (sym (answer_is history token_at options version is.wait lists))
+    (askable_after lists (updates_for history token_at options version lists) (answer_has_tokens last history token_at naming bytes options version is.within lists) askable))
 
 pub nothing_came : (lists : List Held) (round : Round) → IsUnanswered round → lists_after_round lists round ≡ lists
 nothing_came lists round is = ap (λ (answer : Result FetchResponse RoundFault). after_updates lists (updates_of answer)) is.none

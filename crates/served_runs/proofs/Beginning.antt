@@ -1,15 +1,15 @@
 -- The lists that a run begins with.
 use Rattle.std.proofs.Common.{◌≡◌, ◌≤◌, ℕ, ◌+◌, List, [], ◌∷◌, Bool, true, false, length, map, refl, sym, ap, ◌∙◌, subst, inl, inr, Option, Some, None, Result, Ok, Err, arith}
-use Rattle.std.specs.Prelude.{All, IsTrue, unwrap_or, if◌then◌else◌}
+use Rattle.std.specs.Prelude.{All, unwrap_or, if◌then◌else◌}
 use Rattle.std.specs.Ordering.{match_ordering, ordering_reverse}
 use Rattle.std.specs.List.{AllByRecursion}
 use Rattle.std.specs.List.Sorted.{IsStrictlySortedBy}
 use Rattle.std.specs.declared.cmp.Ordering.{Ordering}
 use Rattle.std.specs.declared.cmp.Ordering.TheVariants.{Less, Equal, Greater}
-use Rattle.std.proofs.lemmas.List.Elements.{All-nil, All-cons, All-head, All-tail}
+use Rattle.std.proofs.lemmas.List.Elements.{All-nil, All-cons}
 use Rattle.sb_model.specs.declared.names.ListName.{ListName}
 use Rattle.sb_model.specs.Names.{same_name, name_cmp}
-use Rattle.sb_model.specs.History.{History, declares}
+use Rattle.sb_model.specs.History.{History}
 use Rattle.sb_model.specs.Naming.{Naming, IsNaming}
 use Rattle.update_client.specs.Held.{Held, AreHeldLists, nothing_held, with_name, in_order, most_lists}
 use Rattle.update_client.specs.Replica.{IsReplicaOf, AreReplicas}
@@ -21,7 +21,7 @@ use Rattle.update_run.specs.Opening.{lists_from, first_lists}
 use Rattle.update_run.specs.declared.plan.Plan.{Plan}
 use Rattle.served_runs.specs.Answered.{HasByteTokens, IsToken, AreAskable}
 use Rattle.served_runs.specs.Complete.{AsksServer}
-use Rattle.served_runs.proofs.Asking.{empty_token, by_names, length-names}
+use Rattle.served_runs.proofs.Asking.{empty_token, length-names}
 use Rattle.served_runs.proofs.Lists.{name_total}
 use Rattle.served_runs.proofs.Steps.{NamesGo}
 
@@ -72,19 +72,6 @@ no_more : (names : List ListName) → length (in_order names) ≤ length names
 no_more [] = omega arith
 no_more (name ∷ names) = omega (arith, one_longer name (in_order names), no_more names)
 
-all_with : (P : ListName → Type 0) (name : ListName) (names : List ListName) → P name → All P names → All P (with_name name names)
-all_with P name [] h k = All-cons P name [] h k
-all_with P name (first ∷ names) h k = go (name_cmp name first) (all_with P name names h (All-tail P first names k))
-  where
-    go : (order : Ordering) → All P (with_name name names) → All P (match_ordering order (name ∷ first ∷ names) (first ∷ names) (first ∷ with_name name names))
-    go Less rest = All-cons P name (first ∷ names) h k
-    go Equal rest = k
-    go Greater rest = All-cons P first (with_name name names) (All-head P first names k) rest
-
-all_in_order : (P : ListName → Type 0) (names : List ListName) → All P names → All P (in_order names)
-all_in_order P [] h = h
-all_in_order P (name ∷ names) h = all_with P name (in_order names) (All-head P name names h) (all_in_order P names (All-tail P name names h))
-
 -- ---- the lists have these names
 
 nothing_names : (names : List ListName) → map (λ (held : Held). held.name) (map nothing_held names) ≡ names
@@ -133,11 +120,8 @@ replica_tokens history token_at naming bytes (held ∷ lists) replicas =
     one (inl empty) = subst IsToken (sym empty.token) empty_token
     one (inr at) = subst IsToken (sym at.token) (record { bytes = bytes.bytes held.name at.version at.declared at.within; short = naming.short held.name at.version at.declared at.within })
 
-pub first_askable : NamesGo → (history : History) (token_at : Naming) (plan : Plan) (kept : Option (List ℕ)) → AsksServer history token_at plan kept → AreAskable history (first_lists plan.names kept)
+pub first_askable : NamesGo → (history : History) (token_at : Naming) (plan : Plan) (kept : Option (List ℕ)) → AsksServer history token_at plan kept → AreAskable (first_lists plan.names kept)
 first_askable go history token_at plan kept asks = record {
   few = (first_are_lists go plan.names kept asks.few).few;
-  declared =
-      by_names (λ name. IsTrue (declares history name)) (first_lists plan.names kept)
-      (subst (All (λ (name : ListName). IsTrue (declares history name))) (sym (first_names go plan.names kept)) (all_in_order (λ name. IsTrue (declares history name)) plan.names asks.declared));
   tokens = replica_tokens history token_at asks.naming asks.tokens (first_lists plan.names kept) asks.replicas;
 }

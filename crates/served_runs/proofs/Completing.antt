@@ -10,10 +10,10 @@ use Rattle.sb_model.specs.History.{History, up_to_version}
 use Rattle.sb_model.specs.Naming.{Naming, IsNaming}
 use Rattle.sb_outside.specs.declared.links.Session.{Session}
 use Rattle.http_edge.specs.declared.messages.Target.{Target}
-use Rattle.update_messages.specs.Answer.{fetch_answer, update_for, version_named}
+use Rattle.update_messages.specs.Answer.{fetch_answer}
 use Rattle.update_messages.specs.Messages.{UpdatedList}
 use Rattle.update_messages.specs.declared.response.FetchResponse.{FetchResponse}
-use Rattle.update_client.specs.Asked.{asked_list, request_asked}
+use Rattle.update_client.specs.Asked.{request_asked}
 use Rattle.update_client.specs.Genuine.{AnswersAreGenuine}
 use Rattle.update_client.specs.Held.{Held, AreHeldLists}
 use Rattle.update_client.specs.Replica.{AreReplicas}
@@ -30,15 +30,16 @@ use Rattle.sb_round.specs.declared.rounds.Taken.{Taken}
 use Rattle.update_run.specs.Opening.{first_lists}
 use Rattle.update_run.specs.Printed.{has_refusal, has_refusals}
 use Rattle.served_runs.specs.Answered.{IsAnsweredAt, IsAnsweredIn, IsLost, AreAnsweredOrLost, AreAnsweredInOrder, HasByteTokens, AreAskable}
-use Rattle.served_runs.specs.Complete.{InstallsEach, InstallAnswers, AnsweredRunsAreComplete, AnsweredRunsKeepVersions}
+use Rattle.served_runs.specs.Complete.{declared_lists, InstallsEach, InstallAnswers, AnsweredRunsAreComplete, AnsweredRunsKeepVersions}
 use Rattle.served_runs.specs.Installs.{CanBeServed, IsInstalled}
 use Rattle.served_runs.specs.Versions.{IsAnswered}
 use Rattle.served_runs.proofs.AllAnswered.{all_answered}
 use Rattle.served_runs.proofs.Answers.{TargetsAreGreatest, TargetsAreVersions}
 use Rattle.served_runs.proofs.Asking.{request_in_range, askable_after_answer, nothing_came, names_after, as_many}
 use Rattle.served_runs.proofs.Beginning.{first_are_lists, first_askable}
+use Rattle.served_runs.proofs.Declared.{answer_is, update_of}
 use Rattle.served_runs.proofs.Installing.{replicas_after}
-use Rattle.served_runs.proofs.Lists.{names_in, installs, update_name}
+use Rattle.served_runs.proofs.Lists.{names_in, installs, name_of_update}
 use Rattle.served_runs.proofs.Places.{DecodesAgain}
 use Rattle.served_runs.proofs.Rounds.{Below, answered_round, lost_round}
 use Rattle.served_runs.proofs.Sessions.{are_answered, logged_sessions}
@@ -73,22 +74,26 @@ none_refused (one ∷ taken) h =
     or_none (is_refused one.result) (list_any (λ (one : Taken). is_refused one.result) taken) (not_refused one.result (All-head (λ (one : Taken). IsInstalled one.result) one taken h))
     (none_refused taken (All-tail (λ (one : Taken). IsInstalled one.result) one taken h))
 
-no_refusal_in : (lists : List Held) (round : Round) → InstallsEach lists round → has_refusal (taken_from lists round.answer) ≡ false
-no_refusal_in lists round is = ap has_refusal is.ok ∙ none_refused is.taken is.installed
+no_refusal_in : (history : History) (lists : List Held) (round : Round) → InstallsEach history lists round → has_refusal (taken_from lists round.answer) ≡ false
+no_refusal_in history lists round is = ap has_refusal is.ok ∙ none_refused is.taken is.installed
 
-answer_names : (history : History) (token_at : Naming) (options : FetchOptions) (lists : List Held)
-    → map (λ (update : UpdatedList). update.name) (map (update_for history token_at) (map (asked_list options) lists)) ≡ map (λ (held : Held). held.name) lists
-answer_names history token_at options [] = refl
-answer_names history token_at options (held ∷ lists) =
-    ap (λ (name : ListName). name ∷ map (λ (update : UpdatedList). update.name) (map (update_for history token_at) (map (asked_list options) lists)))
-    (update_name history token_at (asked_list options held) (version_named history token_at held.name (asked_list options held).state) _)
-    ∙ ap (λ (names : List ListName). held.name ∷ names) (answer_names history token_at options lists)
+update_names : (history : History) (token_at : Naming) (options : FetchOptions) (version : ℕ) (lists : List Held)
+    → map (λ (update : UpdatedList). update.name) (map (update_of history token_at options version) lists) ≡ map (λ (held : Held). held.name) lists
+update_names history token_at options version [] = refl
+update_names history token_at options version (held ∷ lists) =
+    ap (λ (name : ListName). name ∷ map (λ (update : UpdatedList). update.name) (map (update_of history token_at options version) lists)) (name_of_update history token_at options version held)
+    ∙ ap (λ (names : List ListName). held.name ∷ names) (update_names history token_at options version lists)
+
+answer_names : (history : History) (token_at : Naming) (options : FetchOptions) (version wait : ℕ) (lists : List Held)
+    → map (λ (update : UpdatedList). update.name) (fetch_answer (up_to_version version history) token_at wait (request_asked lists options)).items ≡ map (λ (held : Held). held.name) (declared_lists history lists)
+answer_names history token_at options version wait lists =
+    ap (map (λ (update : UpdatedList). update.name)) (answer_is history token_at options version wait lists) ∙ update_names history token_at options version (declared_lists history lists)
 
 -- ---- what stays through rounds
 
 -- Lists of a client that a server can answer: they can be asked for, are in their order, and are replicas.
 record AreServed (history : History) (token_at : Naming) (lists : List Held) : Type 0 where
-  askable : AreAskable history lists
+  askable : AreAskable lists
   held : AreHeldLists lists
   replicas : AreReplicas history token_at lists
 
@@ -99,20 +104,18 @@ module _ (under : Below) (go : NamesGo) (itself : (name : ListName) → same_nam
     is_answered : (lists : List Held) (waits : WaitState) (round : Round) → AreServed history token_at lists → IsRound lists waits options target need round → (version : ℕ) → IsAnsweredAt history token_at target (entry_of round) version
         → IsAnswered history token_at options lists round version
     is_answered lists waits round served is version answered =
-        answered_round under history token_at lists waits options target need round is (request_in_range history options lists served.askable) version answered
+        answered_round under history token_at lists waits options target need round is (request_in_range options lists served.askable) version answered
 
-    installs_each : (lists : List Held) (round : Round) (version : ℕ) → AreServed history token_at lists → IsAnswered history token_at options lists round version → InstallsEach lists round
+    installs_each : (lists : List Held) (round : Round) (version : ℕ) → AreServed history token_at lists → IsAnswered history token_at options lists round version → InstallsEach history lists round
     installs_each lists round version served answered =
         let message = fetch_answer (up_to_version version history) token_at answered.wait (request_asked lists options) in
         record {
           taken = named_results message.items (results_of lists message.items);
           ok = ap (taken_from lists) answered.message;
-          all = as_many_results lists message.items
-              ∙ ap (map (λ (update : UpdatedList). update.name)) (all_answered history token_at options version answered.wait lists served.askable.declared)
-              ∙ answer_names (up_to_version version history) token_at options lists;
+          all = as_many_results lists message.items ∙ answer_names history token_at options version answered.wait lists;
           installed =
               all_taken message.items (results_of lists message.items)
-              (installs go itself decodes genuine history token_at options lists version answered.wait can naming answered.within served.held served.askable.declared served.replicas);
+              (installs go itself decodes genuine history token_at options lists version answered.wait can naming answered.within served.held served.replicas);
         }
 
     served_after : (lists : List Held) (round : Round) (version : ℕ) → AreServed history token_at lists → IsAnswered history token_at options lists round version → AreServed history token_at (lists_after_round lists round)
@@ -127,9 +130,7 @@ module _ (under : Below) (go : NamesGo) (itself : (name : ListName) → same_nam
           };
           replicas =
               subst (λ (answer : Result FetchResponse RoundFault). AreReplicas history token_at (after_updates lists (updates_of answer))) (sym answered.message)
-              (subst (λ (updates : List UpdatedList). AreReplicas history token_at (after_updates lists updates))
-              (sym (all_answered history token_at options version answered.wait lists served.askable.declared))
-              (replicas_after go itself decodes genuine history token_at options lists version can naming answered.within served.held.rising served.askable.declared served.replicas));
+              (replicas_after go itself decodes genuine history token_at options lists version answered.wait can naming answered.within served.held.rising served.replicas);
         }
 
     served_then : (lists : List Held) (waits : WaitState) (round : Round) → AreServed history token_at lists → IsRound lists waits options target need round
@@ -139,7 +140,7 @@ module _ (under : Below) (go : NamesGo) (itself : (name : ListName) → same_nam
     served_then lists waits round served is (inr answered) = served_after lists round answered.0 served (is_answered lists waits round served is answered.0 answered.1)
 
     each_installs : (lists : List Held) (waits : WaitState) (round : Round) → AreServed history token_at lists → IsRound lists waits options target need round
-        → IsAnsweredIn history token_at target (entry_of round) → InstallsEach lists round
+        → IsAnsweredIn history token_at target (entry_of round) → InstallsEach history lists round
     each_installs lists waits round served is answered = installs_each lists round answered.0 served (is_answered lists waits round served is answered.0 answered.1)
 
     abbrev OrLost : Session → Type 0
@@ -166,7 +167,7 @@ no_refusals : (history : History) (token_at : Naming) (target : Target) (lists :
 no_refusals history token_at target lists [] h k = refl
 no_refusals history token_at target lists (round ∷ rounds) h k =
     or_none (has_refusal (taken_from lists round.answer)) (has_refusals (lists_after_round lists round) rounds)
-    (no_refusal_in lists round (h.0 (All-head (IsAnsweredIn history token_at target) (entry_of round) (map entry_of rounds) k)))
+    (no_refusal_in history lists round (h.0 (All-head (IsAnsweredIn history token_at target) (entry_of round) (map entry_of rounds) k)))
     (no_refusals history token_at target (lists_after_round lists round) rounds h.1 (All-tail (IsAnsweredIn history token_at target) (entry_of round) (map entry_of rounds) k))
 
 -- ---- the laws
@@ -188,6 +189,6 @@ complete under go itself decodes genuine last history token_at plan kept rounds 
 pub runs_keep_versions : Below → NamesGo → TargetsAreGreatest → TargetsAreVersions → AnsweredRunsKeepVersions
 runs_keep_versions under go greatest last history token_at plan kept rounds before after sessions least asks made logged answered =
     let same = logged_sessions plan kept rounds before after sessions made logged in
-    keeps_versions go greatest last history token_at plan.options least (first_lists plan.names kept) rounds asks.limits asks.always asks.lists.declared
+    keeps_versions go greatest last history token_at plan.options least (first_lists plan.names kept) rounds asks.limits asks.always
     (are_answered under last history token_at asks.naming asks.tokens plan.options plan.target plan.need_digest (first_lists plan.names kept) made.waits rounds least asks.lists made.made.are
     (subst (AreAnsweredInOrder history token_at plan.target plan.need_digest least) (sym same) answered))

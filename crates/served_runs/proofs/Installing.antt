@@ -1,9 +1,8 @@
 -- What is left after updates that a server answered: replicas again.
-use Rattle.std.proofs.Common.{◌≡◌, ◌⊎◌, ◌≤◌, ℕ, List, [], ◌∷◌, ◌++◌, Bool, true, false, map, refl, sym, ap, ◌∙◌, subst, inl, inr, Option, Some, None, arith, append_assoc}
-use Rattle.std.specs.Prelude.{All, IsTrue, IfSome, if◌then◌else◌, Result, Ok}
+use Rattle.std.proofs.Common.{◌≡◌, ◌⊎◌, ◌≤◌, ℕ, List, [], ◌∷◌, ◌++◌, Bool, true, false, cond, map, refl, sym, ap, ◌∙◌, subst, inl, inr, Option, Some, None, arith, append_assoc}
+use Rattle.std.specs.Prelude.{IsTrue, IfSome, filter, if◌then◌else◌, Result, Ok}
 use Rattle.std.specs.List.Sorted.{IsStrictlySortedBy}
 use Rattle.std.specs.Str.{bytes_eq}
-use Rattle.std.proofs.lemmas.List.Elements.{All-head, All-tail}
 use Rattle.std.proofs.lemmas.Slice.Eq.{bytes_eq-Decides}
 use Rattle.sb_model.specs.Candidate.{Update, candidate}
 use Rattle.sb_model.specs.Names.{name_cmp, same_name}
@@ -13,7 +12,7 @@ use Rattle.sb_model.specs.Target.{target_version}
 use Rattle.sb_model.specs.declared.names.ListName.{ListName}
 use Rattle.rice_coding.specs.declared.fault.RiceFault.{RiceFault}
 use Rattle.update_messages.specs.Messages.{AskedList, UpdatedList}
-use Rattle.update_messages.specs.Answer.{update_for, update_to, version_named}
+use Rattle.update_messages.specs.Answer.{fetch_answer, update_for, update_to, version_named}
 use Rattle.update_client.specs.Asked.{asked_list, request_asked}
 use Rattle.update_client.specs.Genuine.{IsAnswerItem, AnswersAreGenuine}
 use Rattle.update_client.specs.Held.{Held}
@@ -23,9 +22,10 @@ use Rattle.update_client.specs.declared.options.FetchOptions.{FetchOptions}
 use Rattle.served_runs.specs.Installs.{CanBeServed}
 use Rattle.served_runs.proofs.AllAnswered.{all_answered}
 use Rattle.served_runs.proofs.Answers.{named_within, count_up_to}
+use Rattle.served_runs.proofs.Declared.{answer_is, update_of}
 use Rattle.served_runs.proofs.Faults.{HasMeaning, has_meaning, means}
 use Rattle.served_runs.proofs.Items.{same_candidate, not_empty, set_at, found_true, item_fits}
-use Rattle.served_runs.proofs.Lists.{names_in, Others, done_others, rest_others, one_changes, names_stay, update_name, map_twice}
+use Rattle.served_runs.proofs.Lists.{names_in, Others, done_others, rest_others, one_changes, names_stay, one_item, name_of_update, update_name}
 use Rattle.served_runs.proofs.Places.{DecodesAgain}
 use Rattle.served_runs.proofs.Steps.{NamesGo}
 
@@ -104,43 +104,60 @@ module _ (history : History) (token_at : Naming) (naming : IsNaming history toke
 
 -- ---- all lists
 
-module _ (go : NamesGo) (itself : (name : ListName) → same_name name name ≡ true) (update_of : Held → UpdatedList) (names : (held : Held) → (update_of held).name ≡ held.name) where
-  each_steps : (done rest : List Held) → IsStrictlySortedBy name_cmp (names_in (done ++ rest))
-      → after_updates (done ++ rest) (map update_of rest) ≡ done ++ map (λ (held : Held). list_step held (update_of held)) rest
-  each_steps done [] sorted = refl
-  each_steps done (held ∷ rest) sorted =
+-- a list after the update that came for it, if one came
+abbrev pub stepped : (Held → UpdatedList) → (Held → Bool) → Held → Held
+stepped update_of passes held = if passes held then list_step held (update_of held) else held
+
+module _ (go : NamesGo) (itself : (name : ListName) → same_name name name ≡ true) (update_of : Held → UpdatedList) (names : (held : Held) → (update_of held).name ≡ held.name) (passes : Held → Bool) where
+  steps_if : (done rest : List Held) (held : Held) (passed : Bool) → IsStrictlySortedBy name_cmp (names_in (done ++ held ∷ rest))
+      → after_updates ((done ++ list_step held (update_of held) ∷ []) ++ rest) (map update_of (filter passes rest)) ≡ (done ++ list_step held (update_of held) ∷ []) ++ map (stepped update_of passes) rest
+      → after_updates ((done ++ held ∷ []) ++ rest) (map update_of (filter passes rest)) ≡ (done ++ held ∷ []) ++ map (stepped update_of passes) rest
+      → after_updates (done ++ held ∷ rest) (map update_of (cond passed (held ∷ filter passes rest) (filter passes rest)))
+      ≡ done ++ (if passed then list_step held (update_of held) else held) ∷ map (stepped update_of passes) rest
+  steps_if done rest held true sorted with_it without =
       let update = update_of held in
       let named = names held in
       let before = subst (λ name. Others name done) (sym named) (done_others go done rest held sorted) in
       let after = subst (λ name. Others name rest) (sym named) (rest_others go done rest held sorted) in
       let is_held : same_name held.name update.name ≡ true = subst (λ name. same_name held.name name ≡ true) (sym named) (itself held.name) in
       let changed = one_changes done rest held update is_held before after ∙ sym (append_assoc done (list_step held update ∷ []) rest) in
-      ap (λ (lists : List Held). after_updates lists (map update_of rest)) changed
-      ∙ each_steps (done ++ list_step held update ∷ []) rest (subst (IsStrictlySortedBy name_cmp) (sym (names_stay done rest held update)) sorted)
-      ∙ append_assoc done (list_step held update ∷ []) (map (λ (held : Held). list_step held (update_of held)) rest)
+      ap (λ (lists : List Held). after_updates lists (map update_of (filter passes rest))) changed
+      ∙ with_it
+      ∙ append_assoc done (list_step held update ∷ []) (map (stepped update_of passes) rest)
+  steps_if done rest held false sorted with_it without =
+      ap (λ (lists : List Held). after_updates lists (map update_of (filter passes rest))) (sym (append_assoc done (held ∷ []) rest))
+      ∙ without
+      ∙ append_assoc done (held ∷ []) (map (stepped update_of passes) rest)
 
-module _ (history : History) (token_at : Naming) (naming : IsNaming history token_at) (can : CanBeServed history) (decodes : DecodesAgain) (options : FetchOptions) (version : ℕ) (low : version ≤ version_count history)
+  each_steps : (done rest : List Held) → IsStrictlySortedBy name_cmp (names_in (done ++ rest))
+      → after_updates (done ++ rest) (map update_of (filter passes rest)) ≡ done ++ map (stepped update_of passes) rest
+  each_steps done [] sorted = refl
+  each_steps done (held ∷ rest) sorted =
+      steps_if done rest held (passes held) sorted
+      (each_steps (done ++ list_step held (update_of held) ∷ []) rest (subst (IsStrictlySortedBy name_cmp) (sym (names_stay done rest held (update_of held))) sorted))
+      (each_steps (done ++ held ∷ []) rest (subst (λ (ls : List Held). IsStrictlySortedBy name_cmp (names_in ls)) (sym (append_assoc done (held ∷ []) rest)) sorted))
+
+module _ (history : History) (token_at : Naming) (naming : IsNaming history token_at) (can : CanBeServed history) (decodes : DecodesAgain) (genuine : AnswersAreGenuine) (options : FetchOptions) (version : ℕ) (low : version ≤ version_count history)
   where
-    all_stay : (lists : List Held) → All (λ held. IsTrue (declares history held.name)) lists → AreReplicas history token_at lists
-        → All (IsAnswerItem history token_at) (map (update_for (up_to_version version history) token_at) (map (asked_list options) lists))
-        → AreReplicas history token_at (map (λ (held : Held). list_step held (update_for (up_to_version version history) token_at (asked_list options held))) lists)
-    all_stay [] declared replicas items = tt
-    all_stay (held ∷ lists) declared replicas items = (
-      stays_replica history token_at naming can decodes options version low held (All-head (λ held. IsTrue (declares history held.name)) held lists declared) replicas.0
-          (All-head (IsAnswerItem history token_at) (update_for (up_to_version version history) token_at (asked_list options held)) (map (update_for (up_to_version version history) token_at) (map (asked_list options) lists)) items),
-      all_stay lists (All-tail (λ held. IsTrue (declares history held.name)) held lists declared) replicas.1
-          (All-tail (IsAnswerItem history token_at) (update_for (up_to_version version history) token_at (asked_list options held)) (map (update_for (up_to_version version history) token_at) (map (asked_list options) lists)) items),
-    )
+    abbrev step_of : Held → Held
+    step_of = stepped (update_of history token_at options version) (λ (held : Held). declares history held.name)
+
+    one_stays : (held : Held) (declared : Bool) → declares history held.name ≡ declared → IsReplicaOf history token_at held
+        → IsReplicaOf history token_at (if declared then list_step held (update_of history token_at options version held) else held)
+    one_stays held true is replica =
+        stays_replica history token_at naming can decodes options version low held is replica (one_item decodes genuine history token_at options version can naming low held is)
+    one_stays held false is replica = replica
+
+    all_stay : (lists : List Held) → AreReplicas history token_at lists → AreReplicas history token_at (map step_of lists)
+    all_stay [] replicas = tt
+    all_stay (held ∷ lists) replicas = (one_stays held (declares history held.name) refl replicas.0, all_stay lists replicas.1)
 
 -- The lists after what a server answers to their request are replicas again.
-pub replicas_after : NamesGo → ((name : ListName) → same_name name name ≡ true) → DecodesAgain → AnswersAreGenuine → (history : History) (token_at : Naming) (options : FetchOptions) (lists : List Held) (version : ℕ)
-    → CanBeServed history → IsNaming history token_at → version ≤ version_count history → IsStrictlySortedBy name_cmp (names_in lists) → All (λ held. IsTrue (declares history held.name)) lists → AreReplicas history token_at lists
-    → AreReplicas history token_at (after_updates lists (map (update_for (up_to_version version history) token_at) (map (asked_list options) lists)))
-replicas_after go itself decodes genuine history token_at options lists version can naming within sorted declared replicas =
-    let items = subst (All (IsAnswerItem history token_at)) (all_answered history token_at options version 0 lists declared)
-    (genuine history token_at version 0 (request_asked lists options) can.well_formed naming can.prefixes can.hashes within) in
-    let update_of : Held → UpdatedList = λ held. update_for (up_to_version version history) token_at (asked_list options held) in
+pub replicas_after : NamesGo → ((name : ListName) → same_name name name ≡ true) → DecodesAgain → AnswersAreGenuine → (history : History) (token_at : Naming) (options : FetchOptions) (lists : List Held) (version wait : ℕ)
+    → CanBeServed history → IsNaming history token_at → version ≤ version_count history → IsStrictlySortedBy name_cmp (names_in lists) → AreReplicas history token_at lists
+    → AreReplicas history token_at (after_updates lists (fetch_answer (up_to_version version history) token_at wait (request_asked lists options)).items)
+replicas_after go itself decodes genuine history token_at options lists version wait can naming within sorted replicas =
     subst (AreReplicas history token_at)
-    (sym (ap (after_updates lists) (map_twice (update_for (up_to_version version history) token_at) (asked_list options) lists)
-    ∙ each_steps go itself update_of (λ held. update_name (up_to_version version history) token_at (asked_list options held) (version_named (up_to_version version history) token_at held.name (asked_list options held).state) _) [] lists sorted))
-    (all_stay history token_at naming can decodes options version within lists declared replicas items)
+    (sym (ap (after_updates lists) (answer_is history token_at options version wait lists)
+    ∙ each_steps go itself (update_of history token_at options version) (name_of_update history token_at options version) (λ (held : Held). declares history held.name) [] lists sorted))
+    (all_stay history token_at naming can decodes genuine options version within lists replicas)

@@ -3,6 +3,7 @@ pub mod Answers
 pub mod Asking
 pub mod Beginning
 pub mod Completing
+pub mod Declared
 pub mod Faults
 pub mod Installing
 pub mod Items

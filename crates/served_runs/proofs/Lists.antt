@@ -1,18 +1,18 @@
 -- The updates of an answer, each where those before it led.
-use Rattle.std.proofs.Common.{◌≡◌, ◌≤◌, ℕ, List, [], ◌∷◌, ◌++◌, Bool, true, false, map, refl, sym, ap, ◌∙◌, subst, Option, Some, None, append_assoc}
-use Rattle.std.specs.Prelude.{All, IsTrue}
+use Rattle.std.proofs.Common.{◌≡◌, ◌≤◌, ℕ, List, [], ◌∷◌, ◌++◌, Bool, true, false, cond, map, refl, sym, ap, ◌∙◌, subst, Option, Some, None, append_assoc}
+use Rattle.std.specs.Prelude.{All, filter}
 use Rattle.std.specs.declared.cmp.Ordering.TheVariants.{Less}
 use Rattle.std.specs.Cmp.{IsTotalOrder}
 use Rattle.std.specs.List.{AllByRecursion}
 use Rattle.std.specs.List.Sorted.{IsStrictlySortedBy}
 use Rattle.std.proofs.lemmas.Cmp.{nat_cmp_total, on_total, then_total, tied_itself}
-use Rattle.std.proofs.lemmas.List.Elements.{All-nil, All-cons, All-head, All-tail}
+use Rattle.std.proofs.lemmas.List.Elements.{All-nil, All-cons, All-head}
 use Rattle.sb_model.specs.declared.names.ListName.{ListName}
 use Rattle.sb_model.specs.Names.{threat_code, platform_code, entry_code, same_name, name_cmp}
 use Rattle.sb_model.specs.History.{History, declares, up_to_version, version_count}
 use Rattle.sb_model.specs.Naming.{Naming, IsNaming}
 use Rattle.update_messages.specs.Messages.{AskedList, UpdatedList}
-use Rattle.update_messages.specs.Answer.{update_for, update_to, version_named}
+use Rattle.update_messages.specs.Answer.{update_to, version_named}
 use Rattle.update_client.specs.Asked.{asked_list, request_asked}
 use Rattle.update_client.specs.Genuine.{IsAnswerItem, AnswersAreGenuine}
 use Rattle.update_client.specs.Held.{Held}
@@ -21,7 +21,7 @@ use Rattle.update_client.specs.Step.{first_fault, held_after, list_step, after_u
 use Rattle.update_client.specs.declared.fault.UpdateFault.{UpdateFault}
 use Rattle.update_client.specs.declared.options.FetchOptions.{FetchOptions}
 use Rattle.served_runs.specs.Installs.{CanBeServed, InstallsAnswers, IsInstalled}
-use Rattle.served_runs.proofs.AllAnswered.{all_answered}
+use Rattle.served_runs.proofs.Declared.{answer_is, update_of}
 use Rattle.served_runs.proofs.Items.{item_fits}
 use Rattle.served_runs.proofs.Places.{DecodesAgain}
 use Rattle.served_runs.proofs.Steps.{NamesGo}
@@ -109,11 +109,12 @@ update_name history token_at asked None version = refl
 
 -- ---- all updates
 
-module _ (go : NamesGo) (itself : (name : ListName) → same_name name name ≡ true) (update_of : Held → UpdatedList) (names : (held : Held) → (update_of held).name ≡ held.name) where
-  all_installed : (done rest : List Held) → IsStrictlySortedBy name_cmp (names_in (done ++ rest)) → AllByRecursion (λ held. first_fault held (update_of held) ≡ None) rest
-      → All IsInstalled (results_of (done ++ rest) (map update_of rest))
-  all_installed done [] sorted fit = All-nil IsInstalled
-  all_installed done (held ∷ rest) sorted fit =
+-- In what follows an update comes for each list that passes a test.
+module _ (go : NamesGo) (itself : (name : ListName) → same_name name name ≡ true) (update_of : Held → UpdatedList) (names : (held : Held) → (update_of held).name ≡ held.name) (passes : Held → Bool) where
+  installs_one : (done rest : List Held) (held : Held) → IsStrictlySortedBy name_cmp (names_in (done ++ held ∷ rest)) → first_fault held (update_of held) ≡ None
+      → All IsInstalled (results_of ((done ++ list_step held (update_of held) ∷ []) ++ rest) (map update_of (filter passes rest)))
+      → All IsInstalled (results_of (done ++ held ∷ rest) (update_of held ∷ map update_of (filter passes rest)))
+  installs_one done rest held sorted fits more =
       let update = update_of held in
       let named = names held in
       let before = subst (λ name. Others name done) (sym named) (done_others go done rest held sorted) in
@@ -121,43 +122,54 @@ module _ (go : NamesGo) (itself : (name : ListName) → same_name name name ≡ 
       let is_held : same_name held.name update.name ≡ true = subst (λ name. same_name held.name name ≡ true) (sym named) (itself held.name) in
       let found : list_named update.name (done ++ held ∷ rest) ≡ Some held = subst (λ name. list_named name (done ++ held ∷ rest) ≡ Some held) (sym named) (named_there go done rest held (itself held.name) (done_others go done rest held sorted)) in
       let changed = one_changes done rest held update is_held before after ∙ sym (append_assoc done (list_step held update ∷ []) rest) in
-      All-cons IsInstalled (result_among (done ++ held ∷ rest) update) (results_of (after_update (done ++ held ∷ rest) update) (map update_of rest))
-      (subst (λ (r : Option Held). IsInstalled (result_at update r)) (sym found) (installed held update fit.0))
-      (subst (λ (ls : List Held). All IsInstalled (results_of ls (map update_of rest))) (sym changed)
-      (all_installed (done ++ list_step held update ∷ []) rest (subst (IsStrictlySortedBy name_cmp) (sym (names_stay done rest held update)) sorted) fit.1))
+      All-cons IsInstalled (result_among (done ++ held ∷ rest) update) (results_of (after_update (done ++ held ∷ rest) update) (map update_of (filter passes rest)))
+      (subst (λ (r : Option Held). IsInstalled (result_at update r)) (sym found) (installed held update fits))
+      (subst (λ (ls : List Held). All IsInstalled (results_of ls (map update_of (filter passes rest)))) (sym changed) more)
 
-pub map_twice : {A B C : Type 0} (f : B → C) (g : A → B) (items : List A) → map f (map g items) ≡ map (λ item. f (g item)) items
-map_twice f g [] = refl
-map_twice f g (item ∷ items) = ap (λ rest. f (g item) ∷ rest) (map_twice f g items)
+  installs_if : (done rest : List Held) (held : Held) (passed : Bool) → passes held ≡ passed → IsStrictlySortedBy name_cmp (names_in (done ++ held ∷ rest))
+      → (passes held ≡ true → first_fault held (update_of held) ≡ None)
+      → All IsInstalled (results_of ((done ++ list_step held (update_of held) ∷ []) ++ rest) (map update_of (filter passes rest)))
+      → All IsInstalled (results_of ((done ++ held ∷ []) ++ rest) (map update_of (filter passes rest)))
+      → All IsInstalled (results_of (done ++ held ∷ rest) (map update_of (cond passed (held ∷ filter passes rest) (filter passes rest))))
+  installs_if done rest held true is sorted fits with_it without = installs_one done rest held sorted (fits is) with_it
+  installs_if done rest held false is sorted fits with_it without =
+      subst (λ (ls : List Held). All IsInstalled (results_of ls (map update_of (filter passes rest)))) (append_assoc done (held ∷ []) rest) without
+
+  all_installed : (done rest : List Held) → IsStrictlySortedBy name_cmp (names_in (done ++ rest)) → AllByRecursion (λ held. passes held ≡ true → first_fault held (update_of held) ≡ None) rest
+      → All IsInstalled (results_of (done ++ rest) (map update_of (filter passes rest)))
+  all_installed done [] sorted fit = All-nil IsInstalled
+  all_installed done (held ∷ rest) sorted fit =
+      installs_if done rest held (passes held) refl sorted fit.0
+      (all_installed (done ++ list_step held (update_of held) ∷ []) rest (subst (IsStrictlySortedBy name_cmp) (sym (names_stay done rest held (update_of held))) sorted) fit.1)
+      (all_installed (done ++ held ∷ []) rest (subst (λ (ls : List Held). IsStrictlySortedBy name_cmp (names_in ls)) (sym (append_assoc done (held ∷ []) rest)) sorted) fit.1)
 
 module _ (decodes : DecodesAgain) (genuine : AnswersAreGenuine) (history : History) (token_at : Naming) (options : FetchOptions) (version : ℕ)
     (can : CanBeServed history) (naming : IsNaming history token_at) (within : version ≤ version_count history)
   where
-    update_of_held : Held → UpdatedList
-    update_of_held held = update_for (up_to_version version history) token_at (asked_list options held)
+    -- the update for a declared list is one of an answer to a request for it alone
+    pub one_item : (held : Held) → declares history held.name ≡ true → IsAnswerItem history token_at (update_of history token_at options version held)
+    one_item held declared =
+        All-head (IsAnswerItem history token_at) (update_of history token_at options version held) []
+        (subst (λ (kept : Bool). All (IsAnswerItem history token_at) (map (update_of history token_at options version) (cond kept (held ∷ []) []))) declared
+        (subst (All (IsAnswerItem history token_at)) (answer_is history token_at options version 0 (held ∷ []))
+        (genuine history token_at version 0 (request_asked (held ∷ []) options) can.well_formed naming can.prefixes can.hashes within)))
 
-    all_fit : (lists : List Held) → All (λ held. IsTrue (declares history held.name)) lists → AreReplicas history token_at lists
-        → All (IsAnswerItem history token_at) (map (update_for (up_to_version version history) token_at) (map (asked_list options) lists))
-        → AllByRecursion (λ held. first_fault held (update_of_held held) ≡ None) lists
-    unfolding update_of_held
-    all_fit [] declared replicas items = tt
-    all_fit (held ∷ lists) declared replicas items = (
-      item_fits history token_at naming can decodes options version within held (All-head (λ held. IsTrue (declares history held.name)) held lists declared) replicas.0
-          (All-head (IsAnswerItem history token_at) (update_of_held held) (map (update_for (up_to_version version history) token_at) (map (asked_list options) lists)) items),
-      all_fit lists (All-tail (λ held. IsTrue (declares history held.name)) held lists declared) replicas.1
-          (All-tail (IsAnswerItem history token_at) (update_of_held held) (map (update_for (up_to_version version history) token_at) (map (asked_list options) lists)) items),
+    all_fit : (lists : List Held) → AreReplicas history token_at lists
+        → AllByRecursion (λ (held : Held). declares history held.name ≡ true → first_fault held (update_of history token_at options version held) ≡ None) lists
+    all_fit [] replicas = tt
+    all_fit (held ∷ lists) replicas = (
+      λ declared. item_fits history token_at naming can decodes options version within held declared replicas.0 (one_item held declared),
+      all_fit lists replicas.1,
     )
 
-    name_of_update : (held : Held) → (update_of_held held).name ≡ held.name
-    unfolding update_of_held
-    name_of_update held = update_name (up_to_version version history) token_at (asked_list options held) (version_named (up_to_version version history) token_at held.name (asked_list options held).state) _
+pub name_of_update : (history : History) (token_at : Naming) (options : FetchOptions) (version : ℕ) (held : Held) → (update_of history token_at options version held).name ≡ held.name
+name_of_update history token_at options version held =
+    update_name (up_to_version version history) token_at (asked_list options held) (version_named (up_to_version version history) token_at held.name (asked_list options held).state) _
 
 pub installs : NamesGo → ((name : ListName) → same_name name name ≡ true) → DecodesAgain → AnswersAreGenuine
     → (history : History) (token_at : Naming) (options : FetchOptions) (lists : List Held) (version wait : ℕ) → InstallsAnswers history token_at options lists version wait
-unfolding update_of_held names_in
-installs go itself decodes genuine history token_at options lists version wait can naming within are declared replicas =
-    let each = all_answered history token_at options version wait lists declared in
-    let items = genuine history token_at version wait (request_asked lists options) can.well_formed naming can.prefixes can.hashes within in
-    let fit = all_fit decodes genuine history token_at options version can naming within lists declared replicas (subst (All (IsAnswerItem history token_at)) each items) in
-    subst (λ (updates : List UpdatedList). All IsInstalled (results_of lists updates)) (sym (each ∙ map_twice (update_for (up_to_version version history) token_at) (asked_list options) lists))
-    (all_installed go itself (update_of_held decodes genuine history token_at options version can naming within) (name_of_update decodes genuine history token_at options version can naming within) [] lists are.rising fit)
+unfolding names_in
+installs go itself decodes genuine history token_at options lists version wait can naming within are replicas =
+    let fit = all_fit decodes genuine history token_at options version can naming within lists replicas in
+    subst (λ (updates : List UpdatedList). All IsInstalled (results_of lists updates)) (sym (answer_is history token_at options version wait lists))
+    (all_installed go itself (update_of history token_at options version) (name_of_update history token_at options version) (λ (held : Held). declares history held.name) [] lists are.rising fit)

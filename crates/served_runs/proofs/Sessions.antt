@@ -23,17 +23,17 @@ use Rattle.served_runs.proofs.Rounds.{Below, answered_round, lost_round}
 
 module _ (under : Below) (last : TargetsAreVersions) (history : History) (token_at : Naming) (naming : IsNaming history token_at) (bytes : HasByteTokens history token_at) (options : FetchOptions) (target : Target) (need : Bool)
   where
-    pub are_answered : (lists : List Held) (waits : WaitState) (rounds : List Round) (least : ℕ) → AreAskable history lists → AreRounds lists waits options target need rounds
+    pub are_answered : (lists : List Held) (waits : WaitState) (rounds : List Round) (least : ℕ) → AreAskable lists → AreRounds lists waits options target need rounds
         → AreAnsweredInOrder history token_at target need least (map entry_of rounds) → AreAnsweredFrom history token_at options least lists rounds
     are_answered lists waits [] least askable are sessions = tt
     are_answered lists waits (round ∷ rounds) least askable are (inl (lost, rest)) =
         let nothing = lost_round under history token_at lists waits options target need round are.0 lost in
         inl (
           nothing,
-          are_answered (lists_after_round lists round) (waits_after_round waits round) rounds least (subst (AreAskable history) (sym (nothing_came lists round nothing)) askable) are.1 rest,
+          are_answered (lists_after_round lists round) (waits_after_round waits round) rounds least (subst (AreAskable) (sym (nothing_came lists round nothing)) askable) are.1 rest,
         )
     are_answered lists waits (round ∷ rounds) least askable are (inr (version, low, answered, rest)) =
-        let is = answered_round under history token_at lists waits options target need round are.0 (request_in_range history options lists askable) version answered in
+        let is = answered_round under history token_at lists waits options target need round are.0 (request_in_range options lists askable) version answered in
         inr (
           version,
           low,

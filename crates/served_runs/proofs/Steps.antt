@@ -82,14 +82,3 @@ after_all go token_at version lists (update ∷ updates) to =
     each_through (ComesTo token_at version) (ComesTo token_at version) (ComesTo token_at version) (comes_through token_at version) lists (after_update lists update) (after_updates (after_update lists update) updates)
     (after_one go token_at version lists update (All-head (IsTo token_at version) update updates to))
     (after_all go token_at version (after_update lists update) updates (All-tail (IsTo token_at version) update updates to))
-
--- names stay, and so each list is declared as before
-pub declared_after : (history : History) (token_at : Naming) (version : ℕ) (lists lists' : List Held) → Each (ComesTo token_at version) lists lists'
-    → All (λ held. IsTrue (declares history held.name)) lists → All (λ held. IsTrue (declares history held.name)) lists'
-declared_after history token_at version [] [] each h = h
-declared_after history token_at version [] (held' ∷ lists') each h = absurd each
-declared_after history token_at version (held ∷ lists) [] each h = absurd each
-declared_after history token_at version (held ∷ lists) (held' ∷ lists') each h =
-    All-cons (λ held. IsTrue (declares history held.name)) held' lists'
-    (subst (λ name. IsTrue (declares history name)) (sym each.0.named) (All-head (λ held. IsTrue (declares history held.name)) held lists h))
-    (declared_after history token_at version lists lists' each.1 (All-tail (λ held. IsTrue (declares history held.name)) held lists h))

@@ -1,12 +1,10 @@
 -- Lists do not go back from round to round.
 use Rattle.std.proofs.Common.{◌≡◌, ◌⊎◌, ◌≤◌, ℕ, List, [], ◌∷◌, map, refl, sym, ap, ◌∙◌, subst, inl, inr, arith}
-use Rattle.std.specs.Prelude.{All, IsTrue, Result}
-use Rattle.sb_model.specs.History.{History, declares, up_to_version, version_count}
+use Rattle.std.specs.Prelude.{Result}
+use Rattle.sb_model.specs.History.{History, version_count}
 use Rattle.sb_model.specs.Naming.{Naming}
-use Rattle.update_messages.specs.Answer.{update_for}
 use Rattle.update_messages.specs.Messages.{UpdatedList}
 use Rattle.update_messages.specs.declared.response.FetchResponse.{FetchResponse}
-use Rattle.update_client.specs.Asked.{asked_list}
 use Rattle.update_client.specs.Genuine.{IsWithinLimitsAlways}
 use Rattle.update_client.specs.Held.{Held}
 use Rattle.update_client.specs.Step.{after_updates}
@@ -18,7 +16,8 @@ use Rattle.sb_round.specs.declared.rounds.RoundFault.{RoundFault}
 use Rattle.served_runs.specs.Versions.{HasNoLimits, IsAnswered, IsUnanswered, AreAnsweredFrom, HoldsVersion, GoesOn, GoOn, KeepsVersions}
 use Rattle.served_runs.proofs.AllAnswered.{all_answered}
 use Rattle.served_runs.proofs.Answers.{TargetsAreGreatest, TargetsAreVersions, updates_are_to}
-use Rattle.served_runs.proofs.Steps.{NamesGo, Each, each_through, ComesTo, after_all, declared_after}
+use Rattle.served_runs.proofs.Declared.{answer_is, updates_for}
+use Rattle.served_runs.proofs.Steps.{NamesGo, Each, each_through, ComesTo, after_all}
 
 -- ---- each list goes on
 
@@ -60,27 +59,26 @@ went_on history token_at least version low within a b c comes goes = record {
 -- ---- rounds
 
 module _ (go : NamesGo) (greatest : TargetsAreGreatest) (last : TargetsAreVersions) (history : History) (token_at : Naming) (options : FetchOptions) (limits : HasNoLimits options) (always : IsWithinLimitsAlways history) where
-  comes_in : (lists : List Held) (round : Round) (version : ℕ) → All (λ held. IsTrue (declares history held.name)) lists → IsAnswered history token_at options lists round version
-      → Each (ComesTo token_at version) lists (lists_after_round lists round)
-  comes_in lists round version declared is =
+  comes_in : (lists : List Held) (round : Round) (version : ℕ) → IsAnswered history token_at options lists round version → Each (ComesTo token_at version) lists (lists_after_round lists round)
+  comes_in lists round version is =
       subst (λ (answer : Result FetchResponse RoundFault). Each (ComesTo token_at version) lists (after_updates lists (updates_of answer))) (sym is.message)
-      (subst (λ (updates : List UpdatedList). Each (ComesTo token_at version) lists (after_updates lists updates)) (sym (all_answered history token_at options version is.wait lists declared))
-      (after_all go token_at version lists (map (update_for (up_to_version version history) token_at) (map (asked_list options) lists))
-      (updates_are_to greatest last history token_at options limits always version is.within lists declared)))
+      (subst (λ (updates : List UpdatedList). Each (ComesTo token_at version) lists (after_updates lists updates)) (sym (answer_is history token_at options version is.wait lists))
+      (after_all go token_at version lists (updates_for history token_at options version lists)
+      (updates_are_to greatest last history token_at options limits always version is.within lists)))
 
   nothing_came : (lists : List Held) (round : Round) → IsUnanswered round → lists_after_round lists round ≡ lists
   nothing_came lists round is = ap (λ (answer : Result FetchResponse RoundFault). after_updates lists (updates_of answer)) is.none
 
-  pub keeps : (least : ℕ) (lists : List Held) (rounds : List Round) → All (λ held. IsTrue (declares history held.name)) lists → AreAnsweredFrom history token_at options least lists rounds
+  pub keeps : (least : ℕ) (lists : List Held) (rounds : List Round) → AreAnsweredFrom history token_at options least lists rounds
       → GoOn history token_at least lists (lists_after lists (map body_of rounds))
-  keeps least lists [] declared are = all_stay history token_at least lists
-  keeps least lists (round ∷ rounds) declared (inl (unanswered, rest)) =
+  keeps least lists [] are = all_stay history token_at least lists
+  keeps least lists (round ∷ rounds) (inl (unanswered, rest)) =
       let same = nothing_came lists round unanswered in
       subst (λ (ls : List Held). GoOn history token_at least ls (lists_after (lists_after_round lists round) (map body_of rounds))) same
-      (keeps least (lists_after_round lists round) rounds (subst (All (λ held. IsTrue (declares history held.name))) (sym same) declared) rest)
-  keeps least lists (round ∷ rounds) declared (inr (version, low, is, rest)) =
-      let comes = comes_in lists round version declared is in
-      let later = keeps version (lists_after_round lists round) rounds (declared_after history token_at version lists (lists_after_round lists round) comes declared) rest in
+      (keeps least (lists_after_round lists round) rounds rest)
+  keeps least lists (round ∷ rounds) (inr (version, low, is, rest)) =
+      let comes = comes_in lists round version is in
+      let later = keeps version (lists_after_round lists round) rounds rest in
       let final = lists_after (lists_after_round lists round) (map body_of rounds) in
       each_is history token_at least lists final
       (each_through (ComesTo token_at version) (GoesOn history token_at version) (GoesOn history token_at least) (went_on history token_at least version low is.within) lists (lists_after_round lists round) final
@@ -88,5 +86,5 @@ module _ (go : NamesGo) (greatest : TargetsAreGreatest) (last : TargetsAreVersio
 
 pub keeps_versions : NamesGo → TargetsAreGreatest → TargetsAreVersions → (history : History) (token_at : Naming) (options : FetchOptions) (least : ℕ) (lists : List Held) (rounds : List Round)
     → KeepsVersions history token_at options least lists rounds
-keeps_versions go greatest last history token_at options least lists rounds limits always declared are =
-    keeps go greatest last history token_at options limits always least lists rounds declared are
+keeps_versions go greatest last history token_at options least lists rounds limits always are =
+    keeps go greatest last history token_at options limits always least lists rounds are

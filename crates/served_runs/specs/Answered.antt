@@ -92,10 +92,9 @@ pub record IsToken (token : List ℕ) : Type 0 where
   pub bytes : IsBytes token
   pub short : length token ≤ most_state
 
--- At most 8 lists, each of which the history declares, and whose tokens a request may have.
-pub record AreAskable (history : History) (lists : List Held) : Type 0 where
+-- At most 8 lists, whose tokens a request may have. A server need not declare them.
+pub record AreAskable (lists : List Held) : Type 0 where
   pub few : length lists ≤ most_lists
-  pub declared : All (λ held. IsTrue (declares history held.name)) lists
   pub tokens : All (λ held. IsToken held.token) lists
 
 -- ---- sessions and rounds
@@ -107,7 +106,7 @@ AnsweredSessionsAreAnsweredRounds =
     (history : History) (token_at : Naming) (lists : List Held) (waits : WaitState) (options : FetchOptions) (target : Target) (need : Bool) (rounds : List Round) (least : ℕ)
     → IsNaming history token_at
     → HasByteTokens history token_at
-    → AreAskable history lists
+    → AreAskable lists
     → AreRounds lists waits options target need rounds
     → AreAnsweredInOrder history token_at target need least (map entry_of rounds)
     → AreAnsweredFrom history token_at options least lists rounds

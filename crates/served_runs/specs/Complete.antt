@@ -1,5 +1,5 @@
 -- What a run comes to whose sessions were answered by a server, or lost.
-use Rattle.std.specs.Prelude.{◌≡◌, ℕ, ◌≤◌, false, List, [], ◌∷◌, length, map, All, Option, Ok, IsTrue}
+use Rattle.std.specs.Prelude.{◌≡◌, ℕ, ◌≤◌, false, List, [], ◌∷◌, length, map, filter, All, Option, Ok}
 use Rattle.sb_model.specs.History.{History, declares}
 use Rattle.sb_model.specs.Naming.{Naming, IsNaming}
 use Rattle.sb_outside.specs.declared.links.Session.{Session}
@@ -23,31 +23,34 @@ use Rattle.served_runs.specs.Versions.{HasNoLimits, GoOn}
 
 -- ---- completeness
 
--- A round ended with `ok`, and told of each list that its update was installed.
-pub record InstallsEach (lists : List Held) (round : Round) : Type 0 where
+-- the lists of these that a history declares, in order
+abbrev pub declared_lists : History → List Held → List Held
+declared_lists history lists = filter (λ (held : Held). declares history held.name) lists
+
+-- A round ended with `ok`, and told of each list that the history declares that its update was installed, and of no other list.
+pub record InstallsEach (history : History) (lists : List Held) (round : Round) : Type 0 where
   pub taken : List Taken
   pub ok : taken_from lists round.answer ≡ Ok taken
-  pub all : map (λ (one : Taken). one.name) taken ≡ map (λ (held : Held). held.name) lists
+  pub all : map (λ (one : Taken). one.name) taken ≡ map (λ (held : Held). held.name) (declared_lists history lists)
   pub installed : All (λ (one : Taken). IsInstalled one.result) taken
 
 -- Each of these rounds whose session the server answered did so, wherever the rounds before it led.
 abbrev pub InstallAnswers : History → Naming → Target → List Held → List Round → Type 0
 InstallAnswers history token_at target lists [] = Unit {0}
 InstallAnswers history token_at target lists (round ∷ rounds) =
-    (IsAnsweredIn history token_at target (entry_of round) → InstallsEach lists round)
+    (IsAnsweredIn history token_at target (entry_of round) → InstallsEach history lists round)
     × InstallAnswers history token_at target (lists_after_round lists round) rounds
 
--- A run of this plan asks a server of this history, from what was kept: at most 8 names, all declared, and the lists that it begins
--- with are replicas of the server's.
+-- A run of this plan asks a server of this history, from what was kept: at most 8 names, and the lists that it begins with are
+-- replicas of the server's. The server need not declare them: a list that it does not declare is a replica where it is empty.
 pub record AsksServer (history : History) (token_at : Naming) (plan : Plan) (kept : Option (List ℕ)) : Type 0 where
   pub can : CanBeServed history
   pub naming : IsNaming history token_at
   pub tokens : HasByteTokens history token_at
   pub few : length plan.names ≤ most_lists
-  pub declared : All (λ name. IsTrue (declares history name)) plan.names
   pub replicas : AreReplicas history token_at (first_lists plan.names kept)
 
--- Each answered round installs every update, the lists stay replicas, and where no session was lost the run tells of no refusal.
+-- Each answered round installs the update of every declared list, the lists stay replicas, and where no session was lost the run tells of no refusal.
 pub record IsComplete (history : History) (token_at : Naming) (plan : Plan) (kept : Option (List ℕ)) (rounds : List Round) (sessions : List Session) : Type 0 where
   pub install : InstallAnswers history token_at plan.target (first_lists plan.names kept) rounds
   pub replicas : AreReplicas history token_at (lists_after (first_lists plan.names kept) (map body_of rounds))
@@ -72,7 +75,7 @@ pub record AsksWithoutLimits (history : History) (token_at : Naming) (plan : Pla
   pub naming : IsNaming history token_at
   pub tokens : HasByteTokens history token_at
   pub limits : HasNoLimits plan.options
-  pub lists : AreAskable history (first_lists plan.names kept)
+  pub lists : AreAskable (first_lists plan.names kept)
 
 -- Where each new session of the log was answered by the server, or lost, and the versions at which it answered do not fall and are not
 -- below this one, a list that is at a version up to this one is at the end at that version or at one after it.

@@ -32,13 +32,12 @@ IsInstalled (Refused fault) = ⊥
 IsInstalled NotKept = ⊥
 
 -- Where a client's lists are replicas of a server's, each update of what the server answers to their request is installed,
--- whatever its version then and whichever limits are asked for.
+-- whatever its version then and whichever limits are asked for. A list that the server does not declare has no update.
 abbrev pub InstallsAnswers : History → Naming → FetchOptions → List Held → ℕ → ℕ → Type 0
 InstallsAnswers history token_at options lists version wait =
     CanBeServed history
     → IsNaming history token_at
     → version ≤ version_count history
     → AreHeldLists lists
-    → All (λ held. IsTrue (declares history held.name)) lists
     → AreReplicas history token_at lists
     → All IsInstalled (results_of lists (fetch_answer (up_to_version version history) token_at wait (request_asked lists options)).items)

@@ -1,6 +1,6 @@
 -- Rounds whose messages are answers of a server, and the versions of lists before and after them.
-use Rattle.std.specs.Prelude.{◌≡◌, ◌⊎◌, ℕ, ◌≤◌, List, [], ◌∷◌, map, Ok, Err, All, IsTrue}
-use Rattle.sb_model.specs.History.{History, declares, up_to_version, version_count}
+use Rattle.std.specs.Prelude.{◌≡◌, ◌⊎◌, ℕ, ◌≤◌, List, [], ◌∷◌, map, Ok, Err}
+use Rattle.sb_model.specs.History.{History, up_to_version, version_count}
 use Rattle.sb_model.specs.Naming.{Naming}
 use Rattle.update_messages.specs.Answer.{fetch_answer}
 use Rattle.update_client.specs.Asked.{request_asked}
@@ -64,6 +64,5 @@ abbrev pub KeepsVersions : History → Naming → FetchOptions → ℕ → List 
 KeepsVersions history token_at options least lists rounds =
     HasNoLimits options
     → IsWithinLimitsAlways history
-    → All (λ held. IsTrue (declares history held.name)) lists
     → AreAnsweredFrom history token_at options least lists rounds
     → GoOn history token_at least lists (lists_after lists (map body_of rounds))

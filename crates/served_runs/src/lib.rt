@@ -71,8 +71,8 @@ pub fn answered_sessions_are_answered_rounds()
 }
 
 /// A run that begins with replicas of a server's lists, and each of whose sessions the server answered, or was lost, is complete: each
-/// answered round ends with `ok` and installs the update of every list, the lists stay replicas, and where no session was lost
-/// the run tells of no refusal. SHA-256 may have collisions.
+/// answered round ends with `ok` and installs the update of every list that the server declares, the lists stay replicas, and where no
+/// session was lost the run tells of no refusal. The run may name lists that the server does not declare. SHA-256 may have collisions.
 pub fn answered_runs_are_complete()
     ensures { AnsweredRunsAreComplete }
 {

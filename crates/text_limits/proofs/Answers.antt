@@ -73,10 +73,18 @@ updates_have_few history token_at (asked ∷ items) = (
   updates_have_few history token_at items,
 )
 
+no_more_kept : {X : Type 0} (test : X → Bool) (items : List X) → length (filter test items) ≤ length items
+no_more_kept test [] = omega arith
+no_more_kept test (item ∷ items) = go (test item) (no_more_kept test items)
+  where
+    go : (kept : Bool) → length (filter test items) ≤ length items → length (cond kept (item ∷ filter test items) (filter test items)) ≤ length (item ∷ items)
+    go true rest = omega (arith, rest)
+    go false rest = omega (arith, rest)
+
 pub fetch_answers_sparse : (history : History) (token_at : Naming) (wait : ℕ) (request : Request) → length request.items ≤ 8
     → IsSparse (response_written (fetch_answer history token_at wait request))
 fetch_answers_sparse history token_at wait request few =
-    let known : List AskedList = declared_items history request.items in
-    let fewer = filter_keeps_few (λ (asked : AskedList). declares history asked.name) request.items in
-    responses_sparse (fetch_answer history token_at wait request) (omega (arith, few, fewer, length-map known (update_for history token_at)))
-    (updates_have_few history token_at known)
+    let items = declared_items history request.items in
+    responses_sparse (fetch_answer history token_at wait request)
+    (omega (arith, few, length-map items (update_for history token_at), no_more_kept (λ (asked : AskedList). declares history asked.name) request.items))
+    (updates_have_few history token_at items)
