@@ -1,26 +1,34 @@
 -- What a list server answers: one response to a request, by what its body reads as.
-use Rattle.std.proofs.Common.{◌≡◌, ℕ, zero, suc, List, Option, Some, None, Result, Ok, Err, IfOk, IfSome, refl, sym, ap, ◌∙◌, subst, inl}
+use Rattle.std.proofs.Common.{◌≡◌, ◌≢◌, ◌⊎◌, ℕ, zero, suc, List, [], Option, Some, None, Result, Ok, Err, IfOk, IfSome, refl, sym, ap, ◌∙◌, subst, inl, inr}
+use Rattle.std.specs.Prelude.{option_map, slice_get}
 use Rattle.serde_json.specs.Data.{Data}
 use Rattle.sb_outside.specs.Outside.{next_piece}
 use Rattle.sb_model.specs.History.{History}
 use Rattle.sb_model.specs.declared.memory.OutOfMemory.{OutOfMemory}
+use Rattle.http_edge.specs.Responses.{method_text}
 use Rattle.http_edge.specs.declared.messages.Allow.{Allow}
 use Rattle.http_edge.specs.declared.messages.Allow.TheVariants.{Post}
 use Rattle.http_edge.specs.declared.messages.HttpRequest.{HttpRequest}
 use Rattle.http_edge.specs.declared.messages.Status.{Status}
 use Rattle.http_edge.specs.declared.messages.Status.TheVariants.{Success, BadRequest, NotFound, MethodNotAllowed, LengthRequired, ContentTooLarge, FieldsTooLarge, BadGateway, ServiceUnavailable}
 use Rattle.http_serving.specs.Law.{HasOneAnswer}
+use Rattle.http_serving.specs.Routes.{AsksAt, HasNoRoute, HasOtherMethod, Route}
 use Rattle.http_serving.specs.Serving.{AnswersAtMost, IsComplete}
 use Rattle.http_serving.specs.declared.ends.ConnectionEnd.{ConnectionEnd}
 use Rattle.http_serving.specs.declared.responses.Response.{Response}
+use Rattle.sb_json.specs.Printed.{cause_text as message_cause}
+use Rattle.sb_json.specs.Values.{value_of}
 use Rattle.sb_json.specs.declared.faults.MessageFault.{MessageFault}
 use Rattle.sb_json.specs.declared.faults.MessageFault.TheVariants.{OutOfMemory as no_memory}
 use Rattle.delta_server.specs.declared.answering.Settings.{Settings}
+use Rattle.update_messages.specs.Faults.{fault_of_request, fault_of_text}
 use Rattle.update_messages.specs.Messages.{Request}
 use Rattle.update_messages.specs.Reading.{ReadsRequest as ReadsMessage, IsTextOf}
+use Rattle.hash_messages.specs.Faults.{fault_of_find_request}
 use Rattle.hash_messages.specs.Messages.{AskedHashes}
 use Rattle.hash_messages.specs.Reading.{ReadsFindRequest}
-use Rattle.sb_service.specs.Connection.{IsTextAt, updates_text, matches_text, IsResponseAt, IsResponseTo, HasGoodRequest}
+use Rattle.sb_service.specs.Connection.{fault_at, list_routes, updates_text, matches_text, IsCauseAt, IsResponseAt, IsResponseTo, IsTextAt, HasGoodRequest}
+use Rattle.sb_service.specs.ConnectionLaws.{TellsFirstFault}
 use Rattle.sb_service.specs.ConnectionSteps.{IsBareRefusal}
 
 -- ---- one message
@@ -44,90 +52,147 @@ one_text one history times zero body a b (m, reads, is) (n, reads', is') =
 one_text one history times (suc place) body a b (m, reads, is) (n, reads', is') =
     is ∙ ap (matches_text history times) (one_message ReadsFindRequest one.hashes body m n reads reads') ∙ sym is'
 
+some_of : {A : Type 0} (a b : A) → Some a ≡ Some b → a ≡ b
+some_of a b e = cc
+
 pub one_response : ReadsOneWay → (history : History) (times : Settings) (place : ℕ) (request : HttpRequest) → HasOneAnswer (IsResponseAt history times place) request
-one_response one history times place request Success Success allow other a b is is' = (refl, refl, one_text one history times place request.body a b is is')
-one_response one history times place request Success BadRequest allow other a b is is' = absurd (is'.0 a is)
-one_response one history times place request Success NotFound allow other a b is is' = absurd is'
-one_response one history times place request Success MethodNotAllowed allow other a b is is' = absurd is'
-one_response one history times place request Success LengthRequired allow other a b is is' = absurd is'
-one_response one history times place request Success ContentTooLarge allow other a b is is' = absurd is'
-one_response one history times place request Success FieldsTooLarge allow other a b is is' = absurd is'
-one_response one history times place request Success BadGateway allow other a b is is' = absurd is'
-one_response one history times place request Success ServiceUnavailable allow other a b is is' = absurd is'
-one_response one history times place request BadRequest Success allow other a b is is' = absurd (is.0 b is')
-one_response one history times place request BadRequest BadRequest allow other a b is is' = (refl, refl, is.1 ∙ sym is'.1)
-one_response one history times place request BadRequest NotFound allow other a b is is' = absurd is'
-one_response one history times place request BadRequest MethodNotAllowed allow other a b is is' = absurd is'
-one_response one history times place request BadRequest LengthRequired allow other a b is is' = absurd is'
-one_response one history times place request BadRequest ContentTooLarge allow other a b is is' = absurd is'
-one_response one history times place request BadRequest FieldsTooLarge allow other a b is is' = absurd is'
-one_response one history times place request BadRequest BadGateway allow other a b is is' = absurd is'
-one_response one history times place request BadRequest ServiceUnavailable allow other a b is is' = absurd is'
-one_response one history times place request NotFound second allow other a b is is' = absurd is
-one_response one history times place request MethodNotAllowed second allow other a b is is' = absurd is
-one_response one history times place request LengthRequired second allow other a b is is' = absurd is
-one_response one history times place request ContentTooLarge second allow other a b is is' = absurd is
-one_response one history times place request FieldsTooLarge second allow other a b is is' = absurd is
-one_response one history times place request BadGateway second allow other a b is is' = absurd is
-one_response one history times place request ServiceUnavailable second allow other a b is is' = absurd is
+one_response one history times place request Success Success allow other a b why because is is' = (refl, refl, one_text one history times place request.body a b is.0 is'.0, is.1 ∙ sym is'.1)
+one_response one history times place request Success BadRequest allow other a b why because is is' = absurd (is'.0 a is.0)
+one_response one history times place request Success NotFound allow other a b why because is is' = absurd is'
+one_response one history times place request Success MethodNotAllowed allow other a b why because is is' = absurd is'
+one_response one history times place request Success LengthRequired allow other a b why because is is' = absurd is'
+one_response one history times place request Success ContentTooLarge allow other a b why because is is' = absurd is'
+one_response one history times place request Success FieldsTooLarge allow other a b why because is is' = absurd is'
+one_response one history times place request Success BadGateway allow other a b why because is is' = absurd is'
+one_response one history times place request Success ServiceUnavailable allow other a b why because is is' = absurd is'
+one_response one history times place request BadRequest Success allow other a b why because is is' = absurd (is.0 b is'.0)
+one_response one history times place request BadRequest BadRequest allow other a b why because is is' = (refl, refl, is.1 ∙ sym is'.1, some_of why because (sym is.2 ∙ is'.2))
+one_response one history times place request BadRequest NotFound allow other a b why because is is' = absurd is'
+one_response one history times place request BadRequest MethodNotAllowed allow other a b why because is is' = absurd is'
+one_response one history times place request BadRequest LengthRequired allow other a b why because is is' = absurd is'
+one_response one history times place request BadRequest ContentTooLarge allow other a b why because is is' = absurd is'
+one_response one history times place request BadRequest FieldsTooLarge allow other a b why because is is' = absurd is'
+one_response one history times place request BadRequest BadGateway allow other a b why because is is' = absurd is'
+one_response one history times place request BadRequest ServiceUnavailable allow other a b why because is is' = absurd is'
+one_response one history times place request NotFound second allow other a b why because is is' = absurd is
+one_response one history times place request MethodNotAllowed second allow other a b why because is is' = absurd is
+one_response one history times place request LengthRequired second allow other a b why because is is' = absurd is
+one_response one history times place request ContentTooLarge second allow other a b why because is is' = absurd is
+one_response one history times place request FieldsTooLarge second allow other a b why because is is' = absurd is
+one_response one history times place request BadGateway second allow other a b why because is is' = absurd is
+one_response one history times place request ServiceUnavailable second allow other a b why because is is' = absurd is
 
 -- a whole request whose body has an answer was answered with that
 pub complete_of : (history : History) (times : Settings) (how : ConnectionEnd) (left : Option (List (List ℕ))) (before after : Option (List ℕ))
     → IfSome left (λ pieces. IsComplete (IsResponseTo history times) pieces how before after)
-    → IfSome left (λ pieces. (text : List ℕ) → HasGoodRequest history times (next_piece pieces) text → AnswersAtMost Success Post text how before after)
+    → IfSome left (λ pieces. (text : List ℕ) → HasGoodRequest history times (next_piece pieces) text → AnswersAtMost Success Post text [] how before after)
 complete_of history times how None before after is = tt
 complete_of history times how (Some pieces) before after is = λ text good.
-    is Success Post text (record { request = good.request; reads = good.reads; right = inl (good.place, good.asks, good.answer) })
+    is Success Post text [] (record { request = good.request; reads = good.reads; right = inl (good.place, good.asks, (good.answer, refl)) })
 
 -- ---- the steps to a response
 
-pub response_of_message : (history : History) (times : Settings) (request : HttpRequest) (message : Request) (status : Status) (allow : Allow) (body : List ℕ)
-    → IsTextOf ReadsMessage request.body message → status ≡ Success → body ≡ updates_text history times message → IsResponseAt history times 0 request status allow body
-response_of_message history times request message status allow body reads success is =
-    subst (λ (s : Status). IsResponseAt history times 0 request s allow body) (sym success) (message, reads, is)
+pub response_of_message : (history : History) (times : Settings) (request : HttpRequest) (message : Request) (status : Status) (allow : Allow) (body cause : List ℕ)
+    → IsTextOf ReadsMessage request.body message → status ≡ Success → body ≡ updates_text history times message → cause ≡ []
+    → IsResponseAt history times 0 request status allow body cause
+response_of_message history times request message status allow body cause reads success is none =
+    subst (λ (s : Status). IsResponseAt history times 0 request s allow body cause) (sym success) ((message, reads, is), none)
+
+-- the cause of a refused body is its first fault
+cause_told : (place : ℕ) (text body : List ℕ) (refusal : MessageFault) (cause : List ℕ) → text ≡ body → refusal ≢ no_memory
+    → (refusal ≡ no_memory) ⊎ (fault_at place text ≡ Some refusal) → cause ≡ message_cause refusal → IsCauseAt place body cause
+cause_told place text body refusal cause same some (inl none) told = absurd (some none)
+cause_told place text body refusal cause same some (inr first) told =
+    subst (λ (t : List ℕ). option_map message_cause (fault_at place t) ≡ Some cause) same
+    (ap (option_map message_cause) first ∙ ap Some (sym told))
 
 -- a body that was refused reads as no message, unless memory was refused
 pub body_refused : (history : History) (times : Settings) (request : HttpRequest) (text : List ℕ) (refusal : MessageFault) (result : Result Response OutOfMemory)
     → text ≡ request.body → ((message : Request) → IsTextOf ReadsMessage text message → refusal ≡ no_memory)
-    → IfOk result (λ r. IsBareRefusal refusal r.status r.body)
-    → IfOk result (λ r. IsResponseAt history times 0 request r.status r.allow r.body)
-body_refused history times request text refusal (Ok r) same only is =
-    subst (λ (s : Status). IsResponseAt history times 0 request s r.allow r.body) (sym is.bad)
-    (λ other asks. is.some (only asks.0 (subst (λ (t : List ℕ). IsTextOf ReadsMessage t asks.0) (sym same) asks.1)), is.bare)
-body_refused history times request text refusal (Err refused) same only is = tt
+    → (refusal ≡ no_memory) ⊎ (fault_of_text fault_of_request (value_of text) ≡ Some refusal)
+    → IfOk result (λ r. IsBareRefusal refusal r.status r.body r.cause)
+    → IfOk result (λ r. IsResponseAt history times 0 request r.status r.allow r.body r.cause)
+body_refused history times request text refusal (Ok r) same only first is =
+    subst (λ (s : Status). IsResponseAt history times 0 request s r.allow r.body r.cause) (sym is.bad) (
+      λ other asks. is.some (only asks.0 (subst (λ (t : List ℕ). IsTextOf ReadsMessage t asks.0) (sym same) asks.1)),
+      is.bare,
+      cause_told 0 text request.body refusal r.cause same is.some first is.told,
+    )
+body_refused history times request text refusal (Err refused) same only first is = tt
 
 pub hashes_answered : (history : History) (times : Settings) (request : HttpRequest) (text : List ℕ) (message : AskedHashes) (result : Result Response OutOfMemory)
     → text ≡ request.body → IsTextOf ReadsFindRequest text message
-    → IfOk result (λ r. r.status ≡ Success) → IfOk result (λ r. r.body ≡ matches_text history times message)
-    → IfOk result (λ r. IsResponseAt history times 1 request r.status r.allow r.body)
-hashes_answered history times request text message (Ok r) same reads success is =
-    subst (λ (s : Status). IsResponseAt history times 1 request s r.allow r.body) (sym success)
-    (message, subst (λ (t : List ℕ). IsTextOf ReadsFindRequest t message) same reads, is)
-hashes_answered history times request text message (Err refused) same reads success is = tt
+    → IfOk result (λ r. r.status ≡ Success) → IfOk result (λ r. r.body ≡ matches_text history times message) → IfOk result (λ r. r.cause ≡ [])
+    → IfOk result (λ r. IsResponseAt history times 1 request r.status r.allow r.body r.cause)
+hashes_answered history times request text message (Ok r) same reads success is none =
+    subst (λ (s : Status). IsResponseAt history times 1 request s r.allow r.body r.cause) (sym success)
+    ((message, subst (λ (t : List ℕ). IsTextOf ReadsFindRequest t message) same reads, is), none)
+hashes_answered history times request text message (Err refused) same reads success is none = tt
 
 pub hashes_refused : (history : History) (times : Settings) (request : HttpRequest) (text : List ℕ) (refusal : MessageFault) (result : Result Response OutOfMemory)
     → text ≡ request.body → ((message : AskedHashes) → IsTextOf ReadsFindRequest text message → refusal ≡ no_memory)
-    → IfOk result (λ r. IsBareRefusal refusal r.status r.body)
-    → IfOk result (λ r. IsResponseAt history times 1 request r.status r.allow r.body)
-hashes_refused history times request text refusal (Ok r) same only is =
-    subst (λ (s : Status). IsResponseAt history times 1 request s r.allow r.body) (sym is.bad)
-    (λ other asks. is.some (only asks.0 (subst (λ (t : List ℕ). IsTextOf ReadsFindRequest t asks.0) (sym same) asks.1)), is.bare)
-hashes_refused history times request text refusal (Err refused) same only is = tt
+    → (refusal ≡ no_memory) ⊎ (fault_of_text fault_of_find_request (value_of text) ≡ Some refusal)
+    → IfOk result (λ r. IsBareRefusal refusal r.status r.body r.cause)
+    → IfOk result (λ r. IsResponseAt history times 1 request r.status r.allow r.body r.cause)
+hashes_refused history times request text refusal (Ok r) same only first is =
+    subst (λ (s : Status). IsResponseAt history times 1 request s r.allow r.body r.cause) (sym is.bad) (
+      λ other asks. is.some (only asks.0 (subst (λ (t : List ℕ). IsTextOf ReadsFindRequest t asks.0) (sym same) asks.1)),
+      is.bare,
+      cause_told 1 text request.body refusal r.cause same is.some first is.told,
+    )
+hashes_refused history times request text refusal (Err refused) same only first is = tt
 
 -- each place but the first has the answers of full hashes
-at_further : (history : History) (times : Settings) (place : ℕ) (request : HttpRequest) (status : Status) (allow : Allow) (body : List ℕ)
-    → IsResponseAt history times 1 request status allow body → IsResponseAt history times (suc place) request status allow body
-at_further history times place request Success allow body is = is
-at_further history times place request BadRequest allow body is = is
-at_further history times place request NotFound allow body is = is
-at_further history times place request MethodNotAllowed allow body is = is
-at_further history times place request LengthRequired allow body is = is
-at_further history times place request ContentTooLarge allow body is = is
-at_further history times place request FieldsTooLarge allow body is = is
-at_further history times place request BadGateway allow body is = is
-at_further history times place request ServiceUnavailable allow body is = is
+at_further : (history : History) (times : Settings) (place : ℕ) (request : HttpRequest) (status : Status) (allow : Allow) (body cause : List ℕ)
+    → IsResponseAt history times 1 request status allow body cause → IsResponseAt history times (suc place) request status allow body cause
+at_further history times place request Success allow body cause is = is
+at_further history times place request BadRequest allow body cause is = is
+at_further history times place request NotFound allow body cause is = is
+at_further history times place request MethodNotAllowed allow body cause is = is
+at_further history times place request LengthRequired allow body cause is = is
+at_further history times place request ContentTooLarge allow body cause is = is
+at_further history times place request FieldsTooLarge allow body cause is = is
+at_further history times place request BadGateway allow body cause is = is
+at_further history times place request ServiceUnavailable allow body cause is = is
 
-pub at_other : (history : History) (times : Settings) (place : ℕ) (request : HttpRequest) (status : Status) (allow : Allow) (body : List ℕ) → (place ≡ 0 → ⊥)
-    → IsResponseAt history times 1 request status allow body → IsResponseAt history times place request status allow body
-at_other history times zero request status allow body other is = absurd (other refl)
-at_other history times (suc place) request status allow body other is = at_further history times place request status allow body is
+pub at_other : (history : History) (times : Settings) (place : ℕ) (request : HttpRequest) (status : Status) (allow : Allow) (body cause : List ℕ) → (place ≡ 0 → ⊥)
+    → IsResponseAt history times 1 request status allow body cause → IsResponseAt history times place request status allow body cause
+at_other history times zero request status allow body cause other is = absurd (other refl)
+at_other history times (suc place) request status allow body cause other is = at_further history times place request status allow body cause is
+
+-- ---- a body without an answer
+
+-- a request asks for one route
+one_place : (request : HttpRequest) (p q : ℕ) → AsksAt list_routes request p → AsksAt list_routes request q → p ≡ q
+one_place request p q first second = some_of p q (sym first.at.first ∙ second.at.first)
+
+by_its_method : (request : HttpRequest) (place : ℕ) (allow : Allow) → AsksAt list_routes request place → HasOtherMethod list_routes request allow → ⊥
+by_its_method request place allow asks other =
+    let same : place ≡ other.place = some_of place other.place (sym asks.at.first ∙ other.at.first) in
+    let route : asks.route ≡ other.route = some_of asks.route other.route (sym asks.at.stands ∙ ap (slice_get list_routes) same ∙ other.at.stands) in
+    other.method (asks.method ∙ ap (λ (r : Route). method_text r.allow) route)
+
+no_route : (request : HttpRequest) (place : ℕ) → AsksAt list_routes request place → HasNoRoute list_routes request → ⊥
+no_route request place asks none = let e : Some place ≡ None = sym asks.at.first ∙ none in absurd (cc)
+
+refused_at : (history : History) (times : Settings) (request : HttpRequest) (place : ℕ) → ((text : List ℕ) → ¬ IsTextAt history times place request.body text)
+    → (status : Status) (allow : Allow) (body cause : List ℕ) → IsResponseAt history times place request status allow body cause
+    → (status ≡ BadRequest) × (body ≡ []) × IsCauseAt place request.body cause
+refused_at history times request place none Success allow body cause is = absurd (none body is.0)
+refused_at history times request place none BadRequest allow body cause is = (refl, is.1, is.2)
+refused_at history times request place none NotFound allow body cause is = absurd is
+refused_at history times request place none MethodNotAllowed allow body cause is = absurd is
+refused_at history times request place none LengthRequired allow body cause is = absurd is
+refused_at history times request place none ContentTooLarge allow body cause is = absurd is
+refused_at history times request place none FieldsTooLarge allow body cause is = absurd is
+refused_at history times request place none BadGateway allow body cause is = absurd is
+refused_at history times request place none ServiceUnavailable allow body cause is = absurd is
+
+pub first_fault_told : (history : History) (times : Settings) (request : HttpRequest) → TellsFirstFault history times request
+first_fault_told history times request place asks none status allow body cause (inl (p, asks', right)) =
+    refused_at history times request place none status allow body cause
+    (subst (λ (k : ℕ). IsResponseAt history times k request status allow body cause) (one_place request p place asks' asks) right)
+first_fault_told history times request place asks none status allow body cause (inr (inl (wrong, code, bare, untold))) =
+    absurd (by_its_method request place allow asks wrong)
+first_fault_told history times request place asks none status allow body cause (inr (inr (missing, code, bare, untold))) =
+    absurd (no_route request place asks missing)

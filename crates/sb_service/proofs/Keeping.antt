@@ -112,7 +112,7 @@ found_at P test kept text all says = go (position test kept) refl says
 
 module _ (history : History) (times : Settings) (request : HttpRequest) where
   abbrev IsRightText : List ℕ → Type 0
-  IsRightText text = IsTextOfRight (IsResponseAt history times 0 request) Success text
+  IsRightText text = IsTextOfRight (IsResponseAt history times 0 request) Success [] text
 
   of_body : (asked text : List ℕ) → asked ≡ request.body → IsFound (IsKeptOf history times) (λ (answer : KeptAnswer). bytes_eq answer.asked asked) text → IsRightText text
   of_body asked text body found =
@@ -121,7 +121,7 @@ module _ (history : History) (times : Settings) (request : HttpRequest) where
       record {
         allow = is.allow;
         body = is.body;
-        right = subst (λ (a : List ℕ). IsUpdatesText history times a is.body) own is.right;
+        right = (subst (λ (a : List ℕ). IsUpdatesText history times a is.body) own is.right, refl);
         whole = sym found.text_is ∙ is.whole;
       }
 
@@ -140,12 +140,12 @@ module _ (history : History) (times : Settings) (request : HttpRequest) where
       → IsFound (IsKeptOf history times) (λ (answer : KeptAnswer). has_wishes wishes answer.wishes) text → IsRightText text
   of_wishes limits law message wishes text reads wish found =
       let own : found.answer.wishes ≡ Some wishes = own_wishes law wishes found.answer.wishes found.passes in
-      let kept : IsTextOfRight (λ status allow body. IsWishedText history times wishes body) Success found.answer.text =
-      subst (λ (w : Option (List Wish)). IfSome w (λ ws. IsTextOfRight (λ status allow body. IsWishedText history times ws body) Success found.answer.text)) own found.is.wished in
+      let kept : IsTextOfRight (λ status allow body cause. IsWishedText history times wishes body) Success [] found.answer.text =
+      subst (λ (w : Option (List Wish)). IfSome w (λ ws. IsTextOfRight (λ status allow body cause. IsWishedText history times ws body) Success [] found.answer.text)) own found.is.wished in
       record {
         allow = kept.allow;
         body = kept.body;
-        right = (message, reads, kept.right ∙ ap spelling_of_response (sym (answered history limits times.wait message wishes wish)));
+        right = ((message, reads, kept.right ∙ ap spelling_of_response (sym (answered history limits times.wait message wishes wish))), refl);
         whole = sym found.text_is ∙ kept.whole;
       }
 
@@ -233,7 +233,7 @@ module _ (history : History) (times : Settings) where
   }
     where
       of : (ws : Option (List Wish)) → IfSome ws (AreWishesOf history message.items)
-          → IfSome ws (λ own. IsTextOfRight (λ status allow body. IsWishedText history times own body) Success (response_text response.status response.allow response.body))
+          → IfSome ws (λ own. IsTextOfRight (λ status allow body cause. IsWishedText history times own body) Success [] (response_text response.status response.allow response.body))
       of None are = tt
       of (Some own) are = record {
         allow = response.allow;
@@ -252,20 +252,22 @@ module _ (history : History) (times : Settings) where
 
   -- ---- what is sent of it
 
-  pub sent_right : (request : HttpRequest) (response : Response) (sent : Answer) → IsSentAs response sent → IsResponseAt history times 0 request response.status response.allow response.body
+  pub sent_right : (request : HttpRequest) (response : Response) (sent : Answer) → IsSentAs response sent → IsResponseAt history times 0 request response.status response.allow response.body response.cause
       → IsRightAnswer (IsResponseAt history times 0 request) sent
-  sent_right request response (answer.Made made) is right = subst (λ (r : Response). IsResponseAt history times 0 request r.status r.allow r.body) (sym is) right
+  sent_right request response (answer.Made made) is right = subst (λ (r : Response). IsResponseAt history times 0 request r.status r.allow r.body r.cause) (sym is) right
   sent_right request response (answer.Written written) is right = record {
     allow = response.allow;
     body = response.body;
-    right = subst (λ (s : Status). IsResponseAt history times 0 request s response.allow response.body) (sym is.0) right;
-    whole = is.1 ∙ ap (λ (s : Status). response_text s response.allow response.body) (sym is.0);
+    right = subst (λ (s : Status). IsResponseAt history times 0 request s response.allow response.body []) (sym is.0)
+        (subst (IsResponseAt history times 0 request response.status response.allow response.body) is.1 right);
+    whole = is.2 ∙ ap (λ (s : Status). response_text s response.allow response.body) (sym is.0);
   }
   sent_right request response (answer.Shared shared) is right = record {
     allow = response.allow;
     body = response.body;
-    right = subst (λ (s : Status). IsResponseAt history times 0 request s response.allow response.body) (sym is.0) right;
-    whole = is.1 ∙ ap (λ (s : Status). response_text s response.allow response.body) (sym is.0);
+    right = subst (λ (s : Status). IsResponseAt history times 0 request s response.allow response.body []) (sym is.0)
+        (subst (IsResponseAt history times 0 request response.status response.allow response.body) is.1 right);
+    whole = is.2 ∙ ap (λ (s : Status). response_text s response.allow response.body) (sym is.0);
   }
 
   -- ---- nothing kept

@@ -1,5 +1,8 @@
 -- What a list server answers to a request, over the history that it was lent.
-use Rattle.std.specs.Prelude.{◌≡◌, ℕ, zero, suc, List, [], ◌∷◌}
+use Rattle.std.specs.Prelude.{◌≡◌, ℕ, zero, suc, List, [], ◌∷◌, Option, Some, option_map}
+use Rattle.sb_json.specs.Printed.{cause_text as message_cause}
+use Rattle.sb_json.specs.Values.{value_of}
+use Rattle.sb_json.specs.declared.faults.MessageFault.{MessageFault}
 use Rattle.sb_outside.specs.declared.links.Kind.{Kind}
 use Rattle.sb_outside.specs.declared.links.Kind.TheVariants.{Update, Find}
 use Rattle.sb_model.specs.History.{History}
@@ -12,9 +15,11 @@ use Rattle.http_edge.specs.declared.messages.Status.{Status}
 use Rattle.http_edge.specs.declared.messages.Status.TheVariants.{Success, BadRequest}
 use Rattle.http_serving.specs.Routes.{AsksAt, Route, RoutedAnswer}
 use Rattle.update_messages.specs.Answer.{fetch_answer}
+use Rattle.update_messages.specs.Faults.{fault_of_request, fault_of_text}
 use Rattle.update_messages.specs.Messages.{Request}
 use Rattle.update_messages.specs.Reading.{ReadsRequest, IsTextOf}
 use Rattle.update_messages.specs.Writing.{spelling_of_response}
+use Rattle.hash_messages.specs.Faults.{fault_of_find_request}
 use Rattle.hash_messages.specs.Matches.{find_answer}
 use Rattle.hash_messages.specs.Messages.{AskedHashes}
 use Rattle.hash_messages.specs.Reading.{ReadsFindRequest}
@@ -58,16 +63,26 @@ abbrev pub IsTextAt : History → Settings → ℕ → List ℕ → List ℕ →
 IsTextAt history times zero body text = IsUpdatesText history times body text
 IsTextAt history times (suc place) body text = IsMatchesText history times body text
 
--- When a response to a request that asks for the route at a place has a status, and with which body: 200 with the answer to
--- its body, and 400 where this has none. At most one status is right.
-abbrev pub IsResponseAt : History → Settings → ℕ → HttpRequest → Status → Allow → List ℕ → Type 0
-IsResponseAt history times place request Success allow body = IsTextAt history times place request.body body
-IsResponseAt history times place request BadRequest allow body =
-    ((text : List ℕ) → ¬ IsTextAt history times place request.body text) × (body ≡ [])
-IsResponseAt history times place request status allow body = ⊥
+-- the first fault of a body, by the place of the route
+abbrev pub fault_at : ℕ → List ℕ → Option MessageFault
+fault_at zero body = fault_of_text fault_of_request (value_of body)
+fault_at (suc place) body = fault_of_text fault_of_find_request (value_of body)
 
--- The same of any request: 404 where no route has its path, and 405 with `Allow` where it has another method.
-abbrev pub IsResponseTo : History → Settings → HttpRequest → Status → Allow → List ℕ → Type 0
+-- The cause that is told of a body without an answer: its first fault, as `answer` prints it.
+abbrev pub IsCauseAt : ℕ → (body cause : List ℕ) → Type 0
+IsCauseAt place body cause = option_map message_cause (fault_at place body) ≡ Some cause
+
+-- When a response to a request that asks for the route at a place has a status, and with which body and cause: 200 with the answer
+-- to its body, and 400 with the cause where this has none. At most one status is right.
+abbrev pub IsResponseAt : History → Settings → ℕ → HttpRequest → Status → Allow → (body cause : List ℕ) → Type 0
+IsResponseAt history times place request Success allow body cause =
+    IsTextAt history times place request.body body × (cause ≡ [])
+IsResponseAt history times place request BadRequest allow body cause =
+    ((text : List ℕ) → ¬ IsTextAt history times place request.body text) × (body ≡ []) × IsCauseAt place request.body cause
+IsResponseAt history times place request status allow body cause = ⊥
+
+-- The same of any request: 404 where no route has its path, and 405 with `Allow` where it has another method, both without a cause.
+abbrev pub IsResponseTo : History → Settings → HttpRequest → Status → Allow → (body cause : List ℕ) → Type 0
 IsResponseTo history times = RoutedAnswer list_routes (IsResponseAt history times)
 
 -- ---- what has to be answered

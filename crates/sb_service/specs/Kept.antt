@@ -19,8 +19,8 @@ use Rattle.sb_service.specs.Wish.{is_whole, same_wish, IsWishedText}
 -- A kept answer is one of a history, by a server with these times: its text is that of a response with the status 200 and the
 -- updates for which the kept body asks, and of one with the answer to the kept wishes.
 pub record IsKeptOf (history : History) (times : Settings) (kept : KeptAnswer) : Type 0 where
-  pub asked : IsTextOfRight (λ status allow body. IsUpdatesText history times kept.asked body) Success kept.text
-  pub wished : IfSome kept.wishes (λ wishes. IsTextOfRight (λ status allow body. IsWishedText history times wishes body) Success kept.text)
+  pub asked : IsTextOfRight (λ status allow body cause. IsUpdatesText history times kept.asked body) Success [] kept.text
+  pub wished : IfSome kept.wishes (λ wishes. IsTextOfRight (λ status allow body cause. IsWishedText history times wishes body) Success [] kept.text)
 
 -- Kept answers stand in two parts: those whose every item is a whole list, and others. In each part the one that was asked for least
 -- lately stands first.

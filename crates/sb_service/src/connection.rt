@@ -1,5 +1,6 @@
-ghost use Rattle.std.specs.Prelude.{◌≡◌, ◌≢◌, ◌≤◌, ℕ, List, IfOk, IfSome, refl};
+ghost use Rattle.std.specs.Prelude.{◌≡◌, ◌≢◌, ◌≤◌, ℕ, List, [], IfOk, IfSome, refl};
 ghost use Rattle.sb_outside.specs.Outside.{Rose, next_piece};
+ghost use Rattle.sb_json.specs.Printed.{cause_text as message_cause};
 ghost use Rattle.sb_model.specs.History.{History as Versions};
 ghost use Rattle.http_edge.specs.Responses.{response_text};
 ghost use Rattle.http_edge.specs.declared.messages.Allow.{Allow};
@@ -10,7 +11,7 @@ ghost use Rattle.http_serving.specs.Serving.{unavailable_text, AnswersAtMost, Is
 ghost use Rattle.http_serving.specs.Written.{IsRightAnswer};
 ghost use Rattle.delta_server.specs.declared.answering.Settings.{Settings as Times};
 ghost use Rattle.sb_service.specs.Connection.{list_routes, ListServed, matches_text, updates_text, IsResponseAt, IsResponseTo, HasGoodRequest};
-ghost use Rattle.sb_service.specs.ConnectionLaws.{HasOneResponse, IsAnsweredAsRead};
+ghost use Rattle.sb_service.specs.ConnectionLaws.{HasOneResponse, IsAnsweredAsRead, TellsFirstFault};
 ghost use Rattle.sb_service.specs.ConnectionSteps.{IsBareRefusal, IsSentAs, MayBeKept};
 ghost use Rattle.update_messages.specs.Messages.{Request};
 ghost use Rattle.update_messages.specs.Reading.{ReadsRequest, IsTextOf};
@@ -23,10 +24,10 @@ use hash_messages::{FindRequest, find_values_read_one_way, read_find, write_matc
 use http_edge::{Allow, HttpRequest, Status, path_of};
 use http_serving::{
     Answer, Answers, ConnectionEnd, Response, Route, Routed, SharedResponse,
-    answers_follow_requests, bare, find_route, requests_have_one_answer, write_out,
+    answers_follow_requests, find_route, requests_have_one_answer, write_out,
 };
 use list_versions::History;
-use sb_json::MessageFault;
+use sb_json::{MessageFault, push_message_cause};
 use sb_model::{Bytes, OutOfMemory, Row, names_go_by_their_codes};
 use sb_outside::{Kind, Wire};
 use std::alloc::Global;
@@ -47,23 +48,41 @@ fn answer_message(
 ) -> Result<Response, OutOfMemory>
     ensures status { IfOk result (λ response. response.status ≡ Status.Success) }
     ensures body { IfOk result (λ response. response.body ≡ updates_text history.now.versions settings.now message.now) }
+    ensures cause { IfOk result (λ response. response.cause ≡ []) }
 {
     let answer = answer_fetch(alloc, history, settings, message)?;
     Ok(Response {
         status: Status::Success,
         allow: Allow::Post,
         body: write_answer(alloc, &answer)?,
+        cause: Bytes::new(alloc),
     })
 }
 
-/// The response to a body that is no message.
-fn refuse_body(alloc: Global, fault: MessageFault) -> Result<Response, OutOfMemory>
-    ensures { IfOk result (λ response. IsBareRefusal fault response.status response.body) }
+/// The cause of a response to a body that is no message. Want of memory is none that is told.
+fn cause_of(alloc: Global, fault: &MessageFault) -> Result<Bytes, OutOfMemory>
+    ensures told { IfOk result (λ cause. cause ≡ message_cause fault.now) }
+    ensures some { IfOk result (λ _. fault.now ≢ MessageFault.OutOfMemory) }
 {
-    match fault {
-        MessageFault::OutOfMemory => Err(OutOfMemory),
-        _ => Ok(bare(alloc, Status::BadRequest, Allow::Post)),
+    if let MessageFault::OutOfMemory = fault {
+        return Err(OutOfMemory);
     }
+    let mut cause = Bytes::new(alloc);
+    push_message_cause(&mut cause, fault)?;
+    Ok(cause)
+}
+
+/// The response to a body that is no message. Its cause is the fault.
+fn refuse_body(alloc: Global, fault: &MessageFault) -> Result<Response, OutOfMemory>
+    ensures { IfOk result (λ response. IsBareRefusal fault.now response.status response.body response.cause) }
+{
+    let cause = cause_of(alloc, fault)?;
+    Ok(Response {
+        status: Status::BadRequest,
+        allow: Allow::Post,
+        body: Bytes::new(alloc),
+        cause,
+    })
 }
 
 /// The response to a message that asks for full hashes.
@@ -75,12 +94,14 @@ fn answer_hashes(
 ) -> Result<Response, OutOfMemory>
     ensures status { IfOk result (λ response. response.status ≡ Status.Success) }
     ensures body { IfOk result (λ response. response.body ≡ matches_text history.now.versions settings.now message.now) }
+    ensures cause { IfOk result (λ response. response.cause ≡ []) }
 {
     let answer = answer_find(alloc, history, settings, message)?;
     Ok(Response {
         status: Status::Success,
         allow: Allow::Post,
         body: write_matches(alloc, &answer)?,
+        cause: Bytes::new(alloc),
     })
 }
 
@@ -92,11 +113,11 @@ fn answer_hashes_body(
     request: &HttpRequest,
 ) -> Result<Response, OutOfMemory>
     ensures { IfOk result (λ response. IsResponseAt history.now.versions settings.now 1 request.now
-        response.status response.allow response.body) }
+        response.status response.allow response.body response.cause) }
 {
     match read_find(alloc, request.body.as_slice()) {
         Ok(message) => answer_hashes(alloc, history, settings, &message),
-        Err(fault) => refuse_body(alloc, fault),
+        Err(fault) => refuse_body(alloc, &fault),
     }
 }
 
@@ -109,7 +130,8 @@ fn keep_written(
     response: Response,
     text: Bytes,
 ) -> Answer
-    requires { text ≡ response_text response.status response.allow response.body }
+    requires text { text ≡ response_text response.status response.allow response.body }
+    requires cause { response.cause ≡ [] }
     ensures answer { IsSentAs response result }
     ensures kept { MayBeKept asked.now wishes response kept.old kept.new }
 {
@@ -132,6 +154,7 @@ fn keep_made(
     wishes: Option<Row<Wish>>,
     response: Response,
 ) -> Answer
+    requires { response.cause ≡ [] }
     ensures answer { IsSentAs response result }
     ensures kept { MayBeKept asked.now wishes response kept.old kept.new }
 {
@@ -197,7 +220,7 @@ fn answer_updates(
     }
     match read_message(alloc, asked) {
         Ok(message) => answer_wishes(alloc, history, settings, kept, request, &message),
-        Err(fault) => Ok(Answer::Made(refuse_body(alloc, fault)?)),
+        Err(fault) => Ok(Answer::Made(refuse_body(alloc, &fault)?)),
     }
 }
 
@@ -326,7 +349,7 @@ pub fn serve_connection<T: Wire>(
     // A whole request whose body has an answer is answered with that or not at all, or memory was refused.
     ensures complete { IfSome (T.left wire.old) (λ pieces.
         (text : List ℕ) → HasGoodRequest history.now.versions settings.now (next_piece pieces) text
-        → AnswersAtMost Status.Success Allow.Post text result (T.contents wire.old) (T.contents wire.new)) }
+        → AnswersAtMost Status.Success Allow.Post text [] result (T.contents wire.old) (T.contents wire.new)) }
 
     // A fault is counted, and nothing else is.
     ensures read_failed { result ≡ ConnectionEnd.ReadFault → Rose (T.Source.faults wire.old) (T.Source.faults wire.new) }
@@ -353,12 +376,13 @@ pub fn serve_connection<T: Wire>(
     http_serving::serve_connection(alloc, &mut server, wire)
 }
 
-/// A request has one response, and bytes that begin with a whole request are answered as that
-/// request is.
+/// A request has one response, bytes that begin with a whole request are answered as that request is, and of a body without
+/// an answer the cause of its 400 tells the first fault.
 pub fn requests_have_one_response()
     ensures one { (history : Versions) (times : Times) (request : HttpRequest) → HasOneResponse history times request }
     ensures whole { (history : Versions) (times : Times) (bytes : List ℕ) (request : HttpRequest)
         → IsAnsweredAsRead history times bytes request }
+    ensures told { (history : Versions) (times : Times) (request : HttpRequest) → TellsFirstFault history times request }
 {
     requests_have_one_answer::<ListServer>();
     answers_follow_requests::<ListServer>();

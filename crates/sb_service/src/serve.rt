@@ -21,8 +21,8 @@ use std::alloc::Global;
 use std::mem;
 
 /// Prints the line of a connection that ended. Answers `Done`, or what ends the run.
-fn print_end<O: Sink>(alloc: Global, number: u32, end: ConnectionEnd, out: &mut O) -> Stop
-    ensures lined { IsLined number end (status_of result) (O.contents out.old) (O.contents out.new) }
+fn print_end<O: Sink>(alloc: Global, number: u32, end: &ConnectionEnd, out: &mut O) -> Stop
+    ensures lined { IsLined number end.now (status_of result) (O.contents out.old) (O.contents out.new) }
     ensures failed { result ≡ Stop.WriteFault → Rose (O.faults out.old) (O.faults out.new) }
     ensures kept { result ≢ Stop.WriteFault → O.faults out.new ≡ O.faults out.old }
 {
@@ -64,7 +64,7 @@ fn serve_taken<O: Sink, D: Door>(
     };
     let end = serve_wire(alloc, &mut server, door, wire);
     *kept = server.into_kept();
-    print_end(alloc, number, end, out)
+    print_end(alloc, number, &end, out)
 }
 
 /// Says why the journal was refused, and answers what ends the run.

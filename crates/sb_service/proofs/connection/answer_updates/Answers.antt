@@ -30,7 +30,7 @@ returns-in_err-refuse_body-in-Err-clause-kept c =
 pub returns-in_ok-refuse_body-in-Err-clause-right : goal.returns-in_ok-refuse_body-in-Err-clause-right
 returns-in_ok-refuse_body-in-Err-clause-right c =
     body_refused c.args.history.now.versions c.args.settings.now c.args.request.now c.as_slice-asked.result.now c.in-Err.fault
-    (Ok c.in_ok-refuse_body-in-Err.field-0) c.as_slice-asked.ensures c.in-Err.ensures.only c.in_ok-refuse_body-in-Err.ensures
+    (Ok c.in_ok-refuse_body-in-Err.field-0) c.as_slice-asked.ensures c.in-Err.ensures.only c.in-Err.ensures.err c.in_ok-refuse_body-in-Err.ensures
 
 pub returns-in_ok-refuse_body-in-Err-clause-kept : goal.returns-in_ok-refuse_body-in-Err-clause-kept
 returns-in_ok-refuse_body-in-Err-clause-kept c =

@@ -29,7 +29,7 @@ returns-clause-right c =
     let response = c.in_ok-response.response in
     sent_right c.args.history.now.versions c.args.settings.now c.args.request.now response c.keep_made.result c.keep_made.ensures.answer
     (response_of_message c.args.history.now.versions c.args.settings.now c.args.request.now c.args.message.now response.status response.allow response.body
-    c.requires.reads c.in_ok-response.ensures.status c.in_ok-response.ensures.body)
+    response.cause c.requires.reads c.in_ok-response.ensures.status c.in_ok-response.ensures.body c.in_ok-response.ensures.cause)
 
 pub returns-clause-kept : goal.returns-clause-kept
 returns-clause-kept c =

@@ -1,3 +1,4 @@
+use Rattle.sb_service.proofs.ConnectionFacts.{first_fault_told}
 use Rattle.sb_service.proofs.connection.requests_have_one_response.Goals as goal
 
 pub returns-clause-one : goal.returns-clause-one
@@ -7,3 +8,6 @@ returns-clause-one c = λ history times request.
 pub returns-clause-whole : goal.returns-clause-whole
 returns-clause-whole c = λ history times bytes request.
     c.answers_follow_requests.ensures (record { versions = history; times = times }) (record { versions = history; times = times }) bytes request
+
+pub returns-clause-told : goal.returns-clause-told
+returns-clause-told c = λ history times request. first_fault_told history times request
