@@ -62,15 +62,15 @@ seconds_of default (Some text) = number_of 0 86400 text
 abbrev pub seconds_given : Text → ℕ → List (Text × Text) → Option ℕ
 seconds_given name default named = seconds_of default (value_among name named)
 
--- what a server says of times: its minimum waits, of which that of find answers is the other one where it is left out, and how long a
--- match and its absence may be kept
+-- what a server says of times: the minimum wait of fetch answers, that of find answers, and how long a match and its absence may be kept;
+-- 1,800, 0, 300 and 300 seconds where the words do not say
 abbrev pub settings_given : List (Text × Text) → Option Settings
 settings_given named =
     option_and_then (λ wait. option_and_then (λ find_wait. option_and_then (λ cache. option_map
     (λ negative. record { wait = wait; find_wait = find_wait; cache = cache; negative = negative })
     (seconds_given (codes "negative") 300 named))
     (seconds_given (codes "cache") 300 named))
-    (seconds_given (codes "find-wait") wait named))
+    (seconds_given (codes "find-wait") 0 named))
     (seconds_given (codes "wait") 1800 named)
 
 -- the kind of the message: `fetch` for updates, or `find` for full hashes

@@ -198,7 +198,7 @@ fn settings_in(given: &Words<'_>) -> Option<Settings>
     ensures { result ≡ settings_given given.now.named }
 {
     let wait = seconds(given, "wait", 1800)?;
-    let find_wait = seconds(given, "find-wait", wait)?;
+    let find_wait = seconds(given, "find-wait", 0)?;
     let cache = seconds(given, "cache", 300)?;
     let negative = seconds(given, "negative", 300)?;
     Some(Settings {

@@ -29,7 +29,7 @@ pub const USAGE: &str = "usage: sblistd COMMAND\n\n  \
     sblistd answer --journal PATH --kind fetch|find [--wait S] [--find-wait S] [--cache S] [--negative S]\n      \
     reads a request for updates or for full hashes, and writes the answer from the lists of a journal\n  \
     sblistd serve --journal PATH --listen HOST:PORT [--connections N] [--peers N] [--answers MIB] [--wait S] [--find-wait S] [--cache S] [--negative S]\n      \
-    serves the lists of a journal over HTTP\n  \
+    serves the lists of a journal over HTTP; without --wait and --find-wait, fetches are to wait 1800 seconds and finds none\n  \
     sblistd generate [--urls] N SEED\n      \
     writes the journal of N changes that a seed makes, or N URLs\n  \
     sblistd exercise N SEED\n      \
