@@ -5,8 +5,8 @@ use Rattle.generated_load.specs.Generated.{generated_list}
 use Rattle.generated_load.proofs.Asked.{first_checksum, item_is}
 use Rattle.generated_load.proofs.exercising.first_checksum.Goals as goal
 
-pub returns-clause-checksum : goal.returns-clause-checksum
-returns-clause-checksum c =
+pub returns : goal.returns
+returns c =
     let history = c.args.history.now.versions in
     let update = item_is history [] c.in_ok-response.response c.at.result.now c.requires c.in_ok-response.ensures c.at.ensures in
     ap (λ (u : UpdatedList). u.checksum) c.behind-response.view_is ∙ ap (λ (u : UpdatedList). u.checksum) update
