@@ -25,8 +25,8 @@ pub record MeetsAnswers (history : History) (token_at : Naming) (plan : Plan) (k
   pub log : IsLogged sessions before.outside.log after.outside.log
   pub answered : AreAnsweredOrLost history token_at plan.target plan.need_digest sessions
 
--- The rounds that were made, as many as the plan asks for, whose sessions these are, are printed: each that was answered prints `ok`, and that each of its updates
--- is installed.
+-- The rounds that were made, as many as the plan asks for, whose sessions these are, are printed: each that was answered prints `ok`, and of each list that the
+-- history declares that its update is installed.
 pub record TellsComplete (history : History) (token_at : Naming) (plan : Plan) (kept : Option (List ℕ)) (sessions : List Session) (before after : Seen) : Type 0 where
   pub rounds : List Round
   pub all : length rounds ≡ plan.rounds

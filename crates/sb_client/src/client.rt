@@ -356,8 +356,8 @@ pub fn run_client<
         (keeping (K.handed keep.new) (K.kept keep.new)) (O.contents out.new)) TellsReplicas }
 
     // Completeness of a run, over its words, its store and its log: where it asks a server of this history from replicas, and each session was
-    // answered by the server or lost, each round that was answered prints `ok` and that each of its updates is installed; and where none was
-    // lost, no refusal is told.
+    // answered by the server or lost, each round that was answered prints `ok`, and of each list that the server declares that its update is
+    // installed; and where none was lost, no refusal is told. The server need not declare each list of the words.
     ensures installs { (line : RunWords) (history : History) (token_at : Naming) (kept : Option (List ℕ)) (sessions : List Session)
         → run_of (map string_bytes words.now) ≡ Some line → (result ≡ 0) ⊎ (result ≡ 5) → MeetsAnswers history token_at line.plan kept sessions
         (seen (outside (L.log link.old) (C.answers clock.old) (C.waits clock.old) (D.given dice.old))

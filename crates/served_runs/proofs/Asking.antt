@@ -24,7 +24,6 @@ use Rattle.sb_round.specs.Round.{Round, lists_after_round, updates_of}
 use Rattle.sb_round.specs.declared.rounds.RoundFault.{RoundFault}
 use Rattle.served_runs.specs.Answered.{HasByteTokens, IsToken, AreAskable}
 use Rattle.served_runs.specs.Versions.{IsAnswered, IsUnanswered}
-use Rattle.served_runs.proofs.AllAnswered.{all_answered}
 use Rattle.served_runs.proofs.Answers.{TargetsAreVersions, count_up_to}
 use Rattle.served_runs.proofs.Declared.{all_kept, answer_is, update_of, updates_for}
 

@@ -33,7 +33,6 @@ use Rattle.served_runs.specs.Answered.{IsAnsweredAt, IsAnsweredIn, IsLost, AreAn
 use Rattle.served_runs.specs.Complete.{declared_lists, InstallsEach, InstallAnswers, AnsweredRunsAreComplete, AnsweredRunsKeepVersions}
 use Rattle.served_runs.specs.Installs.{CanBeServed, IsInstalled}
 use Rattle.served_runs.specs.Versions.{IsAnswered}
-use Rattle.served_runs.proofs.AllAnswered.{all_answered}
 use Rattle.served_runs.proofs.Answers.{TargetsAreGreatest, TargetsAreVersions}
 use Rattle.served_runs.proofs.Asking.{request_in_range, askable_after_answer, nothing_came, names_after, as_many}
 use Rattle.served_runs.proofs.Beginning.{first_are_lists, first_askable}

@@ -4,7 +4,7 @@ use Rattle.std.specs.Prelude.{All, filter}
 use Rattle.std.proofs.lemmas.List.Elements.{All-map, All-weaker, filter_passes}
 use Rattle.sb_model.specs.History.{History, declares, up_to_version}
 use Rattle.sb_model.specs.Naming.{Naming}
-use Rattle.update_messages.specs.Answer.{declared_items, fetch_answer, update_for}
+use Rattle.update_messages.specs.Answer.{fetch_answer, update_for}
 use Rattle.update_messages.specs.Messages.{AskedList, UpdatedList}
 use Rattle.update_client.specs.Asked.{asked_list, request_asked}
 use Rattle.update_client.specs.Held.{Held}

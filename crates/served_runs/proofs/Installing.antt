@@ -20,7 +20,6 @@ use Rattle.update_client.specs.Replica.{IsReplicaOf, AreReplicas}
 use Rattle.update_client.specs.Step.{proposed, candidate_of, meaning_of, first_fault, held_after, list_step, after_updates}
 use Rattle.update_client.specs.declared.options.FetchOptions.{FetchOptions}
 use Rattle.served_runs.specs.Installs.{CanBeServed}
-use Rattle.served_runs.proofs.AllAnswered.{all_answered}
 use Rattle.served_runs.proofs.Answers.{named_within, count_up_to}
 use Rattle.served_runs.proofs.Declared.{answer_is, update_of}
 use Rattle.served_runs.proofs.Faults.{HasMeaning, has_meaning, means}

@@ -1,4 +1,3 @@
-pub mod AllAnswered
 pub mod Answers
 pub mod Asking
 pub mod Beginning

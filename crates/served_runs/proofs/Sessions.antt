@@ -30,7 +30,7 @@ module _ (under : Below) (last : TargetsAreVersions) (history : History) (token_
         let nothing = lost_round under history token_at lists waits options target need round are.0 lost in
         inl (
           nothing,
-          are_answered (lists_after_round lists round) (waits_after_round waits round) rounds least (subst (AreAskable) (sym (nothing_came lists round nothing)) askable) are.1 rest,
+          are_answered (lists_after_round lists round) (waits_after_round waits round) rounds least (subst AreAskable (sym (nothing_came lists round nothing)) askable) are.1 rest,
         )
     are_answered lists waits (round ∷ rounds) least askable are (inr (version, low, answered, rest)) =
         let is = answered_round under history token_at lists waits options target need round are.0 (request_in_range options lists askable) version answered in

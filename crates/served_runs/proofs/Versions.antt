@@ -14,7 +14,6 @@ use Rattle.sb_round.specs.Rounds.{body_of}
 use Rattle.sb_round.specs.Run.{lists_after}
 use Rattle.sb_round.specs.declared.rounds.RoundFault.{RoundFault}
 use Rattle.served_runs.specs.Versions.{HasNoLimits, IsAnswered, IsUnanswered, AreAnsweredFrom, HoldsVersion, GoesOn, GoOn, KeepsVersions}
-use Rattle.served_runs.proofs.AllAnswered.{all_answered}
 use Rattle.served_runs.proofs.Answers.{TargetsAreGreatest, TargetsAreVersions, updates_are_to}
 use Rattle.served_runs.proofs.Declared.{answer_is, updates_for}
 use Rattle.served_runs.proofs.Steps.{NamesGo, Each, each_through, ComesTo, after_all}
