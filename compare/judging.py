@@ -75,9 +75,12 @@ class StoreReader:
         size = int.from_bytes(self.field(1), "big") if form == 1 else None
         if size is not None and size and not 4 <= size <= 32:
             self.refuse(at)
-        count = self.number(4, 0, MOST_MEMBERS)
+        place = self.at
+        count = int.from_bytes(self.field(4), "big")
         if size is not None and (size == 0) != (count == 0):
             self.refuse(at)
+        if count > MOST_MEMBERS:
+            self.refuse(place)
         found, total = [], 0
         for _ in range(count):
             place = self.at
@@ -432,6 +435,7 @@ class Link:
 
     def __init__(self, plays, journal, times):
         self.plays, self.journal, self.times, self.given = plays, journal, times, b""
+        self.good = journal
 
     def session(self, sent):
         while self.plays:
@@ -449,6 +453,11 @@ class Link:
         asked = sent.partition(b"\r\n\r\n")[2]
         kind = next(kind for kind, path in exchanges.PATHS.items() if sent.startswith(f"POST {path}".encode("ascii")))
         body, status = server.answer(self.journal, asked, kind, self.times)
+        if status == 7:
+            # what came has a bad line: the history stays as it was, and the session fails
+            self.journal = self.good
+            return None
+        self.good = self.journal
         whole = exchanges.response(body[:-1]) if status == 0 else exchanges.response(b"", b"400 Bad Request")
         if harm[:1] == [b"byte"]:
             place = len(whole) - int(harm[1])
