@@ -2,7 +2,8 @@
 """Attacks a built `sblistd serve` over loopback, and says what it costs good clients.
 
 1. Silence: with 1,024 open files, the default of a shell and of a unit, 3,000 peers that say nothing are kept, and a good
-   client asks once a second. Each has to be answered within a second.
+   client asks once a second. Each has to be answered within a second, and the server says once on standard error that it has
+   no room.
 2. A flood: one address asks for 200 dear answers at one moment, no two of one wish. Good clients of another address have to
    be answered within the longest of such answers and 0.2 seconds, each.
 3. Gone: 100 dear answers are asked for at one moment by peers that reset their connections at once. None but those that have
@@ -41,6 +42,7 @@ READERS = 100
 GONE = 100
 FIRST_DEAR = 300
 FAR = "127.0.0.2"
+NO_ROOM = "has no room for a further connection"
 A_SECOND = 4_096
 
 
@@ -88,7 +90,8 @@ def lower_files():
 
 
 def silence(program, some, _many, seconds, most):
-    with Server(program, some, before=lower_files) as port:
+    server = Server(program, some, before=lower_files)
+    with server as port:
         peers, waits, begun = [], [], time.monotonic()
         for turn in range(seconds):
             while len(peers) < most and time.monotonic() < begun + turn + 0.7:
@@ -100,9 +103,14 @@ def silence(program, some, _many, seconds, most):
             time.sleep(max(0, begun + turn + 1 - time.monotonic()))
         for peer in peers:
             peer.close()
+        server.ran.kill()
+        told = server.ran.stderr.read().splitlines()
     held = tell(f"{len(peers):,} silent peers, {FILES:,} open files", waits, 1)
     if len(peers) < most:
         print(f"attack: there was time for {len(peers):,} silent peers alone")
+        return False
+    if most > FILES and [NO_ROOM in line for line in told] != [True]:
+        print(f"attack: on standard error the server said {told}")
         return False
     return held
 

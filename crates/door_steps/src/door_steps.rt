@@ -99,6 +99,7 @@ fn run_of_turns(stage: &mut Stage<'_>, step: &Step<'_>) -> Option<Outcome> {
         "take" => take(stage, step.word(0)),
         "answer" => word(stage.gate.answer(step.peer(0), step.number(1))),
         "handed" => Outcome::Handed(stage.gate.seen),
+        "told" => Outcome::Count(stage.gate.told()),
         "takes" => Outcome::Count(take_all(stage, number)),
         "answers" => {
             Outcome::Count(answer_all(stage, step.peer(0), step.peer(1), step.number(2)))

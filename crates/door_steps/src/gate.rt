@@ -1,5 +1,6 @@
 use crate::numbered::{BAD, GOOD, PIECE, answer_tag, fill_piece, piece_of};
 use crate::seen::{Seen, Turn, look};
+use crate::told::Told;
 use gathering::{DoorLimits, GatheredWire};
 use gathering_door::GatheringDoor;
 use real_objects::SystemClock;
@@ -18,7 +19,7 @@ struct Held {
 #[derive(Drop)]
 pub(crate) struct Gate<'a> {
     rt: &'a HostRuntime,
-    door: Option<GatheringDoor<&'a HostRuntime>>,
+    door: Option<GatheringDoor<&'a HostRuntime, Told>>,
     pub(crate) seen: Seen,
     held: Vec<Held>,
 }
@@ -77,7 +78,13 @@ impl<'a> Gate<'a> {
     /// Makes a door in the place of the one that is there. It says whether it is usable.
     pub(crate) fn open(&mut self, address: &str, limits: DoorLimits) -> bool {
         self.held.clear();
-        let door = GatheringDoor::bind(self.rt, self.rt.alloc(), address, limits);
+        let door = GatheringDoor::bind(
+            self.rt,
+            self.rt.alloc(),
+            address,
+            limits,
+            Told { count: 0 },
+        );
         let is_usable = door.is_usable();
         self.door = Some(door);
         is_usable
@@ -85,6 +92,14 @@ impl<'a> Gate<'a> {
 
     pub(crate) fn address(&self) -> Option<SocketAddr> {
         self.door.as_ref()?.local_addr()
+    }
+
+    /// How many times the door told that the system has no room.
+    pub(crate) fn told(&self) -> u64 {
+        match &self.door {
+            Some(door) => door.teller().count,
+            None => 0,
+        }
     }
 
     /// Ends the door.

@@ -22,6 +22,7 @@ mod stage;
 mod step;
 mod steps;
 mod together;
+mod told;
 
 /// Takes a step, and prints what it comes to, where there are words for it or it failed.
 fn take_step(stage: &mut Stage<'_>, step: &Step<'_>) {

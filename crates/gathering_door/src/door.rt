@@ -4,8 +4,8 @@ ghost use Rattle.sb_outside.specs.Connections.{connected, TakesFirst, pieces_of}
 ghost use Rattle.gathering.specs.Wires.{IsFreshWire, HasItsTurn};
 ghost use Rattle.gathering_door.specs.Doors.{taken_after};
 
-use crate::DoorFault;
 use crate::open::OpenDoor;
+use crate::{DoorFault, Teller};
 use gathering::{DoorLimits, GatheredWire};
 use sb_model::Moment;
 use sb_outside::{Arrival, Door, Failed};
@@ -18,8 +18,9 @@ use std::time;
 /// comes to the port, reads what peers have sent, and sends what they take of earlier answers. Contracts see it as whether it
 /// has a port, how many connections were handed out, and its count of faults.
 #[derive(Drop)]
-pub struct GatheringDoor<R> {
+pub struct GatheringDoor<R, T> {
     rt: R,
+    teller: T,
     open: Option<OpenDoor>,
     is_usable: bool,
     taken: u64,
@@ -27,7 +28,7 @@ pub struct GatheringDoor<R> {
     why: Option<DoorFault>,
 }
 
-impl<R> Model for GatheringDoor<R> {
+impl<R, T> Model for GatheringDoor<R, T> {
     ghost use Rattle.gathering_door.specs.Doors.{GatheringAt};
 
     ghost Value = { GatheringAt };
@@ -35,10 +36,10 @@ impl<R> Model for GatheringDoor<R> {
     ghost view = { λ s. record { is_usable = s.is_usable; taken = s.taken; faults = s.faults } };
 }
 
-impl<R: Net + Drop> GatheringDoor<R> {
+impl<R: Net + Drop, T: Drop> GatheringDoor<R, T> {
     /// A door at this address: a host's name or IP address, and a port, as in `127.0.0.1:80` or `[::1]:80`. Where the
-    /// address cannot be had, it is unusable.
-    pub fn bind(rt: R, alloc: Global, address: &str, limits: DoorLimits) -> Self
+    /// address cannot be had, it is unusable. The teller hears what is to be known at once.
+    pub fn bind(rt: R, alloc: Global, address: &str, limits: DoorLimits, teller: T) -> Self
         ensures taken { result.taken ≡ 0 }
         ensures faults { result.faults ≡ 0 }
     {
@@ -48,6 +49,7 @@ impl<R: Net + Drop> GatheringDoor<R> {
         };
         GatheringDoor {
             rt,
+            teller,
             open,
             is_usable,
             taken: 0,
@@ -57,13 +59,14 @@ impl<R: Net + Drop> GatheringDoor<R> {
     }
 }
 
-impl<R: Drop> GatheringDoor<R> {
+impl<R: Drop, T: Drop> GatheringDoor<R, T> {
     /// A door that has no address. Each `next` fails.
-    pub fn unusable(rt: R) -> Self
+    pub fn unusable(rt: R, teller: T) -> Self
         ensures { result ≡ record { is_usable = false; taken = 0; faults = 0 } }
     {
         GatheringDoor {
             rt,
+            teller,
             open: None,
             is_usable: false,
             taken: 0,
@@ -96,9 +99,14 @@ impl<R: Drop> GatheringDoor<R> {
     pub fn why(&self) -> Option<DoorFault> {
         self.why
     }
+
+    /// Who hears what is to be known at once.
+    pub fn teller(&self) -> &T {
+        &self.teller
+    }
 }
 
-impl<R: time::Clock> GatheringDoor<R> {
+impl<R: time::Clock, T: Teller> GatheringDoor<R, T> {
     /// The next connection, or `None` where the moment came first.
     fn take_next(&mut self, moment: Option<Moment>) -> Result<Option<GatheredWire>, Failed>
         ensures fresh { IfOk result (λ next. IfSome next (λ wire. IsFreshWire self.old.taken wire)) }
@@ -114,7 +122,7 @@ impl<R: time::Clock> GatheringDoor<R> {
         if self.is_usable
             && let Some(open) = &mut self.open
         {
-            match open.wait_for_one(&self.rt, self.taken, moment) {
+            match open.wait_for_one(&self.rt, &mut self.teller, self.taken, moment) {
                 Ok(next) => {
                     if next.is_some() {
                         self.taken = self.taken.saturating_add(1);
@@ -129,7 +137,7 @@ impl<R: time::Clock> GatheringDoor<R> {
     }
 }
 
-impl<R: time::Clock + Drop> GatheringDoor<R> {
+impl<R: time::Clock + Drop, T: Drop> GatheringDoor<R, T> {
     /// Closes the port, ends without an answer what still gathers or waits for its turn, and sends what is left of answers
     /// within the limits. It may wait until then, and for no longer than the limits say.
     pub fn finish(self) {
@@ -140,7 +148,7 @@ impl<R: time::Clock + Drop> GatheringDoor<R> {
     }
 }
 
-impl<R: time::Clock + Drop> Door for GatheringDoor<R> {
+impl<R: time::Clock + Drop, T: Teller + Drop> Door for GatheringDoor<R, T> {
     type Wire = GatheredWire;
 
     ghost faults = { λ s. s.faults };

@@ -4,6 +4,7 @@
 #![tactic(auto)]
 
 pub use door::GatheringDoor;
+pub use teller::Teller;
 pub use why::DoorFault;
 
 mod answers;
@@ -14,4 +15,5 @@ mod house;
 mod line;
 mod open;
 mod port;
+mod teller;
 mod why;

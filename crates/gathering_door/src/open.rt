@@ -1,10 +1,10 @@
 ghost use Rattle.std.specs.Prelude.{IfSome, IfOk};
 ghost use Rattle.gathering.specs.Wires.{IsFreshWire, HasItsTurn};
 
-use crate::DoorFault;
 use crate::door_time::{DoorTime, system_millis};
 use crate::house::House;
 use crate::port::{PORT, Port};
+use crate::{DoorFault, Teller};
 use gathering::{AcceptFault, DoorLimits, GatheredWire, accept_fault, address_of};
 use mio::{Events, Poll};
 use sb_model::Moment;
@@ -18,6 +18,11 @@ const TAKEN_A_TURN: usize = 1_024;
 
 /// For how long the port rests where there was no room for a connection even after one gave way, in milliseconds.
 const PORT_REST: u64 = 100;
+
+/// What a door tells where the system has no room for a connection, before the system's reason.
+const NO_ROOM: &str =
+    "has no room for a further connection, so one that waits gives way to each that comes; \
+    if too many files are open, raise their limit (ulimit -n, LimitNOFILE=)";
 
 /// How long one wait is at most while some connection has a time, in milliseconds. So all of it counts.
 const LONGEST_WAIT: u64 = 1_000;
@@ -33,6 +38,9 @@ pub(crate) struct OpenDoor {
     // whether a connection may wait at the port, and until when the port rests
     may_accept: bool,
     rests_until: Option<u64>,
+    // why the system had no room for a connection when that came first, and whether it was told
+    no_room: Option<DoorFault>,
+    is_told: bool,
 }
 
 /// Waits for what the system reports, at most so many milliseconds, and notes it. It says whether some of it was at the port.
@@ -126,11 +134,31 @@ impl OpenDoor {
             finish: limits.finish,
             may_accept: true,
             rests_until: None,
+            no_room: None,
+            is_told: false,
         })
     }
 
     pub(crate) fn local_addr(&self) -> Option<SocketAddr> {
         self.port.local_addr()
+    }
+
+    /// Notes that the system has no room for a connection, where that came first.
+    fn note_no_room(&mut self, reason: io::Error) {
+        if self.no_room.is_none() {
+            self.no_room = Some(DoorFault::system(NO_ROOM, reason));
+        }
+    }
+
+    /// Tells once that the system had no room for a connection.
+    fn tell<T: Teller>(&mut self, teller: &mut T) {
+        if self.is_told {
+            return;
+        }
+        if let Some(why) = self.no_room {
+            self.is_told = true;
+            teller.no_room(why);
+        }
     }
 
     /// Takes one connection that waits at the port, or says why there is none.
@@ -144,6 +172,10 @@ impl OpenDoor {
             }
             Err(e) => match accept_fault(number_of(e)) {
                 AcceptFault::OfTheDoor => Err(DoorFault::system("takes no connections", e)),
+                AcceptFault::NoRoom => {
+                    self.note_no_room(e);
+                    Ok(Some(AcceptFault::NoRoom))
+                }
                 other => Ok(Some(other)),
             },
         }
@@ -228,10 +260,12 @@ impl OpenDoor {
         Ok(())
     }
 
-    /// The next connection whose turn it is, as a wire of this number, or `None` where the moment came first.
-    pub(crate) fn wait_for_one(
+    /// The next connection whose turn it is, as a wire of this number, or `None` where the moment came first. The teller hears
+    /// in that turn that the system had no room for a connection, where that came first.
+    pub(crate) fn wait_for_one<T: Teller>(
         &mut self,
         rt: &impl time::Clock,
+        teller: &mut T,
         number: u64,
         moment: Option<Moment>,
     ) -> Result<Option<GatheredWire>, DoorFault>
@@ -241,6 +275,7 @@ impl OpenDoor {
         for _ in 0..u64::MAX {
             let left = left_until(rt, moment)?;
             self.turn(rt, left)?;
+            self.tell(teller);
             self.time.look(rt);
             let (now, passed) = (self.time.now(), self.time.passed());
             if let Some(wire) = self.house.hand_out(number, now, passed) {

@@ -1,16 +1,17 @@
 //! Answers list clients from a journal: one request from its input, or connections at an address.
 #![tactic(auto)]
 
-use gathering::DoorLimits;
-use gathering_door::GatheringDoor;
+use listening::{ServerDoor, door_at, tell_port};
 use real_objects::{JournalFile, StdSink, StdSource, hold_descriptors};
 use sb_model::{OutOfMemory, Text};
-use sb_service::{DoorRoom, ServerTargets, run_server, server_targets};
+use sb_service::{ServerTargets, run_server, server_targets};
 use std::alloc::Global;
 use std::fmt::Display;
 use std::io::ErrorKind;
 use std::process::ExitCode;
 use std::{env, io};
+
+mod listening;
 
 /// The words of the command line, the first of them this program's name.
 fn words_of(rt: &HostRuntime, alloc: Global) -> io::Result<Vec<String>> {
@@ -48,42 +49,13 @@ fn journal_at<'a>(
     }
 }
 
-/// The limits of a door that has this room.
-fn limits_of(room: Option<DoorRoom>) -> DoorLimits {
-    let mut limits = DoorLimits::STANDARD;
-    if let Some(room) = room {
-        limits.connections = room.peers as usize;
-        limits.answer_bytes = u64::from(room.answers) * 1_048_576;
-    }
-    limits
-}
-
-/// The door at the address of the targets. Without one, and where it cannot be had, each call fails.
-fn door_at<'a>(rt: &'a HostRuntime, targets: &ServerTargets) -> GatheringDoor<&'a HostRuntime> {
-    let Some(address) = &targets.listen else {
-        return GatheringDoor::unusable(rt);
-    };
-    GatheringDoor::bind(rt, rt.alloc(), address.as_str(), limits_of(targets.room))
-}
-
-/// Says which port the system chose, where an address leaves it to the system.
-fn tell_port(rt: &HostRuntime, address: &Option<Text>, door: &GatheringDoor<&HostRuntime>) {
-    let address = text_of(address);
-    if let Some((_, port)) = address.rsplit_once(':')
-        && port.parse::<u16>() == Ok(0)
-        && let Some(chosen) = door.local_addr()
-    {
-        let _ = eprintln!(rt; "sblistd: the address {address} is {chosen}");
-    }
-}
-
 /// Runs the command that the words are, with this door.
 fn run_with(
     rt: &HostRuntime,
     alloc: Global,
     words: &[String],
     targets: &ServerTargets,
-    door: &mut GatheringDoor<&HostRuntime>,
+    door: &mut ServerDoor<'_>,
 ) -> Result<u8, OutOfMemory> {
     let mut journal = journal_at(rt, &targets.journal)?;
     let mut input = StdSource::new(rt.stdin());
@@ -105,12 +77,12 @@ fn run_with(
 /// answers is sent before it ends, whatever its status is.
 fn run(rt: &HostRuntime, alloc: Global, words: &[String]) -> Result<u8, OutOfMemory> {
     let targets = server_targets(alloc, words)?;
-    let mut door = door_at(rt, &targets);
+    let mut door = door_at(rt, &targets.listen, targets.room);
     if targets.listen.is_some() && !door.is_usable() {
         tell(rt, "the address ", &targets.listen, door.why());
         return Ok(9);
     }
-    tell_port(rt, &targets.listen, &door);
+    tell_port(rt, text_of(&targets.listen), &door);
     let status = run_with(rt, alloc, words, &targets, &mut door);
     door.finish();
     status
