@@ -18,6 +18,7 @@ pub mod FirstBytes
 pub mod Folds
 pub mod Fronts
 pub mod Further
+pub mod HashLookup
 pub mod Hexes
 pub mod Holding
 pub mod Keeping
@@ -47,6 +48,7 @@ pub mod Splitting
 pub mod TakingOut
 pub mod Unordered
 pub mod Standings
+pub mod Stands
 pub mod StretchLines
 pub mod StretchOrder
 pub mod Starting

@@ -2,7 +2,7 @@
 use Rattle.std.proofs.Common.{◌≡◌, ◌∙◌, ℕ, ◌≤◌, List, [], min, length, map, take, refl, sym, ap, arith, true, false}
 use Rattle.std.specs.List.{list_any}
 use Rattle.std.specs.Prelude.{All}
-use Rattle.std.proofs.lemmas.List.{length-map, length-take, take-map}
+use Rattle.std.proofs.lemmas.List.{length-map, length-take, take-map, take_all}
 use Rattle.std.proofs.lemmas.List.Elements.{All-take, All-weaker}
 use Rattle.sb_model.specs.declared.history.Added.{Added}
 use Rattle.sb_model.specs.declared.history.Change.{Change}
@@ -10,7 +10,7 @@ use Rattle.sb_model.specs.declared.names.ListName.{ListName}
 use Rattle.sb_model.specs.History.{declares, sizes_at}
 use Rattle.sb_model.specs.Names.{same_name}
 use Rattle.list_versions.specs.Draft.{history_of}
-use Rattle.list_versions.specs.Ends.{Line, HasEnds, adds_of, lasting, most_lines}
+use Rattle.list_versions.specs.Ends.{Line, HasEnds, adds_of, lasting, most_lines, standing}
 use Rattle.list_versions.specs.Live.{HasRead}
 use Rattle.list_versions.specs.Loaded.{IsStem}
 use Rattle.list_versions.specs.declared.draft.Draft.{Draft}
@@ -65,3 +65,14 @@ none_there draft list version h none =
     let others : All (λ (c : Change). same_name c.list list ≡ false) draft.changes.items =
     All-weaker (λ (c : Change). declares (history_of draft) c.list ≡ true) (λ (c : Change). same_name c.list list ≡ false) (λ c k. other_name (history_of draft) list c.list _ refl absent k) draft.changes.items h.declared in
     no_changes list (take version draft.changes.items) (All-take (λ (c : Change). same_name c.list list ≡ false) version draft.changes.items others)
+
+-- the newest full hashes, as the ends of the lines tell them
+pub newest_stand : (draft : Draft) (list : ListName) (lines : List Line) → HasEnds list draft.changes.items lines
+    → lasting (length draft.changes.items) true lines ≡ sizes_at (history_of draft) list (length draft.changes.items)
+newest_stand draft list lines h =
+    let changes = draft.changes.items in
+    let n = length changes in
+    let whole : take n changes ≡ changes = take_all n changes (omega arith) in
+    let all : take (length (adds_of list (take n changes))) lines ≡ lines =
+    ap (λ (cs : List Change). take (length (adds_of list cs)) lines) whole ∙ take_all (length (adds_of list changes)) lines (omega (arith, lines_long list changes lines h)) in
+    sym (standing_lasts n lines) ∙ ap (standing n) (sym all) ∙ sym (h.versions n (omega arith))
