@@ -35,6 +35,9 @@ pub mod Numbered
 pub mod Parts
 pub mod Placing
 pub mod PrefixBytes
+pub mod QuadLines
+pub mod QuadOrder
+pub mod QuadRows
 pub mod Ranks
 pub mod Reading
 pub mod ReadBack

@@ -7,7 +7,7 @@ use Rattle.std.proofs.lemmas.List.Elements.{All-take, All-weaker}
 use Rattle.sb_model.specs.declared.history.Added.{Added}
 use Rattle.sb_model.specs.declared.history.Change.{Change}
 use Rattle.sb_model.specs.declared.names.ListName.{ListName}
-use Rattle.sb_model.specs.History.{declares, sizes_at}
+use Rattle.sb_model.specs.History.{declares, prefix_of, sizes_at}
 use Rattle.sb_model.specs.Names.{same_name}
 use Rattle.list_versions.specs.Draft.{history_of}
 use Rattle.list_versions.specs.Ends.{Line, HasEnds, adds_of, lasting, most_lines, standing}
@@ -58,6 +58,17 @@ read_found draft list version count live changes ends entries within h same coun
     found (take n h.lines) (take_adds list draft.changes.items version h.lines h.are ∙ ap (adds_of list) (sym same))
     (take_ends n h.lines live.ends.items h.ends ∙ ap (λ k. take k live.ends.items) (sym counted_as) ∙ sym ends_same)
     ∙ sym (standing_lasts version (take n h.lines)) ∙ sym (h.are.versions version within)
+
+-- the same of what is published of each
+pub read_prefixes : (draft : Draft) (list : ListName) (version count : ℕ) (live : Live) (changes : List Change) (ends : List ℕ) (prefixes : List (List ℕ)) → version ≤ length draft.changes.items
+    → HasRead list draft.changes.items live → changes ≡ take version draft.changes.items → count ≡ length (adds_of list (take version draft.changes.items)) → ends ≡ take count live.ends.items
+    → ((lines : List Line) → map (λ (l : Line). l.0) lines ≡ adds_of list changes → map (λ (l : Line). l.1) lines ≡ ends → prefixes ≡ map prefix_of (lasting version true lines))
+    → prefixes ≡ map prefix_of (sizes_at (history_of draft) list version)
+read_prefixes draft list version count live changes ends prefixes within h same counted_as ends_same found =
+    let n = length (adds_of list (take version draft.changes.items)) in
+    found (take n h.lines) (take_adds list draft.changes.items version h.lines h.are ∙ ap (adds_of list) (sym same))
+    (take_ends n h.lines live.ends.items h.ends ∙ ap (λ k. take k live.ends.items) (sym counted_as) ∙ sym ends_same)
+    ∙ ap (map prefix_of) (sym (standing_lasts version (take n h.lines)) ∙ sym (h.are.versions version within))
 
 pub none_there : (draft : Draft) (list : ListName) (version : ℕ) → IsStem draft → list_any (λ (listed : Listed). same_name listed.name list) draft.lists.items ≡ false → sizes_at (history_of draft) list version ≡ []
 none_there draft list version h none =

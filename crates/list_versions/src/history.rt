@@ -31,6 +31,7 @@ use crate::newest::Newest;
 use crate::older::{fold_on, folding_at};
 use crate::pieces::{FIRST_PIECE, PIECE, buffer_of, read_first};
 use crate::published::published_of;
+use crate::quads::led_by_numbers;
 use crate::refreshing::refresh;
 use crate::renewing::{Before, take_kept};
 use crate::shifting::{is_near, older_set};
@@ -391,7 +392,8 @@ impl History {
     }
 
     /// What leads from the prefixes of a declared list at a version to its newest ones, as
-    /// `PrefixSet::difference` of the two sets. If few lines lie between, neither set is made.
+    /// `PrefixSet::difference` of the two sets. If few lines lie between, neither set is made, and if
+    /// both sets have prefixes of four bytes alone, the older one is told by their numbers.
     pub fn difference(
         &self,
         alloc: Global,
@@ -414,6 +416,9 @@ impl History {
             && let Some(live) = live_of(self.draft.lists.as_slice(), list)
         {
             return leading(alloc, &self.draft, list, live, &newest.set, place);
+        }
+        if let Some(delta) = led_by_numbers(alloc, &self.draft, list, &newest.set, place)? {
+            return Ok(delta);
         }
         let Some(older) = self.prefixes(alloc, list, version)? else {
             unreachable!()

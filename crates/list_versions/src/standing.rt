@@ -11,8 +11,8 @@ use crate::lookup::live_of;
 use sb_model::{Added, Change, ListName, OutOfMemory};
 use std::alloc::Global;
 
-// Whether an end is above a version. It may be that of a line that has none, if these are endless.
-fn is_above(end: u32, version: usize, endless: bool) -> bool
+/// Whether an end is above a version. It may be that of a line that has none, if these are endless.
+pub(crate) fn is_above(end: u32, version: usize, endless: bool) -> bool
     ensures { result ≡ (nat_lt version end && (endless || not (end == never))) }
 {
     end as usize > version && (endless || end != NEVER)
