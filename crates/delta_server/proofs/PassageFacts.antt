@@ -1,12 +1,12 @@
 -- What stretches show, part by part, and what a pass through them notes.
-use Rattle.std.proofs.Common.{◌≡◌, ℕ, Some, None, zero, suc, ◌+◌, ◌-◌, ◌^◌, ◌<◌, ◌≤◌, ◌⊎◌, inl, inr, Bool, true, false, cond, not, List, [], ◌∷◌, ◌++◌, length, take, drop, map, get_or, refl, sym, ap, subst, ◌∙◌, arith, append-nil, append_assoc, length-append}
-use Rattle.std.specs.Prelude.{◌||◌, ◌&&◌, min, slice_get, filter, All, if◌then◌else◌}
+use Rattle.std.proofs.Common.{◌≡◌, ℕ, Some, None, suc, ◌+◌, ◌-◌, ◌^◌, ◌<◌, ◌≤◌, ◌⊎◌, inl, inr, Bool, true, false, cond, not, List, [], ◌∷◌, ◌++◌, length, take, drop, map, get_or, refl, sym, ap, subst, ◌∙◌, arith, append-nil, append_assoc, length-append}
+use Rattle.std.specs.Prelude.{◌||◌, min, slice_get, filter, All, if◌then◌else◌}
 use Rattle.std.specs.declared.cmp.Ordering.{Ordering}
 use Rattle.std.specs.declared.cmp.Ordering.TheVariants.{Less, Equal, Greater}
 use Rattle.std.specs.Ordering.{match_ordering}
 use Rattle.std.specs.Int.{w32, to_be_bytes}
 use Rattle.std.specs.List.{list_any, enumerate_from}
-use Rattle.std.proofs.lemmas.Bool.{false≢true, cases_lt}
+use Rattle.std.proofs.lemmas.Bool.{cases_lt}
 use Rattle.std.proofs.lemmas.Cmp.{tied_itself, nat_list_cmp_total}
 use Rattle.std.proofs.lemmas.List.{map-append, take-append-drop}
 use Rattle.std.proofs.Math.Seq.{drop-cons}
@@ -20,7 +20,7 @@ use Rattle.delta_server.specs.declared.passages.Passage.{Passage}
 use Rattle.list_versions.specs.Stretches.{prefix_in, ComesBefore, AreInOrder}
 use Rattle.delta_server.specs.Passages.{HasPassed, Passes, StandsBetween}
 use Rattle.delta_server.specs.Sweeping.{HaveHeads, has_version, shown_at}
-use Rattle.delta_server.proofs.Membership.{In, in_either, from_map, from_filter, in_left, in_right}
+use Rattle.delta_server.proofs.Membership.{In, in_either, from_map, from_filter, in_right}
 use Rattle.delta_server.proofs.QuadFacts.{quads_rise}
 use Rattle.delta_server.proofs.SetCounts.{same_bytes, has_not}
 use Rattle.delta_server.proofs.ShownFacts.{of_all, all_of}

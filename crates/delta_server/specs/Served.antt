@@ -1,5 +1,5 @@
 -- A declared list of a history, as it stands ready to be answered.
-use Rattle.std.specs.Prelude.{◌≡◌, ℕ, true, List}
+use Rattle.std.specs.Prelude.{◌≡◌, ℕ, true}
 use Rattle.sha2.specs.Sha256.{sha256}
 use Rattle.sb_model.specs.declared.names.ListName.{ListName}
 use Rattle.prefix_set.specs.declared.difference.Delta.{Delta}

@@ -263,15 +263,8 @@ fn partial_answer(
         let token = state_token(history.epoch(), list, held);
         return unchanged_update(alloc, asked, served.digest, token);
     }
-    match newest_delta(
-        alloc,
-        history,
-        swept,
-        list,
-        served.set,
-        held,
-        limits_of(asked),
-    )? {
+    let newest = served.set;
+    match newest_delta(alloc, history, list, newest, held, limits_of(asked))? {
         Some(delta) => newest_answer(alloc, history, served, asked, held, delta),
         None => swept_answer(alloc, history, swept, served, asked, held),
     }

@@ -9,7 +9,6 @@ ghost use Rattle.delta_server.specs.Served.{LeadsToNewest};
 ghost use Rattle.delta_server.specs.Swept.{AreOf};
 ghost use Rattle.delta_server.specs.Walk.{HaveSame, lines_in};
 
-use crate::passages::kept_delta;
 use crate::served::{served_list, set_at};
 use crate::sweeping::versions_taken;
 use crate::swept::Swept;
@@ -20,7 +19,7 @@ use prefix_set::{Delta, PrefixSet, sets_go_by_members};
 use sb_model::{Added, Change, ListName, OutOfMemory, targets_are_the_greatest};
 use std::alloc::Global;
 
-// So many hash lines are few: what they lead to is found at once.
+// So many hash lines are few: what they lead to is looked at first.
 const FEW_LINES: u32 = 65_536;
 
 /// The most prefixes that a client takes, 0 for no limit.
@@ -46,60 +45,6 @@ fn lines_of(list: ListName, changes: &[Change]) -> u64
     lines
 }
 
-// Whether the changes of a list after a version have so few lines that what leads to the newest is
-// found by them.
-fn has_few_lines(history: &History, list: ListName, held: u64) -> bool
-    requires { held ≤ version_count history.now.versions }
-{
-    let after = &history.changes()[held as usize..];
-    lines_of(list, after) <= u64::from(FEW_LINES)
-}
-
-// Has the stretches of a list kept, if its prefixes have four bytes.
-fn keep_stretches(
-    alloc: Global,
-    history: &History,
-    swept: &mut Swept,
-    list: ListName,
-) -> Result<(), OutOfMemory>
-    requires { AreOf history.now.versions swept.old }
-    ensures { OnOk result (AreOf history.now.versions swept.new) }
-{
-    if swept.find(list).is_some() {
-        return Ok(());
-    }
-    if let Some(stretches) = history.stretches(alloc, list)? {
-        swept.keep(list, stretches)?;
-    }
-    Ok(())
-}
-
-// What leads from a version of a declared list to the newest. If many lines lie between, it is told
-// by the stretches of the list, which are kept.
-fn delta_since(
-    alloc: Global,
-    history: &History,
-    swept: &mut Swept,
-    list: ListName,
-    held: u64,
-) -> Result<Delta, OutOfMemory>
-    requires declared { declares history.now.versions list ≡ true }
-    requires within { held ≤ version_count history.now.versions }
-    requires swept { AreOf history.now.versions swept.old }
-    ensures delta { IfOk result (LeadsToNewest history.now.versions list held) }
-    ensures swept { OnOk result (AreOf history.now.versions swept.new) }
-{
-    if !has_few_lines(history, list, held) {
-        keep_stretches(alloc, history, swept, list)?;
-        let found = kept_delta(alloc, history, swept, list, held)?;
-        if let Some(delta) = found {
-            return Ok(delta);
-        }
-    }
-    let delta = history.difference(alloc, list, held)?;
-    Ok(delta)
-}
-
 // Whether what leads from a version to the newest is looked at before the list is swept: if there is
 // no update limit, or the changes of the list after that version have no more lines than the limit,
 // or few.
@@ -120,7 +65,6 @@ fn is_told_by_lines(history: &History, list: ListName, held: u64, max_update: u3
 pub(crate) fn newest_delta(
     alloc: Global,
     history: &History,
-    swept: &mut Swept,
     list: ListName,
     newest: &PrefixSet,
     held: u64,
@@ -128,12 +72,10 @@ pub(crate) fn newest_delta(
 ) -> Result<Option<Delta>, OutOfMemory>
     requires declared { declares history.now.versions list ≡ true }
     requires within { held ≤ version_count history.now.versions }
-    requires swept { AreOf history.now.versions swept.old }
     requires newest { newest.now ≡ prefixes_at history.now.versions list (version_count history.now.versions) }
     ensures delta { IfOk result (λ found. IfSome found (LeadsToNewest history.now.versions list held)) }
     ensures target { IfOk result (λ found. IfSome found (λ delta.
         target_version history.now.versions list (Some held) limits.update limits.database ≡ version_count history.now.versions)) }
-    ensures swept { OnOk result (AreOf history.now.versions swept.new) }
 {
     targets_are_the_greatest();
     if !is_within(limits.database, u64::from(newest.len()))
@@ -141,7 +83,7 @@ pub(crate) fn newest_delta(
     {
         return Ok(None);
     }
-    let delta = delta_since(alloc, history, swept, list, held)?;
+    let delta = history.difference(alloc, list, held)?;
     let count = delta.removals.len() as u64 + delta.additions.len() as u64;
     if is_within(limits.update, count) {
         return Ok(Some(delta));
@@ -319,7 +261,6 @@ pub(crate) fn whole_target(
 fn takes_newest(
     alloc: Global,
     history: &History,
-    swept: &mut Swept,
     list: ListName,
     newest: &PrefixSet,
     from: Option<u64>,
@@ -328,16 +269,12 @@ fn takes_newest(
     requires declared { declares history.now.versions list ≡ true }
     requires within { IfSome from (λ version. version ≤ version_count history.now.versions) }
     requires newest { newest.now ≡ prefixes_at history.now.versions list (version_count history.now.versions) }
-    requires swept { AreOf history.now.versions swept.old }
-    ensures swept { OnOk result (AreOf history.now.versions swept.new) }
     ensures takes { IfOk result (λ takes. takes ≡ true
         → target_version history.now.versions list from limits.update limits.database ≡ version_count history.now.versions) }
 {
     match from {
         None => Ok(takes_whole(newest, limits)),
-        Some(held) => Ok(newest_delta(
-            alloc, history, swept, list, newest, held, limits,
-        )?.is_some()),
+        Some(held) => Ok(newest_delta(alloc, history, list, newest, held, limits)?.is_some()),
     }
 }
 
@@ -364,9 +301,9 @@ pub fn target(
         update: max_update,
         database: max_database,
     };
-    let mut swept = Swept::new(alloc);
-    if takes_newest(alloc, history, &mut swept, list, served.set, from, limits)? {
+    if takes_newest(alloc, history, list, served.set, from, limits)? {
         return Ok(history.len());
     }
+    let mut swept = Swept::new(alloc);
     older_target(alloc, history, &mut swept, list, from, limits)
 }

@@ -1,8 +1,8 @@
 -- What stays where a record is refused.
-use Rattle.std.proofs.Common.{◌≡◌, ◌⊎◌, ℕ, ◌+◌, ◌<◌, ◌≤◌, min, nat_lt, cond, Bool, true, false, inl, inr, List, [], ◌∷◌, ◌++◌, length, take, drop, map, get_or, refl, sym, ap, subst, ◌∙◌, append_assoc, length-append, arith, Ok, Err, None, Result}
-use Rattle.std.specs.Prelude.{All, OnOk, is_err, ⊤}
+use Rattle.std.proofs.Common.{◌≡◌, ◌⊎◌, ℕ, ◌+◌, ◌<◌, ◌≤◌, min, nat_lt, cond, not, ◌||◌, Bool, true, false, inl, inr, List, [], ◌∷◌, ◌++◌, length, take, drop, map, get_or, refl, sym, ap, subst, ◌∙◌, eq-eqb, append_assoc, length-append, arith, Ok, Err, None, Result}
+use Rattle.std.specs.Prelude.{◌==◌, ◌↔◌, All, OnOk, is_err, ⊤}
 use Rattle.std.proofs.Math.ListN.{get_or-map}
-use Rattle.std.proofs.lemmas.Bool.{ltb-true}
+use Rattle.std.proofs.lemmas.Bool.{eqb-true, ltb-true}
 use Rattle.std.proofs.lemmas.Bool.Decides.{nat_tests}
 use Rattle.std.proofs.lemmas.List.{take-append-drop, take_at, take_all, take-take, get_or-take, length-map, length-take, take-map}
 use Rattle.std.proofs.lemmas.List.Elements.{All-nil, All-cons}
@@ -321,3 +321,38 @@ keeps_refreshed old new sized epoch changes declared h = record {
   few_changes = h.few_changes;
   few_lines = omega (arith, h.hashes, h.few_hashes);
 }
+
+-- ---- whether there is more
+
+abbrev pub longer : Draft → Draft → Bool
+longer old new = not (length old.lists.items == length new.lists.items) || not (length old.changes.items == length new.changes.items)
+
+neither : (x y : Bool) → (not x || not y) ≡ false → (x ≡ true) × (y ≡ true)
+neither true true h = (refl, refl)
+neither true false h = absurd (cc)
+neither false y h = absurd (cc)
+
+whole_then : {A : Type 0} (m n : ℕ) (xs ys : List A) → (m == n) ≡ true → length ys ≡ n → take m ys ≡ xs → ys ≡ xs
+whole_then m n xs ys same long front =
+    let is : m ≡ n = eqb-true m n same in
+    sym (take_all m ys (omega (arith, is, long))) ∙ front
+
+not_longer : (old new : Draft) → KeepsFront old new → longer old new ≡ false → history_of new ≡ history_of old
+not_longer old new h none =
+    let same = neither (length old.lists.items == length new.lists.items) (length old.changes.items == length new.changes.items) none in
+    let e = h.epoch in
+    let d = whole_then (length old.lists.items) (length new.lists.items) (declared_of old.lists.items) (declared_of new.lists.items) same.0 (length_declared new.lists.items) h.declared in
+    let c = whole_then (length old.changes.items) (length new.changes.items) old.changes.items new.changes.items same.1 refl h.changes in
+    λ i. record { epoch = e i; declared = d i; changes = c i }
+
+no_more : (m n i j : ℕ) → m ≡ n → i ≡ j → (not (m == n) || not (i == j)) ≡ false
+no_more m n i j h k = rw (eq-eqb m n h, eq-eqb i j k) refl
+
+same_length : (old new : Draft) → history_of new ≡ history_of old → longer old new ≡ false
+same_length old new e =
+    let lists : length old.lists.items ≡ length new.lists.items = sym (length_declared old.lists.items) ∙ ap (λ (v : History). length v.declared) (sym e) ∙ length_declared new.lists.items in
+    no_more (length old.lists.items) (length new.lists.items) (length old.changes.items) (length new.changes.items) lists (ap (λ (v : History). length v.changes) (sym e))
+
+-- A history that grew is another one exactly where there are more lists or changes.
+pub grows_if_longer : (old new : Draft) (more : Bool) → KeepsFront old new → more ≡ longer old new → (more ≡ false) ↔ (history_of new ≡ history_of old)
+grows_if_longer old new more h is = (λ none. not_longer old new h (sym is ∙ none), λ e. is ∙ same_length old new e)

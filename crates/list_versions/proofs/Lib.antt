@@ -18,6 +18,7 @@ pub mod FirstBytes
 pub mod Folds
 pub mod Fronts
 pub mod Further
+pub mod HashLookup
 pub mod Hexes
 pub mod Holding
 pub mod Keeping
@@ -34,6 +35,9 @@ pub mod Numbered
 pub mod Parts
 pub mod Placing
 pub mod PrefixBytes
+pub mod QuadLines
+pub mod QuadOrder
+pub mod QuadRows
 pub mod Ranks
 pub mod Reading
 pub mod ReadBack
@@ -47,6 +51,7 @@ pub mod Splitting
 pub mod TakingOut
 pub mod Unordered
 pub mod Standings
+pub mod Stands
 pub mod StretchLines
 pub mod StretchOrder
 pub mod Starting

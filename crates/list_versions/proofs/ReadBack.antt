@@ -2,15 +2,15 @@
 use Rattle.std.proofs.Common.{◌≡◌, ◌∙◌, ℕ, ◌≤◌, List, [], min, length, map, take, refl, sym, ap, arith, true, false}
 use Rattle.std.specs.List.{list_any}
 use Rattle.std.specs.Prelude.{All}
-use Rattle.std.proofs.lemmas.List.{length-map, length-take, take-map}
+use Rattle.std.proofs.lemmas.List.{length-map, length-take, take-map, take_all}
 use Rattle.std.proofs.lemmas.List.Elements.{All-take, All-weaker}
 use Rattle.sb_model.specs.declared.history.Added.{Added}
 use Rattle.sb_model.specs.declared.history.Change.{Change}
 use Rattle.sb_model.specs.declared.names.ListName.{ListName}
-use Rattle.sb_model.specs.History.{declares, sizes_at}
+use Rattle.sb_model.specs.History.{declares, prefix_of, sizes_at}
 use Rattle.sb_model.specs.Names.{same_name}
 use Rattle.list_versions.specs.Draft.{history_of}
-use Rattle.list_versions.specs.Ends.{Line, HasEnds, adds_of, lasting, most_lines}
+use Rattle.list_versions.specs.Ends.{Line, HasEnds, adds_of, lasting, most_lines, standing}
 use Rattle.list_versions.specs.Live.{HasRead}
 use Rattle.list_versions.specs.Loaded.{IsStem}
 use Rattle.list_versions.specs.declared.draft.Draft.{Draft}
@@ -59,9 +59,31 @@ read_found draft list version count live changes ends entries within h same coun
     (take_ends n h.lines live.ends.items h.ends ∙ ap (λ k. take k live.ends.items) (sym counted_as) ∙ sym ends_same)
     ∙ sym (standing_lasts version (take n h.lines)) ∙ sym (h.are.versions version within)
 
+-- the same of what is published of each
+pub read_prefixes : (draft : Draft) (list : ListName) (version count : ℕ) (live : Live) (changes : List Change) (ends : List ℕ) (prefixes : List (List ℕ)) → version ≤ length draft.changes.items
+    → HasRead list draft.changes.items live → changes ≡ take version draft.changes.items → count ≡ length (adds_of list (take version draft.changes.items)) → ends ≡ take count live.ends.items
+    → ((lines : List Line) → map (λ (l : Line). l.0) lines ≡ adds_of list changes → map (λ (l : Line). l.1) lines ≡ ends → prefixes ≡ map prefix_of (lasting version true lines))
+    → prefixes ≡ map prefix_of (sizes_at (history_of draft) list version)
+read_prefixes draft list version count live changes ends prefixes within h same counted_as ends_same found =
+    let n = length (adds_of list (take version draft.changes.items)) in
+    found (take n h.lines) (take_adds list draft.changes.items version h.lines h.are ∙ ap (adds_of list) (sym same))
+    (take_ends n h.lines live.ends.items h.ends ∙ ap (λ k. take k live.ends.items) (sym counted_as) ∙ sym ends_same)
+    ∙ ap (map prefix_of) (sym (standing_lasts version (take n h.lines)) ∙ sym (h.are.versions version within))
+
 pub none_there : (draft : Draft) (list : ListName) (version : ℕ) → IsStem draft → list_any (λ (listed : Listed). same_name listed.name list) draft.lists.items ≡ false → sizes_at (history_of draft) list version ≡ []
 none_there draft list version h none =
     let absent : declares (history_of draft) list ≡ false = sym (any_declared list draft.lists.items) ∙ none in
     let others : All (λ (c : Change). same_name c.list list ≡ false) draft.changes.items =
     All-weaker (λ (c : Change). declares (history_of draft) c.list ≡ true) (λ (c : Change). same_name c.list list ≡ false) (λ c k. other_name (history_of draft) list c.list _ refl absent k) draft.changes.items h.declared in
     no_changes list (take version draft.changes.items) (All-take (λ (c : Change). same_name c.list list ≡ false) version draft.changes.items others)
+
+-- the newest full hashes, as the ends of the lines tell them
+pub newest_stand : (draft : Draft) (list : ListName) (lines : List Line) → HasEnds list draft.changes.items lines
+    → lasting (length draft.changes.items) true lines ≡ sizes_at (history_of draft) list (length draft.changes.items)
+newest_stand draft list lines h =
+    let changes = draft.changes.items in
+    let n = length changes in
+    let whole : take n changes ≡ changes = take_all n changes (omega arith) in
+    let all : take (length (adds_of list (take n changes))) lines ≡ lines =
+    ap (λ (cs : List Change). take (length (adds_of list cs)) lines) whole ∙ take_all (length (adds_of list changes)) lines (omega (arith, lines_long list changes lines h)) in
+    sym (standing_lasts n lines) ∙ ap (standing n) (sym all) ∙ sym (h.versions n (omega arith))

@@ -62,7 +62,7 @@ lines_whole v endless lines adds front i a past = ap (λ (ls : List Line). front
 
 -- ---- one change after the other
 
-lasting-append : (v : ℕ) (endless : Bool) (xs ys : List Line) → lasting v endless (xs ++ ys) ≡ lasting v endless xs ++ lasting v endless ys
+pub lasting-append : (v : ℕ) (endless : Bool) (xs ys : List Line) → lasting v endless (xs ++ ys) ≡ lasting v endless xs ++ lasting v endless ys
 lasting-append v endless xs ys =
     ap (map (λ (l : Line). l.0)) (filter-append (lasts v endless) xs ys) ∙ map-append {B = Added} (λ (l : Line). l.0) (filter (lasts v endless) xs) (filter (lasts v endless) ys)
 

@@ -1,8 +1,8 @@
 -- The ends of the lines of a list that add. A line's end is the version at which another line, of the same list and full
 -- hash, takes the hash out or puts it in anew. So the full hashes at a version are those of the lines up to it whose end is
 -- above it.
-use Rattle.std.specs.Prelude.{◌≡◌, ◌⊎◌, ℕ, ◌≤◌, ◌==◌, ◌+◌, ◌&&◌, ◌||◌, not, Bool, nat_lt, if◌then◌else◌, List, [], ◌∷◌, ◌++◌, length, take, map, filter, fold, slice_set, All}
-use Rattle.std.specs.List.{flat_map}
+use Rattle.std.specs.Prelude.{◌≡◌, ◌⊎◌, ℕ, ◌≤◌, ◌==◌, ◌+◌, ◌&&◌, ◌||◌, not, Bool, true, nat_lt, if◌then◌else◌, List, [], ◌∷◌, ◌++◌, length, take, map, filter, fold, slice_set, All}
+use Rattle.std.specs.List.{flat_map, list_any}
 use Rattle.std.specs.Str.{bytes_eq}
 use Rattle.sb_model.specs.declared.history.Added.{Added}
 use Rattle.sb_model.specs.declared.history.Change.{Change}
@@ -33,6 +33,10 @@ lasts version endless line = nat_lt version line.1 && (endless || not (line.1 ==
 
 abbrev pub lasting : ℕ → Bool → List Line → List Added
 lasting version endless lines = map (λ line. line.0) (filter (lasts version endless) lines)
+
+-- whether one of the lines whose end is above a version is of a full hash
+abbrev pub has_standing : ℕ → List ℕ → List Line → Bool
+has_standing version hash lines = list_any (bytes_eq hash) (map (λ added. added.hash) (lasting version true lines))
 
 -- what the changes of a list add, one line after the other
 abbrev pub adds_if : Bool → List Added → List Added

@@ -14,6 +14,7 @@ pub mod Lookup
 pub mod Numbers
 pub mod Pieces
 pub mod Printed
+pub mod Quads
 pub mod Renewing
 pub mod Shifting
 pub mod Showing

@@ -75,6 +75,13 @@ pub(crate) fn published(entry: &Added) -> &[u8]
     &entry.hash[..size]
 }
 
+/// Whether one of these lines is of a full hash.
+pub(crate) fn is_among(entries: &[Standing], hash: &[u8; 32]) -> bool
+    ensures { result ≡ list_any (λ line. bytes_eq hash.now line.added.hash) entries.now }
+{
+    entries.iter().any(|line| *hash == line.added.hash)
+}
+
 // Whether one of these full hashes publishes the same bytes.
 fn is_published(entries: &[Standing], prefix: &[u8]) -> bool
     ensures { result ≡ list_any (λ line. bytes_eq (prefix_of line.added) prefix.now) entries.now }

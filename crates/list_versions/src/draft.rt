@@ -1,4 +1,4 @@
-ghost use Rattle.std.specs.Prelude.{◌≡◌, ◌⊎◌, ℕ, ◌+◌, ◌*◌, ◌^◌, ◌<◌, ◌≤◌, List, true, [], ◌∷◌, ◌++◌, length, take, All, Option, Some, None, Ok, Err, MatchOption, IfSome, IfNone, IfOk, OnOk, IfErr};
+ghost use Rattle.std.specs.Prelude.{◌≡◌, ◌⊎◌, ◌==◌, ◌||◌, not, ℕ, ◌+◌, ◌*◌, ◌^◌, ◌<◌, ◌≤◌, List, true, [], ◌∷◌, ◌++◌, length, take, All, Option, Some, None, Ok, Err, MatchOption, IfSome, IfNone, IfOk, OnOk, IfErr};
 ghost use Rattle.sb_model.specs.Names.{same_name};
 ghost use Rattle.sb_model.specs.History.{IsPrefixSize, declares};
 ghost use Rattle.sb_model.specs.declared.history.Added.{Added as Entry};
@@ -14,6 +14,7 @@ use crate::known::KnownName;
 use crate::lines::{read_add, read_head_among, read_remove};
 use crate::lists::{apply_each, is_declared, limit_of, restore_each, size_of};
 use crate::live::Live;
+use crate::renewing::Before;
 use crate::split::next_line;
 use sb_model::{Added, Change, ListName, Row};
 use std::alloc::Global;
@@ -425,6 +426,13 @@ impl Draft {
                 Err(fault) => return Err(fault),
             }
         }
+    }
+
+    /// Whether there are other lists or changes than before, by how many there are.
+    pub fn is_longer(&self, before: Before) -> bool
+        ensures { result ≡ (not (before.lists == length self.now.lists.items) || not (before.changes == length self.now.changes.items)) }
+    {
+        before.lists != self.lists.len() || before.changes != self.changes.len()
     }
 
     /// Keeps the first lists and changes, and no end above the last of these. The changes have so

@@ -1,5 +1,5 @@
-ghost use Rattle.std.specs.Prelude.{◌≡◌, ◌==◌, ◌≢◌, ◌⊎◌, ℕ, ◌+◌, ◌^◌, ◌≤◌, ◌<◌, Bool, true, false, List, [], ◌++◌, length, take, map, filter, find, option_copied, All, Option, Some, None, Result, Ok, Err, IsErrOf, IsTrue, IfOk, OnOk, OnErr, IfErr, IfSome, IfNone};
-ghost use Rattle.std.specs.List.{list_all};
+ghost use Rattle.std.specs.Prelude.{◌≡◌, ◌==◌, ◌≢◌, ◌⊎◌, ◌↔◌, ℕ, ◌+◌, ◌^◌, ◌≤◌, ◌<◌, Bool, true, false, List, [], ◌++◌, length, take, map, filter, find, option_copied, All, Option, Some, None, Result, Ok, Err, IsErrOf, IsTrue, IfOk, OnOk, OnErr, IfErr, IfSome, IfNone};
+ghost use Rattle.std.specs.List.{list_all, list_any};
 ghost use Rattle.std.specs.Str.{bytes_eq};
 ghost use Rattle.sha2.specs.Sha256.{sha256};
 ghost use Rattle.sb_outside.specs.Outside.{Rose};
@@ -31,10 +31,11 @@ use crate::newest::Newest;
 use crate::older::{fold_on, folding_at};
 use crate::pieces::{FIRST_PIECE, PIECE, buffer_of, read_first};
 use crate::published::published_of;
+use crate::quads::led_by_numbers;
 use crate::refreshing::refresh;
 use crate::renewing::{Before, take_kept};
 use crate::shifting::{is_near, older_set};
-use crate::standing::entries_at;
+use crate::standing::{entries_at, stands};
 use crate::stretch::Stretch;
 use crate::stretches::stretches_of;
 use hash_prefixes::{FullHash, Prefix};
@@ -144,8 +145,8 @@ impl History {
         }
     }
 
-    /// As `grow`, and answers whether the source had anything to give. Where it had nothing, the
-    /// history is what it was.
+    /// As `grow`, and answers whether the journal told something new: a change or a declared list. A
+    /// record that has only begun is none.
     ///
     /// # Errors
     ///
@@ -157,7 +158,7 @@ impl History {
     ) -> Result<bool, JournalFault>
         ensures ok { OnOk result ((bytes : List ℕ) × Gives bytes true (S.left source.old) (S.left source.new)
             × (read_on self.old bytes ≡ Ok self.new)) }
-        ensures nothing { IfOk result (λ more. more ≡ false → self.new ≡ self.old) }
+        ensures versions { IfOk result (λ more. (more ≡ false) ↔ (self.new.versions ≡ self.old.versions)) }
         ensures fault { IfErr result (λ fault. (bytes : List ℕ) × (ended : Bool)
             × Gives bytes ended (S.left source.old) (S.left source.new) × FurtherFault self.old bytes fault) }
         ensures same { OnErr result (self.new ≡ self.old) }
@@ -184,23 +185,22 @@ impl History {
         let Ok(mut buffer) = buffer_of(alloc, PIECE) else {
             return Err(JournalFault::OutOfMemory);
         };
-        match self.take_in(alloc, source, buffer.as_mut_slice(), text) {
-            Ok(()) => Ok(true),
-            Err(fault) => Err(fault),
-        }
+        self.take_in(alloc, source, buffer.as_mut_slice(), text)
     }
 
-    // Reads a text, in which the rest is the front, and what the source gives after it.
+    // Reads a text, in which the rest is the front, and what the source gives after it. Answers whether
+    // there are more changes or declared lists then.
     fn take_in<S: Source>(
         &mut self,
         alloc: Global,
         source: &mut S,
         buffer: &mut [u8],
         text: Bytes,
-    ) -> Result<(), JournalFault>
+    ) -> Result<bool, JournalFault>
         requires { 0 < length buffer.old }
         ensures ok { OnOk result (ReadsAll (λ bytes. after_bytes (at_record self.old) (text ++ bytes)) self.new
             (S.left source.old) (S.left source.new)) }
+        ensures versions { IfOk result (λ more. (more ≡ false) ↔ (self.new.versions ≡ self.old.versions)) }
         ensures fault { IfErr result (λ fault. StopsAt (λ bytes. after_bytes (at_record self.old) (text ++ bytes)) fault
             (S.left source.old) (S.left source.new)) }
         ensures same { OnErr result (self.new ≡ self.old) }
@@ -234,7 +234,7 @@ impl History {
                 self.newest = newest;
                 self.rest = rest;
                 self.stale = false;
-                Ok(())
+                Ok(self.draft.is_longer(before))
             }
             Err(fault) => {
                 self.draft.cut(lists, changes, hashes);
@@ -267,6 +267,13 @@ impl History {
         ensures { result ≡ self.now.versions.epoch }
     {
         self.draft.epoch
+    }
+
+    /// Whether lines that add may name a size: the form of the journal.
+    pub fn is_sized(&self) -> bool
+        ensures { result ≡ self.now.sized }
+    {
+        self.draft.sized
     }
 
     /// How many changes there are, over all lists: the newest version.
@@ -385,7 +392,8 @@ impl History {
     }
 
     /// What leads from the prefixes of a declared list at a version to its newest ones, as
-    /// `PrefixSet::difference` of the two sets. If few lines lie between, neither set is made.
+    /// `PrefixSet::difference` of the two sets. If few lines lie between, neither set is made, and if
+    /// both sets have prefixes of four bytes alone, the older one is told by their numbers.
     pub fn difference(
         &self,
         alloc: Global,
@@ -409,6 +417,9 @@ impl History {
         {
             return leading(alloc, &self.draft, list, live, &newest.set, place);
         }
+        if let Some(delta) = led_by_numbers(alloc, &self.draft, list, &newest.set, place)? {
+            return Ok(delta);
+        }
         let Some(older) = self.prefixes(alloc, list, version)? else {
             unreachable!()
         };
@@ -428,6 +439,24 @@ impl History {
     {
         let found = stretches_of(alloc, &self.draft, list)?;
         Ok(found)
+    }
+
+    /// Whether the newest full hashes of a list have this one. A list that is not declared has none. It takes no
+    /// memory, and looks at the few full hashes that begin with the same four bytes. Once memory was refused while
+    /// the history grew, it looks at all lines, until the history has grown again.
+    pub fn holds(&self, list: ListName, hash: &FullHash) -> bool
+        ensures { result ≡ list_any (bytes_eq hash.now.bytes)
+            (full_hashes_at self.now.versions list (version_count self.now.versions)) }
+    {
+        let Some(live) = live_of(self.draft.lists.as_slice(), list) else {
+            return false;
+        };
+        if self.stale {
+            let changes = self.draft.changes.as_slice();
+            let ends = live.ends.as_slice();
+            return stands(changes, list, ends, changes.len(), &hash.bytes);
+        }
+        live.has(&hash.bytes)
     }
 
     /// The full hashes of a declared list at a version that begin with a prefix, rising.

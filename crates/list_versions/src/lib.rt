@@ -39,6 +39,7 @@ mod pieces;
 mod places;
 mod printing;
 mod published;
+mod quads;
 mod refreshing;
 mod renewing;
 mod renumbering;

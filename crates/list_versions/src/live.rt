@@ -1,5 +1,6 @@
-ghost use Rattle.std.specs.Prelude.{◌≡◌, ℕ, ◌+◌, ◌^◌, ◌<◌, ◌≤◌, nat_lt, List, [], length, take, filter, fold, All, OnOk};
+ghost use Rattle.std.specs.Prelude.{◌≡◌, ℕ, ◌+◌, ◌^◌, ◌<◌, ◌≤◌, nat_lt, List, [], length, take, map, filter, fold, All, OnOk};
 ghost use Rattle.std.specs.List.{list_any};
+ghost use Rattle.std.specs.Str.{bytes_eq};
 ghost use Rattle.sb_model.specs.History.{with_added, without_hash};
 ghost use Rattle.sb_model.specs.declared.history.Added.{Added as Entry};
 ghost use Rattle.list_versions.specs.Buckets.{without, with_line};
@@ -8,7 +9,7 @@ ghost use Rattle.list_versions.specs.Limits.{limit_fault, most_alike, IsUncrowde
 ghost use Rattle.list_versions.specs.Live.{lines_in, Replaces, Holds, IsPlaced, KeepsEnds};
 
 use crate::JournalFault;
-use crate::bucket::{Standing, Tally};
+use crate::bucket::{Standing, Tally, is_among};
 use crate::buckets::{Buckets, HashHead, lines_at, put_at, remove_at};
 use crate::ends::{NEVER, end_each, restore};
 use sb_model::{Added, OutOfMemory};
@@ -195,6 +196,13 @@ impl Live {
         ensures { self.new.ends.items ≡ restored version count self.old.ends.items }
     {
         restore(&mut self.ends, count, version);
+    }
+
+    /// Whether a full hash is kept.
+    pub fn has(&self, hash: &[u8; 32]) -> bool
+        ensures { (entries : List Entry) → Holds self.now entries → result ≡ list_any (bytes_eq hash.now) (map (λ entry. entry.hash) entries) }
+    {
+        is_among(lines_at(&self.buckets, &head_of(hash)), hash)
     }
 
     // Whether more than 16 full hashes begin as one does.

@@ -7,8 +7,8 @@ use prefix_set::PrefixSet;
 use sb_model::OutOfMemory;
 use std::alloc::Global;
 
-// Prefixes of four bytes that stand one after the other.
-fn quads_of(bytes: &[u8]) -> &[[u8; 4]]
+/// Prefixes of four bytes that stand one after the other.
+pub(crate) fn quads_of(bytes: &[u8]) -> &[[u8; 4]]
     ensures { (set : List (List ℕ)) → bytes.now ≡ concatenation (quads_in set) → result.now ≡ quads_in set }
 {
     bytes.as_chunks::<4>().0

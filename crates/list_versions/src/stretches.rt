@@ -40,8 +40,8 @@ fn all_have_four_bytes(changes: &[Change], list: ListName) -> bool
         .all(|change| publishes_four_bytes(change, list))
 }
 
-// The first four bytes of a hash as a big-endian number.
-fn head_of(hash: &[u8; 32]) -> u32
+/// The first four bytes of a hash as a big-endian number.
+pub(crate) fn head_of(hash: &[u8; 32]) -> u32
     ensures { to_be_bytes w32 result ≡ take 4 hash.now }
 {
     u32::from_be_bytes([hash[0], hash[1], hash[2], hash[3]])

@@ -19,7 +19,6 @@ use Rattle.http_serving.specs.Written.{IsRightAnswer, IsTextOfRight}
 use Rattle.http_serving.specs.declared.responses.Answer.{Answer}
 use Rattle.http_serving.specs.declared.responses.Answer.TheVariants as answer
 use Rattle.http_serving.specs.declared.responses.Response.{Response}
-use Rattle.list_versions.specs.Journal.{Kept}
 use Rattle.list_versions.specs.Limits.{WithinLimits}
 use Rattle.update_messages.specs.Messages.{Request}
 use Rattle.update_messages.specs.Reading.{ReadsRequest, IsTextOf}
@@ -278,7 +277,7 @@ module _ (history : History) (times : Settings) where
 
 -- ---- a history that may have grown
 
-pub kept_or_forgotten : (old new : Kept) (times : Settings) (kept : KeptLists) (grown : Bool) → (grown ≡ false → new ≡ old) → AreKeptOf old.versions times kept
-    → AreKeptOf new.versions times (if grown then nothing_kept else kept)
-kept_or_forgotten old new times kept true same are = none_kept new.versions times nothing_kept refl
-kept_or_forgotten old new times kept false same are = subst (λ (k : Kept). AreKeptOf k.versions times kept) (sym (same refl)) are
+pub kept_or_forgotten : (old new : History) (times : Settings) (kept : KeptLists) (grown : Bool) → (grown ≡ false → new ≡ old) → AreKeptOf old times kept
+    → AreKeptOf new times (if grown then nothing_kept else kept)
+kept_or_forgotten old new times kept true same are = none_kept new times nothing_kept refl
+kept_or_forgotten old new times kept false same are = subst (λ (versions : History). AreKeptOf versions times kept) (sym (same refl)) are

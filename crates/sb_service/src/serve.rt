@@ -82,8 +82,9 @@ fn refuse<O: Sink>(alloc: Global, fault: JournalFault, out: &mut O) -> Stop
     }
 }
 
-/// Lets the history grow from the journal, and serves a connection that the door gave. If the journal gave any byte, nothing
-/// is kept any more: a list that it declares now was left out of what was kept. Answers `Done`, or what ends the run.
+/// Lets the history grow from the journal, and serves a connection that the door gave. If the journal told a change or
+/// declared a list, nothing is kept any more: a list that it declares now was left out of what was kept. A record that has
+/// only begun changes no answer. Answers `Done`, or what ends the run.
 fn take_turn<J: Source, O: Sink, D: Door>(
     alloc: Global,
     history: &mut History,

@@ -1,4 +1,4 @@
-use Rattle.std.proofs.Common.{◌≡◌, ◌<◌, ℕ, List, ◌++◌, length}
+use Rattle.std.proofs.Common.{◌≡◌, ◌<◌, List, ◌++◌, length}
 use Rattle.list_versions.specs.declared.stretch.Stretch.{Stretch}
 use Rattle.delta_server.specs.Passages.{HasPassed}
 use Rattle.delta_server.specs.Sweeping.{shown_at}

@@ -1,4 +1,4 @@
-use Rattle.std.proofs.Common.{◌≡◌, ℕ}
+use Rattle.std.proofs.Common.{◌≡◌}
 use Rattle.std.proofs.lemmas.List.Elements.{All-more}
 use Rattle.list_versions.specs.declared.stretch.Stretch.{Stretch}
 use Rattle.delta_server.proofs.PassageFacts.{later_from}

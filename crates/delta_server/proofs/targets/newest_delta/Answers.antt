@@ -15,7 +15,7 @@ returns-then-is_within-clause-target c =
     let old : List (List ℕ) = prefixes_at versions list c.args.held in
     let newer : List (List ℕ) = prefixes_at versions list (version_count versions) in
     let count : c.len-2.result + c.len-3.result ≡ difference_count old newer =
-    omega (arith, c.len-2.ensures, c.len-3.ensures, ap length c.in_ok-delta.ensures.delta.removals, ap length c.in_ok-delta.ensures.delta.additions) in
+    omega (arith, c.len-2.ensures, c.len-3.ensures, ap length c.in_ok-delta.ensures.removals, ap length c.in_ok-delta.ensures.additions) in
     let few : is_within database (length newer) ≡ true =
     ap (λ (s : List (List ℕ)). is_within database (length s)) (sym c.requires.newest)
     ∙ ap (is_within database) (sym (c.from.ensures ∙ c.len.ensures.value)) ∙ sym c.is_within.ensures ∙ c.if-not-is_within.false in

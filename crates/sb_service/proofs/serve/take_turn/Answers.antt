@@ -37,4 +37,4 @@ serve_taken-requires g c =
     let old = c.args.history.now in
     let new = c.grow_if_more.new.self in
     subst (AreKeptOf new.versions c.args.settings.now) (sym c.forget_if.ensures)
-    (kept_or_forgotten old new c.args.settings.now c.args.kept.now c.in-Ok.grown c.in-Ok.ensures.nothing c.requires)
+    (kept_or_forgotten old.versions new.versions c.args.settings.now c.args.kept.now c.in-Ok.grown c.in-Ok.ensures.versions.0 c.requires)

@@ -1,4 +1,5 @@
-use Rattle.std.proofs.Common.{◌≡◌, ◌<◌, ◌∙◌, ◌++◌, length, List, ℕ, Bool, [], false, ap, arith, Err, Ok, subst, Option}
+use Rattle.std.proofs.Common.{◌≡◌, ◌<◌, ◌∙◌, ◌++◌, length, List, ℕ, Bool, [], false, refl, ap, arith, Err, Ok, subst, Option}
+use Rattle.std.proofs.lemmas.Result.{IfErr-weaker, on_ok_weaker}
 use Rattle.sb_outside.specs.Reading.{ReadsToEnd, GrowsBy}
 use Rattle.list_versions.specs.declared.fault.JournalFault.{JournalFault}
 use Rattle.list_versions.specs.Journal.{Kept, read_on, after_bytes, at_record}
@@ -30,18 +31,21 @@ pub returns-in-Err-Failed-clause-fault : goal.returns-in-Err-Failed-clause-fault
 returns-in-Err-Failed-clause-fault g c =
     ([], false, gives_unmoved _ _ (c.in-Err-Failed.ensures.failed_left (ap (λ e. Err e) c.in-Err-Failed.field-0-is)), (c.args.self.now, still c.self.inside c.args.self.now c.self.view_is c.self.invariant))
 
-pub returns-in-Ok-take_in-clause-ok : goal.returns-in-Ok-take_in-clause-ok
-returns-in-Ok-take_in-clause-ok g c =
+pub returns-in-Ok-eq0-clause-versions : goal.returns-in-Ok-eq0-clause-versions
+returns-in-Ok-eq0-clause-versions g c = (λ none. refl, λ same. refl)
+
+pub returns-clause-ok : goal.returns-clause-ok
+returns-clause-ok g c =
     let some : 0 < c.in-Ok-read_piece.field-0 = omega (arith, c.in-Ok-read_piece.field-0-test) in
     let grows = subst (λ bs. GrowsBy c.in-Ok-read_piece.field-0 bs c.read_piece.new.text (g.S.Source.left c.args.source.now) (g.S.Source.left c.read_piece.new.source)) c.new-piece.ensures (c.in-Ok-read_piece.ensures.bytes some) in
     let text = c.in-Ok-joined.ensures ∙ ap (λ (k : Kept). k.rest ++ c.read_piece.new.text) c.self.view_is in
-    all_in (read_on c.args.self.now) (λ bytes. after_bytes (at_record c.args.self.now) (c.in-Ok-joined.text ++ bytes)) c.take_in.new.self _ _ _
-    (leads_piece c.args.self.now c.read_piece.new.text c.in-Ok-joined.text c.in-Ok-read_piece.field-0 _ _ grows text) c.in-Ok-take_in.ensures.ok
+    on_ok_weaker c.take_in.result (all_in (read_on c.args.self.now) (λ bytes. after_bytes (at_record c.args.self.now) (c.in-Ok-joined.text ++ bytes)) c.take_in.new.self _ _ _
+    (leads_piece c.args.self.now c.read_piece.new.text c.in-Ok-joined.text c.in-Ok-read_piece.field-0 _ _ grows text)) c.take_in.ensures.ok
 
 pub returns-clause-fault : goal.returns-clause-fault
 returns-clause-fault g c =
     let some : 0 < c.in-Ok-read_piece.field-0 = omega (arith, c.in-Ok-read_piece.field-0-test) in
     let grows = subst (λ bs. GrowsBy c.in-Ok-read_piece.field-0 bs c.read_piece.new.text (g.S.Source.left c.args.source.now) (g.S.Source.left c.read_piece.new.source)) c.new-piece.ensures (c.in-Ok-read_piece.ensures.bytes some) in
     let text = c.in-Ok-joined.ensures ∙ ap (λ (k : Kept). k.rest ++ c.read_piece.new.text) c.self.view_is in
-    stop_in c.args.self.now (λ bytes. after_bytes (at_record c.args.self.now) (c.in-Ok-joined.text ++ bytes)) c.in-Err.fault _ _ _
-    (leads_piece c.args.self.now c.read_piece.new.text c.in-Ok-joined.text c.in-Ok-read_piece.field-0 _ _ grows text) c.in-Err.ensures.fault
+    IfErr-weaker c.take_in.result _ _ (λ fault. stop_in c.args.self.now (λ bytes. after_bytes (at_record c.args.self.now) (c.in-Ok-joined.text ++ bytes)) fault _ _ _
+    (leads_piece c.args.self.now c.read_piece.new.text c.in-Ok-joined.text c.in-Ok-read_piece.field-0 _ _ grows text)) c.take_in.ensures.fault

@@ -1,10 +1,11 @@
-use Rattle.std.proofs.Common.{◌≡◌, ◌∙◌, [], ap, inr, subst, List, length, arith}
+use Rattle.std.proofs.Common.{◌≡◌, ◌∙◌, ◌||◌, not, false, [], ap, inr, subst, List, length, arith}
+use Rattle.std.specs.Prelude.{◌==◌, ◌↔◌}
 use Rattle.sb_model.specs.declared.history.Change.{Change}
-use Rattle.list_versions.specs.Draft.{IsDraft}
+use Rattle.list_versions.specs.Draft.{history_of, IsDraft}
 use Rattle.list_versions.specs.Journal.{Kept}
 use Rattle.list_versions.specs.declared.renewing.Before.{Before}
 use Rattle.list_versions.proofs.Folds.{draft_stem}
-use Rattle.list_versions.proofs.Keeping.{cut_back, fresh_or_stale, loaded_cut, same_kept}
+use Rattle.list_versions.proofs.Keeping.{cut_back, fresh_or_stale, grows_if_longer, loaded_cut, longer, same_kept}
 use Rattle.list_versions.proofs.Renewed.{IsTaken, first_of, newest_longer, are_newest}
 use Rattle.list_versions.proofs.history.History.take_in.Goals as goal
 
@@ -53,3 +54,14 @@ returns-in-Err-clause-same g c =
     (omega (arith, c.len-lists.ensures, c.self.inside.draft.lists.ok)) (omega (arith, c.len-changes.ensures, c.self.inside.draft.changes.ok)) c.cut.ensures.epoch c.cut.ensures.lists c.cut.ensures.changes c.cut.ensures.hashes in
     c.refresh.ensures.same c.self.inside.rest
     ∙ same_kept c.self.inside.draft c.cut.new.self (c.cut.ensures.sized ∙ c.read_more.ensures.front.sized) cut.history c.self.inside.rest ∙ c.self.view_is
+
+pub returns-in-Ok-clause-versions : goal.returns-in-Ok-clause-versions
+returns-in-Ok-clause-versions g c =
+    let old = c.self.inside.draft in
+    let new = c.read_more.new.draft in
+    let lists_are : c.len-lists.result ≡ length old.lists.items = omega (arith, c.len-lists.ensures, old.lists.ok) in
+    let changes_are : c.len-changes.result ≡ length old.changes.items = omega (arith, c.len-changes.ensures, old.changes.ok) in
+    let is : c.is_longer.result ≡ longer old new =
+    c.is_longer.ensures ∙ (λ i. not (lists_are i == length new.lists.items) || not (changes_are i == length new.changes.items)) in
+    subst (λ (kept : Kept). (c.is_longer.result ≡ false) ↔ (history_of new ≡ kept.versions)) c.self.view_is
+    (grows_if_longer old new c.is_longer.result c.read_more.ensures.front is)
