@@ -9,7 +9,7 @@ ghost use Rattle.delta_server.specs.Swept.{AreOf};
 ghost use Rattle.delta_server.specs.Tokens.{server_naming, server_token};
 
 use crate::answering::is_declared;
-use crate::passages::{Lead, kept_lead, kept_set};
+use crate::passages::{Lead, kept_delta, kept_lead, kept_set};
 use crate::served::{Served, served_list, set_at};
 use crate::swept::Swept;
 use crate::targets::{Limits, newest_delta, older_target, whole_target};
@@ -172,29 +172,30 @@ fn later_answer(
     partial_update(alloc, asked, served.size, &before, &sent)
 }
 
-// The update that leads from a held version to a later one or to itself, if the list was not swept.
-fn made_answer(
+// What leads from a held version of a list to the newest, told by the stretches of the list if it was
+// swept.
+fn newest_lead(
     alloc: Global,
     history: &History,
-    served: &Served<'_>,
-    asked: &ListRequest,
+    swept: &Swept,
+    list: ListName,
     held: u64,
-    version: u64,
-) -> Result<ListUpdate, OutOfMemory>
-    requires served { IsServed served.now history.now.versions asked.now.name }
+) -> Result<Delta, OutOfMemory>
+    requires declared { declares history.now.versions list ≡ true }
     requires within { held ≤ version_count history.now.versions }
-    requires version { version ≤ version_count history.now.versions }
-    ensures { IfOk result (λ update. update ≡ update_to history.now.versions (server_naming history.now.versions) asked.now (Some held) version) }
+    requires swept { AreOf history.now.versions swept.now }
+    ensures { IfOk result (LeadsToNewest history.now.versions list held) }
 {
-    if version == history.len() {
-        let delta = history.difference(alloc, asked.name, held)?;
-        return newest_answer(alloc, history, served, asked, held, delta);
+    let found = kept_delta(alloc, history, swept, list, held)?;
+    if let Some(delta) = found {
+        return Ok(delta);
     }
-    later_answer(alloc, history, served, asked, held, version)
+    let delta = history.difference(alloc, list, held)?;
+    Ok(delta)
 }
 
 // The update that leads from a held version to a later one or to itself, told by the stretches of
-// the list if it was swept.
+// the list if it was swept. The digest of the newest version stands ready.
 fn older_answer(
     alloc: Global,
     history: &History,
@@ -210,13 +211,18 @@ fn older_answer(
     requires swept { AreOf history.now.versions swept.now }
     ensures { IfOk result (λ update. update ≡ update_to history.now.versions (server_naming history.now.versions) asked.now (Some held) version) }
 {
-    let found = kept_lead(alloc, history, swept, asked.name, held, version)?;
+    let list = asked.name;
+    if version == history.len() {
+        let delta = newest_lead(alloc, history, swept, list, held)?;
+        return newest_answer(alloc, history, served, asked, held, delta);
+    }
+    let found = kept_lead(alloc, history, swept, list, held, version)?;
     match found {
         Some(lead) => {
             let Lead { delta, digest } = lead;
             led_answer(alloc, history, served, asked, held, version, delta, digest)
         }
-        None => made_answer(alloc, history, served, asked, held, version),
+        None => later_answer(alloc, history, served, asked, held, version),
     }
 }
 

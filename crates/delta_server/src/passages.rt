@@ -8,7 +8,7 @@ ghost use Rattle.sb_model.specs.Prefixes.{concatenation};
 ghost use Rattle.list_versions.specs.declared.stretch.Stretch.{Stretch as Span};
 ghost use Rattle.list_versions.specs.Stretches.{AreInOrder};
 ghost use Rattle.delta_server.specs.Passages.{HasPassed, Passes, StandsBetween};
-ghost use Rattle.delta_server.specs.Served.{LeadsTo};
+ghost use Rattle.delta_server.specs.Served.{LeadsTo, LeadsToNewest};
 ghost use Rattle.delta_server.specs.Sweeping.{HaveHeads, has_version, shown_at};
 ghost use Rattle.delta_server.specs.Swept.{AreOf};
 
@@ -231,6 +231,28 @@ pub(crate) fn kept_lead(
     };
     let lead = lead_between(alloc, stretches, held as u32, version as u32)?;
     Ok(Some(lead))
+}
+
+/// What leads from a version of a list to the newest, if the list was swept.
+pub(crate) fn kept_delta(
+    alloc: Global,
+    history: &History,
+    swept: &Swept,
+    list: ListName,
+    held: u64,
+) -> Result<Option<Delta>, OutOfMemory>
+    requires swept { AreOf history.now.versions swept.now }
+    requires within { held ≤ version_count history.now.versions }
+    ensures { IfOk result (λ found. IfSome found (LeadsToNewest history.now.versions list held)) }
+{
+    sets_go_by_members();
+    let newest = history.len();
+    let Some(stretches) = swept.find(list) else {
+        return Ok(None);
+    };
+    let passage = passage_between(alloc, stretches, held as u32, newest as u32)?;
+    let delta = passage.into_delta();
+    Ok(Some(delta))
 }
 
 /// The prefixes of a list at a version, if the list was swept.
