@@ -1,0 +1,127 @@
+ghost use Rattle.std.specs.Prelude.{◌≡◌, ◌⊎◌, [], ◌∷◌, Ok, Err, Some, None};
+ghost use Rattle.std.specs.Prelude.{IfOk, IfErr, MatchResult};
+ghost use Rattle.std.specs.Str.{chars};
+ghost use Rattle.serde_json.specs.View.{view, items_view};
+ghost use Rattle.sb_json.specs.Values.{value_of};
+ghost use Rattle.sb_members.specs.Lists.{first, fault_of};
+ghost use Rattle.sb_members.specs.Rows.{threat_row, platform_row, entry_row};
+ghost use Rattle.update_messages.specs.Reading.{IsTextOf};
+ghost use Rattle.update_messages.specs.Faults.{fault_of_text};
+ghost use Rattle.hash_messages.specs.ResponseRows.{match_row};
+ghost use Rattle.lookup_messages.specs.ResponseRows as row;
+ghost use Rattle.lookup_messages.specs.Reading.{ReadsLookupMatch, ReadsLookupResponse};
+ghost use Rattle.lookup_messages.specs.Faults.{fault_of_lookup_match, fault_of_lookup_response};
+ghost use Rattle.lookup_messages.specs.declared.response.LookupResponse.{LookupResponse};
+
+use crate::{LookupMatch, LookupResponse};
+use sb_json::{Field, FieldFault, MessageFault, object, read_json, string};
+use sb_members::{
+    ReadItem, check_object, duration_or_zero, entry_type, items_or_none, platform_type,
+    read_numbered_items, threat_type,
+};
+use sb_model::{ListName, Text};
+use serde_json::Value;
+use std::alloc::Global;
+
+/// The list that an item names.
+fn list_of(item: &Value) -> Result<ListName, FieldFault>
+    ensures object { IfOk result (λ _. match_row (view item.now) ≡ Ok (view item.now)) }
+    ensures threat { IfOk result (λ name. threat_row (view item.now) ≡ Ok name.threat) }
+    ensures platform { IfOk result (λ name. platform_row (view item.now) ≡ Ok name.platform) }
+    ensures entry { IfOk result (λ name. entry_row (view item.now) ≡ Ok name.entry) }
+    ensures err { IfErr result (λ fault. first (
+        fault_of (match_row (view item.now))
+        ∷ fault_of (threat_row (view item.now))
+        ∷ fault_of (platform_row (view item.now))
+        ∷ fault_of (entry_row (view item.now)) ∷ []) ≡ Some fault) }
+{
+    check_object(item, Field::Matches)?;
+    Ok(ListName {
+        threat: threat_type(item)?,
+        platform: platform_type(item)?,
+        entry: entry_type(item)?,
+    })
+}
+
+/// The URL of an item.
+fn url_of(item: &Value) -> Result<&str, FieldFault>
+    ensures ok { IfOk result (λ url. row.url_row (view item.now) ≡ Ok (chars url.now)) }
+    ensures err { IfErr result (λ fault. row.url_row (view item.now) ≡ Err fault) }
+{
+    string(object(item, Field::Threat)?, Field::Url)
+}
+
+/// The match that an item is.
+fn match_of(alloc: Global, item: &Value) -> Result<LookupMatch, FieldFault>
+    ensures ok { IfOk result (λ found. ReadsLookupMatch (view item.now) found) }
+    ensures clean { IfOk result (λ _. fault_of_lookup_match (view item.now) ≡ None) }
+    ensures err { IfErr result (λ fault. (fault ≡ FieldFault.OutOfMemory)
+        ⊎ (fault_of_lookup_match (view item.now) ≡ Some fault)) }
+{
+    let name = list_of(item)?;
+    let url = url_of(item)?;
+    let cache = duration_or_zero(item, Field::CacheDuration)?;
+    Ok(LookupMatch {
+        name,
+        url: Text::from_str(alloc, url)?,
+        cache,
+    })
+}
+
+/// The matches that the items are.
+struct Matches;
+
+impl ReadItem for Matches {
+    type Found = LookupMatch;
+
+    ghost Reads = { ReadsLookupMatch };
+
+    ghost Keeps = { λ _. Unit {0} };
+
+    ghost fault = { fault_of_lookup_match };
+
+    fn read_item(alloc: Global, item: &Value) -> Result<LookupMatch, FieldFault> {
+        match_of(alloc, item)
+    }
+}
+
+/// The response that a value is.
+fn response_of(alloc: Global, value: &Value) -> Result<LookupResponse, MessageFault>
+    ensures ok { IfOk result (λ message. ReadsLookupResponse (view value.now) message) }
+    ensures err { IfErr result (λ fault. (fault ≡ MessageFault.OutOfMemory)
+        ⊎ (fault_of_lookup_response (view value.now) ≡ Some fault)) }
+{
+    if let Err(fault) = check_object(value, Field::Root) {
+        return Err(MessageFault::of(fault, 0));
+    }
+    match items_or_none(value, Field::Matches) {
+        Ok(items) => Ok(LookupResponse {
+            matches: read_numbered_items::<Matches>(alloc, items)?,
+        }),
+        Err(fault) => Err(MessageFault::of(fault, 0)),
+    }
+}
+
+/// The response that a text is.
+fn response_in(alloc: Global, text: &[u8]) -> Result<LookupResponse, MessageFault>
+    ensures ok { IfOk result (λ message. IsTextOf ReadsLookupResponse text.now message) }
+    ensures err { IfErr result (λ fault. (fault ≡ MessageFault.OutOfMemory)
+        ⊎ (fault_of_text fault_of_lookup_response (value_of text.now) ≡ Some fault)) }
+{
+    let value = read_json(alloc, text)?;
+    response_of(alloc, &value)
+}
+
+/// Reads the answer to a look-up request.
+///
+/// A text that is no response is refused by its first fault: `TooDense`, `NotJson`, and then the fields in the order of
+/// `specs/ResponseRows.antt`, item by item. Unknown fields are skipped, and one that is null counts as absent.
+pub fn read_lookup_matches(alloc: Global, text: &[u8]) -> Result<LookupResponse, MessageFault>
+    ensures ok { IfOk result (λ message. IsTextOf ReadsLookupResponse text.now message) }
+    ensures err { IfErr result (λ fault. (fault ≡ MessageFault.OutOfMemory)
+        ⊎ (fault_of_text fault_of_lookup_response (value_of text.now) ≡ Some fault)) }
+    ensures only { (message : LookupResponse) → IsTextOf ReadsLookupResponse text.now message
+        → MatchResult result (λ found. found ≡ message) (λ fault. fault ≡ MessageFault.OutOfMemory) }
+{
+    response_in(alloc, text)
+}
