@@ -4,7 +4,7 @@ use Rattle.std.specs.Prelude.{◌≡◌, ℕ, ◌*◌, ◌==◌, ◌&&◌, Bool,
 use Rattle.std.specs.List.{flat_map}
 use Rattle.std.specs.Str.{bytes_eq}
 use Rattle.sb_model.specs.declared.names.ListName.{ListName}
-use Rattle.sb_model.specs.Names.{threat_code, platform_code, entry_code}
+use Rattle.sb_model.specs.Names.{same_name}
 use Rattle.url_canon.specs.Url.{Url}
 use Rattle.url_canon.specs.Canonical.{canonical_of}
 use Rattle.url_canon.specs.declared.fault.UrlFault.{UrlFault}
@@ -59,13 +59,6 @@ pub record IsLookupMatch (has : ListName → Url → Bool) (lists : List ListNam
 abbrev pub is_url : List ℕ → List ℕ → Bool
 is_url url text = bytes_eq url text
 
--- whether a name is that of a list
-abbrev pub is_list : ListName → ListName → Bool
-is_list list name =
-    threat_code list.threat == threat_code name.threat
-    && platform_code list.platform == platform_code name.platform
-    && entry_code list.entry == entry_code name.entry
-
 -- whether a match is another
 abbrev pub is_match : LookupMatch → LookupMatch → Bool
-is_match found other = is_list found.name other.name && is_url found.url other.url && found.cache == other.cache
+is_match found other = same_name found.name other.name && is_url found.url other.url && found.cache == other.cache

@@ -37,9 +37,9 @@ fn asked_url(alloc: Global, item: &Value) -> Result<Text, FieldFault>
 }
 
 /// The URLs that the items ask for.
-struct AskedUrls;
+struct Urls;
 
-impl ReadItem for AskedUrls {
+impl ReadItem for Urls {
     type Found = Text;
 
     ghost Reads = { ReadsAs row.url_row };
@@ -65,7 +65,7 @@ fn few_asked_urls(alloc: Global, items: &[Value]) -> Result<Row<Text>, MessageFa
     if items.len() > MOST_URLS {
         return Err(MessageFault::TooManyItems(items.len() as u64));
     }
-    read_numbered_items::<AskedUrls>(alloc, items)
+    read_numbered_items::<Urls>(alloc, items)
 }
 
 /// The items of a request.

@@ -1,13 +1,9 @@
-ghost use Rattle.std.specs.Prelude.{◌≡◌, ◌⊎◌, [], ◌∷◌, Ok, Err, Some, None};
-ghost use Rattle.std.specs.Prelude.{IfOk, IfErr, MatchResult};
+ghost use Rattle.std.specs.Prelude.{◌≡◌, ◌⊎◌, Ok, Err, Some, None, IfOk, IfErr, MatchResult};
 ghost use Rattle.std.specs.Str.{chars};
 ghost use Rattle.serde_json.specs.View.{view, items_view};
 ghost use Rattle.sb_json.specs.Values.{value_of};
-ghost use Rattle.sb_members.specs.Lists.{first, fault_of};
-ghost use Rattle.sb_members.specs.Rows.{threat_row, platform_row, entry_row};
 ghost use Rattle.update_messages.specs.Reading.{IsTextOf};
 ghost use Rattle.update_messages.specs.Faults.{fault_of_text};
-ghost use Rattle.hash_messages.specs.ResponseRows.{match_row};
 ghost use Rattle.lookup_messages.specs.ResponseRows as row;
 ghost use Rattle.lookup_messages.specs.Reading.{ReadsLookupMatch, ReadsLookupResponse};
 ghost use Rattle.lookup_messages.specs.Faults.{fault_of_lookup_match, fault_of_lookup_response};
@@ -22,26 +18,6 @@ use sb_members::{
 use sb_model::{ListName, Text};
 use serde_json::Value;
 use std::alloc::Global;
-
-/// The list that an item names.
-fn list_of(item: &Value) -> Result<ListName, FieldFault>
-    ensures object { IfOk result (λ _. match_row (view item.now) ≡ Ok (view item.now)) }
-    ensures threat { IfOk result (λ name. threat_row (view item.now) ≡ Ok name.threat) }
-    ensures platform { IfOk result (λ name. platform_row (view item.now) ≡ Ok name.platform) }
-    ensures entry { IfOk result (λ name. entry_row (view item.now) ≡ Ok name.entry) }
-    ensures err { IfErr result (λ fault. first (
-        fault_of (match_row (view item.now))
-        ∷ fault_of (threat_row (view item.now))
-        ∷ fault_of (platform_row (view item.now))
-        ∷ fault_of (entry_row (view item.now)) ∷ []) ≡ Some fault) }
-{
-    check_object(item, Field::Matches)?;
-    Ok(ListName {
-        threat: threat_type(item)?,
-        platform: platform_type(item)?,
-        entry: entry_type(item)?,
-    })
-}
 
 /// The URL of an item.
 fn url_of(item: &Value) -> Result<&str, FieldFault>
@@ -58,9 +34,17 @@ fn match_of(alloc: Global, item: &Value) -> Result<LookupMatch, FieldFault>
     ensures err { IfErr result (λ fault. (fault ≡ FieldFault.OutOfMemory)
         ⊎ (fault_of_lookup_match (view item.now) ≡ Some fault)) }
 {
-    let name = list_of(item)?;
+    check_object(item, Field::Matches)?;
+    let threat = threat_type(item)?;
+    let platform = platform_type(item)?;
+    let entry = entry_type(item)?;
     let url = url_of(item)?;
     let cache = duration_or_zero(item, Field::CacheDuration)?;
+    let name = ListName {
+        threat,
+        platform,
+        entry,
+    };
     Ok(LookupMatch {
         name,
         url: Text::from_str(alloc, url)?,

@@ -1,4 +1,5 @@
-ghost use Rattle.std.specs.Prelude.{◌≡◌, All, map, IfOk};
+ghost use Rattle.std.specs.Prelude.{◌≡◌, All, map, IfOk, encode_utf8_all};
+ghost use Rattle.serde_json.specs.Data.{string};
 ghost use Rattle.serde_json.specs.View.{view};
 ghost use Rattle.sb_members.specs.Ranges.{IsText};
 ghost use Rattle.lookup_messages.specs.Writing as spec;
@@ -9,13 +10,21 @@ use sb_model::{OutOfMemory, Text};
 use serde_json::{Map, Value};
 use std::alloc::Global;
 
+/// The text of a URL, which may be empty.
+fn url_text(alloc: Global, url: &Text) -> Result<Value, OutOfMemory>
+    ensures value { IfOk result (λ value. view value ≡ string (encode_utf8_all url.now)) }
+    ensures range { IsText url.now }
+{
+    string_value(alloc, url.as_str())
+}
+
 /// An object of a URL alone.
 pub(crate) fn url_value(alloc: Global, url: &Text) -> Result<Value, OutOfMemory>
     ensures value { IfOk result (λ value. view value ≡ spec.url_written url.now) }
     ensures range { IfOk result (λ _. IsText url.now) }
 {
     let mut members = Map::new(alloc);
-    let text = string_value(alloc, url.as_str())?;
+    let text = url_text(alloc, url)?;
     put_member(alloc, &mut members, Field::Url, Some(text))?;
     Ok(Value::Object(members))
 }
