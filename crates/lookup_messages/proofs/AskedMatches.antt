@@ -1,5 +1,5 @@
 -- The matches of an answer are those that are asked.
-use Rattle.std.proofs.Common.{◌≡◌, ℕ, ◌*◌, Bool, true, List, map, filter, Contains, Result, Ok, Err, refl, sym, subst, ap}
+use Rattle.std.proofs.Common.{◌≡◌, ℕ, ◌*◌, Bool, List, filter, Contains, Result, Ok, Err, refl, sym, subst}
 use Rattle.sb_model.specs.declared.names.ListName.{ListName}
 use Rattle.url_canon.specs.Url.{Url}
 use Rattle.url_canon.specs.declared.fault.UrlFault.{UrlFault}

@@ -1,5 +1,5 @@
 -- What is written of a response reads as it.
-use Rattle.std.proofs.Common.{◌≡◌, List, [], ◌∷◌, map, Some, Ok, refl, ap, ◌∙◌}
+use Rattle.std.proofs.Common.{◌≡◌, [], ◌∷◌, map, Some, Ok, refl, ap, ◌∙◌}
 use Rattle.sb_json.specs.Values.{◌>>=◌, text_of}
 use Rattle.sb_json.specs.declared.fields.Field.TheVariants as field
 use Rattle.sb_members.specs.Laws.{AreReadAgain}
