@@ -6,8 +6,8 @@ use Rattle.hash_messages.specs.RequestRows as find
 use Rattle.hash_messages.specs.Others.{IsWithoutNothing}
 use Rattle.lookup_messages.specs.RequestRows.{urls_row}
 
--- The other value has the same client and URLs, and of the types all but those that are no names of the tables, in their
--- order.
+-- The other value has the same client and URLs, and of the types all but those that are no names of the tables, in
+-- their order.
 pub record IsWithoutOthers (value other : Data) : Type 0 where
   pub object : root_row other ≡ Ok other
   pub client : client_row other ≡ client_row value

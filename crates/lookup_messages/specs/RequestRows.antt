@@ -1,6 +1,6 @@
--- The rows of the look-up request (`threatMatches.find` of the Safe Browsing Lookup API, version 4), in the order in which
--- they are looked at. The message itself and `client` come before them, and are read as in a fetch request. The three lists
--- of types come next, and are read as in a find request.
+-- The rows of the look-up request (`threatMatches.find` of the Safe Browsing Lookup API, version 4), in the order in
+-- which they are looked at. The message itself and `client` come before them, and are read as in a fetch request. The
+-- three lists of types come next, and are read as in a find request.
 use Rattle.std.specs.Prelude.{ℕ, List, Result}
 use Rattle.serde_json.specs.Data.{Data, Items}
 use Rattle.sb_json.specs.Values.{◌>>=◌, object_in, text_of}

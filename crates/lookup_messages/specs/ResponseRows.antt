@@ -1,6 +1,6 @@
--- The rows of the look-up response (`threatMatches.find` of the Safe Browsing Lookup API, version 4), in the order in which
--- they are looked at. The items and the times of keeping are read as in a find response. The three rows of a list's name
--- stand between an item itself and its `threat`.
+-- The rows of the look-up response (`threatMatches.find` of the Safe Browsing Lookup API, version 4), in the order in
+-- which they are looked at. The items and the times of keeping are read as in a find response. The three rows of a
+-- list's name stand between an item itself and its `threat`.
 use Rattle.std.specs.Prelude.{ℕ, List, Result}
 use Rattle.serde_json.specs.Data.{Data}
 use Rattle.sb_json.specs.Values.{◌>>=◌, object_of, text_of}

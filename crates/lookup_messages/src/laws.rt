@@ -42,8 +42,8 @@ pub fn unknown_types_change_no_lookup()
 {}
 
 /// An answer has a match for each URL that is asked and has a canonical form, and each list among those that are given
-/// whose three types are asked and that has the URL, and no other. If no list is given twice, it has each match as often
-/// as its URL is asked.
+/// whose three types are asked and that has the URL, and no other. If no list is given twice, it has each match as
+/// often as its URL is asked.
 pub fn lookups_match_what_is_asked()
     ensures matches { (has : ListName → Url → Bool) (lists : List ListName) (cache : ℕ) (asked : AskedUrls)
         (found : LookupMatch)
@@ -53,7 +53,8 @@ pub fn lookups_match_what_is_asked()
         → count_by (is_match found) (lookup_matches has lists cache asked) ≡ count_by (is_url found.url) asked.urls }
 {}
 
-/// A request whose text is not too dense is the same request when it is written and read again, unless memory is refused.
+/// A request whose text is not too dense is the same request when it is written and read again, unless memory is
+/// refused.
 pub fn written_lookups_read_again(
     alloc: Global,
     message: &LookupRequest,
@@ -65,7 +66,8 @@ pub fn written_lookups_read_again(
     read_lookup(alloc, text.as_slice())
 }
 
-/// A response whose text is not too dense is the same response when it is written and read again, unless memory is refused.
+/// A response whose text is not too dense is the same response when it is written and read again, unless memory is
+/// refused.
 pub fn written_lookup_matches_read_again(
     alloc: Global,
     message: &LookupResponse,

@@ -1,10 +1,10 @@
-//! The messages of the Safe Browsing Lookup API, version 4 (`threatMatches.find`), which are read strictly and written in
-//! one way, and the answer to a look-up.
+//! The messages of the Safe Browsing Lookup API, version 4 (`threatMatches.find`), which are read strictly and written
+//! in one way, and the answer to a look-up.
 //!
 //! `specs/Messages.antt` has the request as contracts see it, `Ranges` what every message keeps, `RequestRows` and
-//! `ResponseRows` the tables of their fields, `Reading` which message a JSON value is, `Others` a request without unknown
-//! types, `Faults` the first fault of a value that is no message, `Writing` the one spelling of a message, and `Lookups`
-//! what a look-up is answered.
+//! `ResponseRows` the tables of their fields, `Reading` which message a JSON value is, `Others` a request without
+//! unknown types, `Faults` the first fault of a value that is no message, `Writing` the one spelling of a message, and
+//! `Lookups` what a look-up is answered.
 #![tactic(auto)]
 
 pub use laws::{

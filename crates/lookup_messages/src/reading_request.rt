@@ -140,8 +140,8 @@ fn request_in(alloc: Global, text: &[u8]) -> Result<LookupRequest, MessageFault>
 /// Reads a look-up request.
 ///
 /// A text that is no request is refused by its first fault: `TooDense`, `NotJson`, and then the fields in the order of
-/// `specs/RequestRows.antt`, item by item, if there are at most 500. Unknown fields are skipped, and one that is null counts
-/// as absent.
+/// `specs/RequestRows.antt`, item by item, if there are at most 500. Unknown fields are skipped, and one that is null
+/// counts as absent.
 pub fn read_lookup(alloc: Global, text: &[u8]) -> Result<LookupRequest, MessageFault>
     ensures ok { IfOk result (λ message. IsTextOf ReadsLookup text.now message) }
     ensures err { IfErr result (λ fault. (fault ≡ MessageFault.OutOfMemory)

@@ -58,9 +58,9 @@ fn request_value(alloc: Global, message: &LookupRequest) -> Result<Value, OutOfM
     Ok(Value::Object(members))
 }
 
-/// Writes a look-up request in its one spelling: compact JSON, whose keys stand in byte order, and in which empty texts of
-/// the client, empty lists and a client without fields are left out, but no empty URL. If the text is not too dense it reads
-/// as the message; and it reads as no other.
+/// Writes a look-up request in its one spelling: compact JSON, whose keys stand in byte order, and in which empty texts
+/// of the client, empty lists and a client without fields are left out, but no empty URL. If the text is not too dense
+/// it reads as the message; and it reads as no other.
 pub fn write_lookup(alloc: Global, message: &LookupRequest) -> Result<Bytes, OutOfMemory>
     ensures spelling { IfOk result (λ text. text ≡ spec.spelling_of_lookup message.now) }
     ensures read_again { IfOk result (λ text.

@@ -58,9 +58,9 @@ fn response_value(alloc: Global, message: &LookupResponse) -> Result<Value, OutO
     Ok(Value::Object(members))
 }
 
-/// Writes the answer to a look-up request in its one spelling: compact JSON, whose keys stand in byte order, and in which an
-/// empty list and zero durations are left out, but no empty URL. If the text is not too dense it reads as the message; and
-/// it reads as no other.
+/// Writes the answer to a look-up request in its one spelling: compact JSON, whose keys stand in byte order, and in
+/// which an empty list and zero durations are left out, but no empty URL. If the text is not too dense it reads as the
+/// message; and it reads as no other.
 pub fn write_lookup_matches(alloc: Global, message: &LookupResponse) -> Result<Bytes, OutOfMemory>
     ensures spelling { IfOk result (λ text. text ≡ spec.spelling_of_lookup_response message.now) }
     ensures read_again { IfOk result (λ text.

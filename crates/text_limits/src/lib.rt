@@ -61,16 +61,16 @@ pub fn fetch_answers_are_not_too_dense()
     written_texts_are_counted();
 }
 
-/// A look-up request of at most 500 URLs is not too dense, however many types it asks for: the word of each takes at least as
-/// many bytes as a value may.
+/// A look-up request of at most 500 URLs is not too dense, however many types it asks for: the word of each takes at
+/// least as many bytes as a value may.
 pub fn lookups_are_not_too_dense()
     ensures { (message : AskedUrls) → length message.urls ≤ 500 → too_dense (spelling_of_lookup message) ≡ None }
 {
     written_texts_are_counted();
 }
 
-/// A look-up response of at most 32,000 matches is not too dense: as many as 500 URLs have in all 64 lists that there are
-/// names for.
+/// A look-up response of at most 32,000 matches is not too dense: as many as 500 URLs have in all 64 lists that there
+/// are names for.
 pub fn lookup_answers_are_not_too_dense()
     ensures any { (message : LookupResponse) → length message.matches ≤ 32000
         → too_dense (spelling_of_lookup_response message) ≡ None }
