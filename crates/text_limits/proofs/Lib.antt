@@ -4,6 +4,8 @@ pub mod Fetches
 pub mod Finds
 pub mod Texts
 pub mod Matches
+pub mod Lookups
+pub mod LookupMatches
 pub mod Places
 pub mod Updates
 pub mod Answers

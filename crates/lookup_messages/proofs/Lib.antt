@@ -1,0 +1,16 @@
+pub mod AskedMatches
+pub mod Counts
+pub mod Depths
+pub mod Existence
+pub mod FewItems
+pub mod Floats
+pub mod Memberships
+pub mod NoFault
+pub mod OneReading
+pub mod Others
+pub mod RequestAgain
+pub mod ResponseAgain
+pub mod Texts
+pub mod TextsAgain
+pub mod WrittenLists
+pub mod WrittenUrls

@@ -1,0 +1,9 @@
+pub mod Faults
+pub mod Lookups
+pub mod Messages
+pub mod Others
+pub mod Ranges
+pub mod Reading
+pub mod RequestRows
+pub mod ResponseRows
+pub mod Writing
