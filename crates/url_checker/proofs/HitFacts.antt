@@ -12,9 +12,7 @@ use Rattle.std.proofs.lemmas.Slice.Eq.{bytes_eq-Decides}
 use Rattle.hash_prefixes.specs.declared.hashes.FullHash.{FullHash}
 use Rattle.update_client.specs.Held.{Held}
 use Rattle.url_checker.specs.declared.findings.Hit.{Hit}
-use Rattle.url_expressions.specs.Spans.{piece_of}
-use Rattle.url_expressions.specs.declared.spans.Span.{Span}
-use Rattle.url_checker.specs.Hits.{full_hash_of, has_front, hit_of, hits_at, Marks, IsPastMarks}
+use Rattle.url_checker.specs.Hits.{has_front, hit_of, hits_at, Marks, IsPastMarks}
 
 range_push : (a n : ℕ) → range_with_len a (n + 1) ≡ range_with_len a n ++ (a + n) ∷ []
 range_push a zero = ap (λ k. k ∷ []) (omega arith)
@@ -125,8 +123,3 @@ pub hits_past : (marks : List Bool) (held : Held) (hash : FullHash) (past : ℕ)
 hits_past marks held hash past low high marked unset whole =
     sym (rest_left marks held hash past (33 - past) low (omega (arith, high)) marked unset whole)
     ∙ ap (λ n. hits_at held hash (sizes_below n)) (let same : past + (33 - past) ≡ 33 = omega (arith, high) in same)
-
--- the hashes of pieces of a text are those of what the pieces are
-pub hashes_of_pieces : (text : List ℕ) (spans : List Span) → map (λ (one : Span). full_hash_of (piece_of text one)) spans ≡ map full_hash_of (map (piece_of text) spans)
-hashes_of_pieces text [] = refl
-hashes_of_pieces text (one ∷ spans) = ap (λ rest. full_hash_of (piece_of text one) ∷ rest) (hashes_of_pieces text spans)

@@ -8,19 +8,13 @@ use Rattle.std.proofs.lemmas.Grind.{get_or-set_at}
 use Rattle.std.proofs.lemmas.List.{get_or-set_other, take_more}
 use Rattle.std.proofs.lemmas.List.Elements.{All-contains, All-map, All-push}
 use Rattle.std.proofs.lemmas.List.Folds.{list_any_at}
-use Rattle.sha2.proofs.Facts256.{length-sha256}
 use Rattle.hash_prefixes.specs.declared.hashes.FullHash.{FullHash}
 use Rattle.update_client.specs.Held.{Held}
-use Rattle.url_checker.specs.Hits.{full_hash_of, IsWhole, Marks, MarksAll}
+use Rattle.url_checker.specs.Hits.{Marks, MarksAll}
 
 -- what holds of each of a list's items holds of one
 pub item_holds : {X : Type 0} (P : X → Type 0) (xs : List X) (i : ℕ) (x : X) → i < length xs → x ≡ get_or xs i x → All P xs → P x
 item_holds {X} P xs i x below at all = subst P (sym at) (all i x below)
-
--- each hash of some texts has 32 bytes
-pub hashes_whole : (hashes : List FullHash) (texts : List (List ℕ)) → hashes ≡ map full_hash_of texts → All IsWhole hashes
-hashes_whole hashes texts same =
-    subst (λ (all : List FullHash). All IsWhole all) (sym same) (All-map IsWhole full_hash_of texts (λ k d small. length-sha256 (get_or texts k d)))
 
 -- ---- one size more
 

@@ -3,12 +3,11 @@
 use Rattle.std.specs.Prelude.{◌≡◌, ℕ, ◌<◌, ◌≤◌, Bool, true, false, List, length, take, map, filter, All, Contains, slice_index_or}
 use Rattle.std.specs.List.{flat_map, list_any, range_with_len}
 use Rattle.std.specs.Str.{bytes_eq}
-use Rattle.sha2.specs.Sha256.{sha256}
 use Rattle.sb_model.specs.declared.names.ListName.{ListName}
 use Rattle.sb_model.specs.Prefixes.{set_of}
 use Rattle.hash_prefixes.specs.declared.hashes.FullHash.{FullHash}
 use Rattle.url_canon.specs.Url.{Url}
-use Rattle.url_expressions.specs.Expressions.{expressions_of}
+use Rattle.url_hashes.specs.Hashes.{hashes_of}
 use Rattle.hash_messages.specs.Messages.{most_prefixes}
 use Rattle.update_client.specs.Held.{Held}
 use Rattle.url_checker.specs.declared.findings.Hit.{Hit}
@@ -16,13 +15,6 @@ use Rattle.url_checker.specs.declared.findings.Hit.{Hit}
 -- the sizes that a prefix may have, from 4 to 32 bytes
 abbrev pub prefix_sizes : List ℕ
 prefix_sizes = range_with_len 4 29
-
-abbrev pub full_hash_of : List ℕ → FullHash
-full_hash_of expression = record { bytes = sha256 expression }
-
--- the full hashes of a URL's expressions, in order
-abbrev pub hashes_of : Url → List FullHash
-hashes_of url = map full_hash_of (expressions_of url)
 
 -- whether a set has the first bytes of a hash, so many of them
 abbrev pub has_front : List (List ℕ) → FullHash → ℕ → Bool
@@ -48,10 +40,6 @@ abbrev pub hits_of : List Held → Url → List Hit
 hits_of lists url = flat_map (hits_on (hashes_of url)) lists
 
 -- ---- which sizes are looked up
-
--- a full hash has 32 bytes
-abbrev pub IsWhole : FullHash → Type 0
-IsWhole hash = length hash.bytes ≡ 32
 
 -- each size up to 32 that a member of a list's set has is marked
 abbrev pub Marks : List Bool → Held → Type 0

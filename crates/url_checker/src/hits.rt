@@ -2,13 +2,13 @@ ghost use Rattle.std.specs.Prelude.{◌≡◌, ◌≢◌, ◌≤◌, ◌<◌, �
 ghost use Rattle.std.specs.List.{flat_map};
 ghost use Rattle.url_canon.specs.Url.{text_of};
 ghost use Rattle.url_canon.specs.Canonical.{canonical_of};
-ghost use Rattle.url_expressions.specs.Spans.{IsWithin, piece_of};
-ghost use Rattle.url_checker.specs.Hits.{full_hash_of, hashes_of, hits_at, hits_with, hits_on, hits_of, AreAskable, prefixes_hit, IsWhole, Marks, MarksAll, IsPastMarks};
+ghost use Rattle.url_hashes.specs.Hashes.{IsWhole};
+ghost use Rattle.url_checker.specs.Hits.{hits_at, hits_with, hits_on, hits_of, AreAskable, prefixes_hit, Marks, MarksAll, IsPastMarks};
 ghost use Rattle.url_checker.specs.Checking.{IsFindingOf};
 
 use crate::sizes::{Sizes, past_marks, sizes_on};
 use crate::{CheckFault, Finding, Hit};
-use hash_prefixes::{FullHash, Prefix, full_hash};
+use hash_prefixes::{FullHash, Prefix};
 use prefix_set::{PrefixSet, sets_go_by_members};
 use sb_model::{Bytes, OutOfMemory, Row, Steps};
 use std::alloc::Global;
@@ -16,7 +16,7 @@ use std::marker::Brand;
 use std::sync::ledger::{Blank, Ledger};
 use update_client::{ClientLists, HeldList};
 use url_canon::{CanonicalUrl, UrlFault, canonical};
-use url_expressions::{Span, expression_spans};
+use url_hashes::url_hashes;
 
 // Whether a set has a prefix, in counted steps.
 fn looked_up<L: Ledger>(blank: Blank, set: &PrefixSet, prefix: &Prefix) -> bool
@@ -124,35 +124,6 @@ fn hits_on_lists(
     Ok(hits)
 }
 
-// The full hash of an expression.
-fn hash_of(expression: &[u8]) -> FullHash
-    ensures { result ≡ full_hash_of expression.now }
-{
-    full_hash(expression)
-}
-
-// The full hash of each of some pieces of a text.
-fn hashes_of_each(alloc: Global, text: &[u8], spans: &[Span]) -> Result<Row<FullHash>, OutOfMemory>
-    requires { All (IsWithin (length text.now)) spans.now }
-    ensures { IfOk result (λ hashes. hashes ≡ map (λ span. full_hash_of (piece_of text.now span)) spans.now) }
-{
-    let mut hashes = Row::with_capacity(alloc, spans.len())?;
-    for span in spans {
-        hashes.push(hash_of(&text[span.from..span.to]))?;
-    }
-    Ok(hashes)
-}
-
-// The full hashes of a URL's expressions. Each is made once, however many lists are looked at, and no expression is copied.
-fn hashes(alloc: Global, url: &CanonicalUrl) -> Result<Row<FullHash>, OutOfMemory>
-    ensures value { IfOk result (λ hashes. hashes ≡ hashes_of url.now) }
-    ensures few { IfOk result (λ hashes. length hashes ≤ 30) }
-{
-    let spans = expression_spans(alloc, url)?;
-    let hashes = hashes_of_each(alloc, url.without_scheme(), spans.as_slice())?;
-    Ok(hashes)
-}
-
 // The hits of a URL on some lists.
 fn hits(
     alloc: Global,
@@ -166,7 +137,7 @@ fn hits(
     ensures few { IfOk result (λ hits. length (prefixes_hit hits) ≤ 870) }
 {
     sets_go_by_members();
-    let hashes = hashes(alloc, url)?;
+    let hashes = url_hashes(alloc, url)?;
     let hits = hits_on_lists(alloc, lists.lists(), &sizes.marks, hashes.as_slice())?;
     Ok(hits)
 }

@@ -3,7 +3,8 @@ use Rattle.std.proofs.Common.{◌≡◌, ℕ, List, [], ◌∷◌, map, flat_map
 use Rattle.sha2.specs.Sha256.{compress, digest_bytes, first_words, hash_after, rounds, schedule, sha256}
 use Rattle.hash_prefixes.specs.declared.hashes.FullHash.{FullHash}
 use Rattle.url_expressions.specs.Expressions.{expressions_of, components, last_components, first_occurrences}
-use Rattle.url_checker.specs.Hits.{full_hash_of, hashes_of, hits_on, hits_of}
+use Rattle.url_hashes.specs.Hashes.{full_hash_of, hashes_of}
+use Rattle.url_checker.specs.Hits.{hits_on, hits_of}
 use Rattle.verdict_laws.specs.Example.{example_url, expression_hash, example_hit, held_at}
 
 digest_of_expression : sha256 (codes "1.2.3.4/") ≡ expression_hash

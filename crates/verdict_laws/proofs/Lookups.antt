@@ -10,7 +10,8 @@ use Rattle.update_client.specs.Replica.{IsEmptyList, IsReplicaOf, AreReplicas}
 use Rattle.full_hash_cache.specs.declared.pair.Cached.{Cached}
 use Rattle.full_hash_cache.specs.declared.pair.Cached.TheVariants.{Unsafe, Safe, Ask}
 use Rattle.url_checker.specs.declared.findings.Hit.{Hit}
-use Rattle.url_checker.specs.Hits.{hashes_of, hits_of}
+use Rattle.url_hashes.specs.Hashes.{hashes_of}
+use Rattle.url_checker.specs.Hits.{hits_of}
 use Rattle.verdict_laws.specs.Full.{IsFullOf, IsFullAtVersion, IsListed, HasHit}
 use Rattle.verdict_laws.specs.Rulings.{Rulings, IsRight, AreRight, AreAllSafe, IsNoneOpen, IsCalledUnsafe}
 use Rattle.verdict_laws.proofs.Members.{nothing, cases}

@@ -15,7 +15,8 @@ use Rattle.hash_prefixes.specs.declared.hashes.FullHash.{FullHash}
 use Rattle.url_canon.specs.Url.{Url}
 use Rattle.update_client.specs.Held.{Held}
 use Rattle.url_checker.specs.declared.findings.Hit.{Hit}
-use Rattle.url_checker.specs.Hits.{prefix_sizes, hashes_of, has_front, hit_of, hits_with, hits_on, hits_of, BeginsHash}
+use Rattle.url_hashes.specs.Hashes.{hashes_of}
+use Rattle.url_checker.specs.Hits.{prefix_sizes, has_front, hit_of, hits_with, hits_on, hits_of, BeginsHash}
 use Rattle.verdict_laws.specs.Full.{IsFullOf, IsFullAtVersion, HasHit}
 use Rattle.verdict_laws.proofs.Members.{nothing, in_map, from_map, in_filter, in_flat_map, from_flat_map}
 use Rattle.verdict_laws.proofs.Sizes.{HasPrefixSize, entries_are_sized}

@@ -8,7 +8,8 @@ use Rattle.url_canon.specs.Url.{Url}
 use Rattle.update_client.specs.Held.{Held}
 use Rattle.update_client.specs.Replica.{IsEmptyList, IsAtVersion}
 use Rattle.url_checker.specs.declared.findings.Hit.{Hit}
-use Rattle.url_checker.specs.Hits.{hashes_of, hits_of}
+use Rattle.url_hashes.specs.Hashes.{hashes_of}
+use Rattle.url_checker.specs.Hits.{hits_of}
 
 -- the full hashes of a list that is at a version
 pub record IsFullAtVersion (history : History) (token_at : Naming) (held : Held) (hashes : List (List ℕ)) : Type 0 where
