@@ -1,47 +1,30 @@
-ghost use Rattle.std.specs.Prelude.{◌≡◌, ◌==◌, ◌*◌, true, [], ◌∷◌, ◌++◌, map, IfOk, OnOk};
-ghost use Rattle.std.specs.List.{list_any, flat_map};
-ghost use Rattle.sb_model.specs.Names.{threat_code, platform_code, entry_code};
+ghost use Rattle.std.specs.Prelude.{◌≡◌, ◌*◌, true, [], ◌∷◌, ◌++◌, map, IfOk, OnOk};
+ghost use Rattle.std.specs.List.{flat_map};
 ghost use Rattle.sb_model.specs.History.{declares};
 ghost use Rattle.sb_model.specs.Prefixes.{set_of};
 ghost use Rattle.hash_messages.specs.Matches.{asks_list, hashes_asked, matches_of, find_answer};
 ghost use Rattle.delta_server.specs.Finding.{hashes_begun, match_of, matches_among};
 
 use crate::answering::{Settings, is_declared};
+use crate::asked::has_types;
 use crate::names::every_name;
 use hash_messages::{FindRequest, FindResponse, Match};
 use hash_prefixes::{FullHash, Prefix};
 use list_versions::History;
 use prefix_set::sets_go_by_members;
-use sb_model::{Duration, EntryType, ListName, OutOfMemory, PlatformType, Row, ThreatType};
+use sb_model::{Duration, ListName, OutOfMemory, Row};
 use std::alloc::Global;
-
-// ---- which lists are asked
-
-fn has_threat(asked: &[ThreatType], threat: ThreatType) -> bool
-    ensures { result ≡ list_any (λ other. threat_code other == threat_code threat) asked.now }
-{
-    asked.iter().any(|other| other.code() == threat.code())
-}
-
-fn has_platform(asked: &[PlatformType], platform: PlatformType) -> bool
-    ensures { result ≡ list_any (λ other. platform_code other == platform_code platform) asked.now }
-{
-    asked.iter().any(|other| other.code() == platform.code())
-}
-
-fn has_entry(asked: &[EntryType], entry: EntryType) -> bool
-    ensures { result ≡ list_any (λ other. entry_code other == entry_code entry) asked.now }
-{
-    asked.iter().any(|other| other.code() == entry.code())
-}
 
 // Whether the three types of a list are asked.
 fn is_asked(request: &FindRequest, list: ListName) -> bool
     ensures { result ≡ asks_list request.now list }
 {
-    has_threat(request.threats.as_slice(), list.threat)
-        && has_platform(request.platforms.as_slice(), list.platform)
-        && has_entry(request.entries.as_slice(), list.entry)
+    has_types(
+        request.threats.as_slice(),
+        request.platforms.as_slice(),
+        request.entries.as_slice(),
+        list,
+    )
 }
 
 // ---- the full hashes of a list

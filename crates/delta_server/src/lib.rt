@@ -7,8 +7,10 @@
 #![tactic(auto)]
 
 pub use answering::{Settings, answer_fetch};
+pub use asked::has_types;
 pub use finding::answer_find;
 pub use laws::tokens_name_versions;
+pub use names::declared_lists;
 pub use naming::{read_token, token_of};
 pub use sets::{addition_sets, removal_sets};
 pub use targets::target;
@@ -17,6 +19,7 @@ pub use updates::{Sent, delta_update, full_update, partial_update, unchanged_upd
 pub use walk::{changes_taken, target_of};
 
 mod answering;
+mod asked;
 mod covered;
 mod finding;
 mod hashes;

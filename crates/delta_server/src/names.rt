@@ -1,8 +1,11 @@
-ghost use Rattle.std.specs.Prelude.{◌≡◌, ◌++◌, map, OnOk, IfOk};
+ghost use Rattle.std.specs.Prelude.{◌≡◌, ◌++◌, map, filter, OnOk, IfOk};
+ghost use Rattle.sb_model.specs.History.{declares};
 ghost use Rattle.sb_model.specs.Names.{entries};
 ghost use Rattle.hash_messages.specs.Matches.{all_names};
 ghost use Rattle.delta_server.specs.Finding.{name_of_types, names_of_threat};
 
+use crate::answering::is_declared;
+use list_versions::History;
 use sb_model::{EntryType, ListName, OutOfMemory, PlatformType, Row, ThreatType};
 use std::alloc::Global;
 
@@ -43,4 +46,18 @@ pub(crate) fn every_name(alloc: Global) -> Result<Row<ListName>, OutOfMemory>
         push_platforms(&mut names, *threat)?;
     }
     Ok(names)
+}
+
+/// The declared lists of a history, in the order of names.
+pub fn declared_lists(alloc: Global, history: &History) -> Result<Row<ListName>, OutOfMemory>
+    ensures { IfOk result (λ lists. lists ≡ filter (declares history.now.versions) all_names) }
+{
+    let names = every_name(alloc)?;
+    let mut lists = Row::new(alloc);
+    for name in names.as_slice() {
+        if is_declared(history, *name) {
+            lists.push(*name)?;
+        }
+    }
+    Ok(lists)
 }
