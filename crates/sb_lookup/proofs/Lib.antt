@@ -1,0 +1,4 @@
+pub mod Asked
+pub mod Members
+pub mod Names
+pub mod Served

@@ -1,0 +1,70 @@
+-- What a list server answers to a look-up (`threatMatches.find` of the Safe Browsing Lookup API, version 4), and to a request for
+-- the names of its lists (`threatLists.list`).
+use Rattle.std.specs.Prelude.{◌≡◌, ℕ, ◌*◌, Bool, true, List, filter, Contains, Some, Ok}
+use Rattle.std.specs.List.{list_any}
+use Rattle.std.specs.Str.{bytes_eq}
+use Rattle.sha2.specs.Sha256.{sha256}
+use Rattle.serde_json.specs.Data.{Data, object, no_members}
+use Rattle.serde_json.specs.Written.{compact_text}
+use Rattle.sb_json.specs.declared.fields.Field.TheVariants as field
+use Rattle.sb_members.specs.Writing.{with_member, list_written}
+use Rattle.sb_model.specs.declared.names.ListName.{ListName}
+use Rattle.sb_model.specs.History.{History, declares, full_hashes_at, version_count}
+use Rattle.hash_prefixes.specs.declared.hashes.FullHash.{FullHash}
+use Rattle.hash_messages.specs.Matches.{all_names}
+use Rattle.hash_messages.specs.Writing.{threat_written, platform_written, entry_written}
+use Rattle.url_canon.specs.Url.{Url}
+use Rattle.url_expressions.specs.Expressions.{expressions_of}
+use Rattle.url_hashes.specs.Hashes.{hashes_of}
+use Rattle.lookup_messages.specs.Lookups.{asks_list, canonical_of_asked, lookup_answer}
+use Rattle.lookup_messages.specs.Messages.{AskedUrls}
+use Rattle.lookup_messages.specs.declared.response.LookupMatch.{LookupMatch}
+use Rattle.lookup_messages.specs.declared.response.LookupResponse.{LookupResponse}
+
+-- the newest full hashes of a list
+abbrev pub newest_hashes : History → ListName → List (List ℕ)
+newest_hashes history list = full_hashes_at history list (version_count history)
+
+-- whether a full hash is one of a list's newest
+abbrev pub is_listed : History → ListName → FullHash → Bool
+is_listed history list hash = list_any (bytes_eq hash.bytes) (newest_hashes history list)
+
+-- whether a list has a URL: the full hash of one of its expressions is one of the list's newest
+abbrev pub has_url : History → ListName → Url → Bool
+has_url history list url = list_any (is_listed history list) (hashes_of url)
+
+-- the declared lists, in the order of names
+abbrev pub declared_names : History → List ListName
+declared_names history = filter (declares history) all_names
+
+-- the answer to a request, each match of which may be kept for so many seconds
+abbrev pub served_lookup : History → ℕ → AskedUrls → LookupResponse
+served_lookup history cache asked = lookup_answer (has_url history) (declared_names history) cache asked
+
+-- A match that the answer has: its URL is asked and has a canonical form, of which the SHA-256 of some expression is among the
+-- newest full hashes of its list, and the list is declared and its three types are asked.
+pub record IsServedMatch (history : History) (cache : ℕ) (asked : AskedUrls) (found : LookupMatch) : Type 0 where
+  pub url_asked : Contains asked.urls found.url
+  pub canonical : Url
+  pub canonical_form : canonical_of_asked found.url ≡ Ok canonical
+  pub declared : declares history found.name ≡ true
+  pub list_asked : asks_list asked found.name ≡ true
+  pub expression : List ℕ
+  pub of_url : Contains (expressions_of canonical) expression
+  pub listed : Contains (newest_hashes history found.name) (sha256 expression)
+  pub cache_told : found.cache ≡ cache * 1000000000
+
+-- ---- the names of lists
+
+abbrev pub name_written : ListName → Data
+name_written name = object (
+    with_member field.PlatformType (Some (platform_written name.platform)) (
+    with_member field.ThreatEntryType (Some (entry_written name.entry)) (
+    with_member field.ThreatType (Some (threat_written name.threat)) no_members)))
+
+abbrev pub names_written : List ListName → Data
+names_written names = object (with_member field.ThreatLists (list_written name_written names) no_members)
+
+-- the compact JSON of the declared lists, in the order of names
+unfoldable pub lists_text : History → List ℕ
+lists_text history = compact_text (names_written (declared_names history))

@@ -1,0 +1,168 @@
+ghost use Rattle.std.specs.Prelude.{◌≡◌, ◌++◌, ◌∷◌, [], map, filter, Ok, Err, IfOk, OnOk, IfSome, IfNone, MatchResult};
+ghost use Rattle.std.specs.List.{flat_map, list_any};
+ghost use Rattle.url_canon.specs.Url.{Url};
+ghost use Rattle.url_hashes.specs.Hashes.{hashes_of};
+ghost use Rattle.lookup_messages.specs.Lookups.{canonical_of_asked, lists_asked, match_of, matches_of_url};
+ghost use Rattle.sb_lookup.specs.Lookups.{has_url, is_listed, served_lookup};
+
+use delta_server::{Settings, declared_lists, has_types};
+use hash_prefixes::FullHash;
+use list_versions::History;
+use lookup_messages::{LookupMatch, LookupRequest, LookupResponse};
+use sb_model::{Duration, ListName, OutOfMemory, Row, Text};
+use std::alloc::Global;
+use url_canon::{UrlFault, canonical};
+use url_hashes::url_hashes;
+
+// Whether the newest full hashes of a list have one of these.
+fn has_one(history: &History, list: ListName, hashes: &[FullHash]) -> bool
+    ensures { result ≡ list_any (is_listed history.now.versions list) hashes.now }
+{
+    hashes.iter().any(|hash| history.holds(list, hash))
+}
+
+// The lists that have one of these full hashes.
+fn lists_with(
+    alloc: Global,
+    history: &History,
+    lists: &[ListName],
+    hashes: &[FullHash],
+) -> Result<Row<ListName>, OutOfMemory>
+    ensures { IfOk result (λ found. found
+        ≡ filter (λ list. list_any (is_listed history.now.versions list) hashes.now) lists.now) }
+{
+    let mut found = Row::new(alloc);
+    for list in lists {
+        if has_one(history, *list, hashes) {
+            found.push(*list)?;
+        }
+    }
+    Ok(found)
+}
+
+// Appends the match of a URL with a list.
+fn push_match(
+    matches: &mut Row<LookupMatch>,
+    cache: u32,
+    url: &Text,
+    name: ListName,
+) -> Result<(), OutOfMemory>
+    ensures { OnOk result (matches.new ≡ matches.old ++ match_of cache url.now name ∷ []) }
+{
+    let url = url.copy()?;
+    let cache = Duration::from_seconds(cache);
+    matches.push(LookupMatch { name, url, cache })
+}
+
+// Appends the matches of a URL with some lists.
+fn push_matches(
+    matches: &mut Row<LookupMatch>,
+    cache: u32,
+    url: &Text,
+    lists: &[ListName],
+) -> Result<(), OutOfMemory>
+    ensures { OnOk result (matches.new ≡ matches.old ++ map (match_of cache url.now) lists.now) }
+{
+    for list in lists {
+        push_match(matches, cache, url, *list)?;
+    }
+    Ok(())
+}
+
+// The full hashes of a URL as it is asked. `None` comes exactly where it has no canonical form.
+fn hashes_of_asked(alloc: Global, url: &Text) -> Result<Option<Row<FullHash>>, OutOfMemory>
+    ensures some { IfOk result (λ found. IfSome found (λ hashes.
+        (canonical : Url) × (canonical_of_asked url.now ≡ Ok canonical) × (hashes ≡ hashes_of canonical))) }
+    ensures none { IfOk result (λ found. IfNone found ((fault : UrlFault) × (canonical_of_asked url.now ≡ Err fault))) }
+{
+    match canonical(alloc, url.as_str().as_bytes()) {
+        Ok(url) => Ok(Some(url_hashes(alloc, &url)?)),
+        Err(UrlFault::OutOfMemory) => Err(OutOfMemory),
+        Err(UrlFault::Empty) => Ok(None),
+        Err(UrlFault::NoHost) => Ok(None),
+        Err(UrlFault::TooLong(_)) => Ok(None),
+    }
+}
+
+// The lists that have a URL as it is asked, in their order: none has one that has no canonical form.
+fn lists_having(
+    alloc: Global,
+    history: &History,
+    lists: &[ListName],
+    url: &Text,
+) -> Result<Row<ListName>, OutOfMemory>
+    ensures { IfOk result (λ found. MatchResult (canonical_of_asked url.now)
+        (λ canonical. found ≡ filter (λ list. has_url history.now.versions list canonical) lists.now)
+        (λ fault. found ≡ [])) }
+{
+    match hashes_of_asked(alloc, url)? {
+        Some(hashes) => lists_with(alloc, history, lists, hashes.as_slice()),
+        None => Ok(Row::new(alloc)),
+    }
+}
+
+// Those of some lists whose three types are asked.
+fn asked_lists(
+    alloc: Global,
+    request: &LookupRequest,
+    lists: &[ListName],
+) -> Result<Row<ListName>, OutOfMemory>
+    ensures { IfOk result (λ asked. asked ≡ lists_asked lists.now request.now) }
+{
+    let mut asked = Row::new(alloc);
+    for list in lists {
+        if has_types(
+            request.threats.as_slice(),
+            request.platforms.as_slice(),
+            request.entries.as_slice(),
+            *list,
+        ) {
+            asked.push(*list)?;
+        }
+    }
+    Ok(asked)
+}
+
+// The matches of some URLs with some lists.
+fn matches_of(
+    alloc: Global,
+    history: &History,
+    cache: u32,
+    lists: &[ListName],
+    urls: &[Text],
+) -> Result<Row<LookupMatch>, OutOfMemory>
+    ensures { IfOk result (λ matches. matches
+        ≡ flat_map (λ url. matches_of_url (has_url history.now.versions) lists.now cache url (canonical_of_asked url)) urls.now) }
+{
+    let mut matches = Row::new(alloc);
+    for url in urls {
+        let having = lists_having(alloc, history, lists, url)?;
+        push_matches(&mut matches, cache, url, having.as_slice())?;
+    }
+    Ok(matches)
+}
+
+/// The answer to a look-up (`threatMatches:find` of the Safe Browsing Lookup API, version 4): for each URL of the request, in
+/// order, that has a canonical form, and each declared list, in the order of names, whose three types are asked, one match if the
+/// list's newest full hashes have the SHA-256 of one of the URL's expressions. The match has the URL as it was asked, and may be
+/// kept for the cache of the settings, in seconds. Each URL is made canonical once and each expression hashed once, however many
+/// lists there are.
+pub fn answer_lookup(
+    alloc: Global,
+    history: &History,
+    settings: &Settings,
+    request: &LookupRequest,
+) -> Result<LookupResponse, OutOfMemory>
+    ensures { IfOk result (λ response. response ≡ served_lookup history.now.versions settings.now.cache request.now) }
+{
+    let declared = declared_lists(alloc, history)?;
+    let lists = asked_lists(alloc, request, declared.as_slice())?;
+    let matches = matches_of(
+        alloc,
+        history,
+        settings.cache,
+        lists.as_slice(),
+        request.urls.as_slice(),
+    )?;
+    Ok(LookupResponse { matches })
+}
