@@ -18,10 +18,13 @@ use Rattle.hash_messages.specs.Faults.{fault_of_find_request}
 use Rattle.hash_messages.specs.Messages.{AskedHashes}
 use Rattle.hash_messages.specs.Reading.{ReadsFindRequest}
 use Rattle.sb_service.specs.declared.command.MessageKind.{MessageKind}
-use Rattle.sb_service.specs.declared.command.MessageKind.TheVariants.{Fetch, Find}
+use Rattle.lookup_messages.specs.Faults.{fault_of_lookup}
+use Rattle.lookup_messages.specs.Messages.{AskedUrls}
+use Rattle.lookup_messages.specs.Reading.{ReadsLookup}
+use Rattle.sb_service.specs.declared.command.MessageKind.TheVariants.{Fetch, Find, Lookup}
 use Rattle.delta_server.specs.declared.answering.Settings.{Settings}
-use Rattle.sb_service.specs.Printed.{Reply, answer_line, reply_to_fetch, reply_to_find, reply_with}
-use Rattle.sb_service.specs.Answer.{IsAnswerOf, AfterInput, AfterJournal, InputOutcome, IsAnswerRun, IsFetchOf, IsFindOf, IsInputRun, IsReplied, IsReplyTo, IsWritten, HasNoFault, IsStatus, most_body}
+use Rattle.sb_service.specs.Printed.{Reply, answer_line, reply_to_fetch, reply_to_find, reply_to_lookup, reply_with}
+use Rattle.sb_service.specs.Answer.{IsAnswerOf, AfterInput, AfterJournal, InputOutcome, IsAnswerRun, IsFetchOf, IsFindOf, IsLookupOf, IsInputRun, IsReplied, IsReplyTo, IsWritten, HasNoFault, IsStatus, most_body}
 use Rattle.sb_service.proofs.ConnectionFacts.{ReadsOneWay, one_message}
 use Rattle.sb_service.proofs.Loads.{IsLoadedAs, loaded_as}
 
@@ -30,6 +33,7 @@ pub record ReadsOrFails : Type 0 where
   pub once : ReadsOneWay
   pub fetch : (value : Data) → ((message : Request) × ReadsRequest value message) ↔ (fault_of_request value ≡ None)
   pub find : (value : Data) → ((message : AskedHashes) × ReadsFindRequest value message) ↔ (fault_of_find_request value ≡ None)
+  pub lookup : (value : Data) → ((message : AskedUrls) × ReadsLookup value message) ↔ (fault_of_lookup value ≡ None)
 
 -- ---- the reading of a body
 
@@ -48,6 +52,10 @@ one_find : ReadsOrFails → (body : List ℕ) (request : AskedHashes) (reading :
 one_find law body request (Ok other) reads h = ap Ok (one_message ReadsFindRequest law.once.hashes body other request h reads)
 one_find law body request (Err fault) reads h = absurd (no_fault ReadsFindRequest fault_of_find_request law.find body request fault reads h)
 
+one_lookup : ReadsOrFails → (body : List ℕ) (request : AskedUrls) (reading : Result AskedUrls MessageFault) → IsTextOf ReadsLookup body request → IsLookupOf body reading → reading ≡ Ok request
+one_lookup law body request (Ok other) reads h = ap Ok (one_message ReadsLookup law.once.lookups body other request h reads)
+one_lookup law body request (Err fault) reads h = absurd (no_fault ReadsLookup fault_of_lookup law.lookup body request fault reads h)
+
 -- the reply to a body that has an answer
 reply_is : ReadsOrFails → (versions : History) (times : Settings) (asked : MessageKind) (body text : List ℕ) (reply : Reply) → IsAnswerOf versions times asked body text → IsReplyTo versions times asked body reply
     → reply ≡ reply_with text
@@ -55,6 +63,8 @@ reply_is law versions times Fetch body text reply (message, reads, is) (reading,
     same ∙ ap (reply_to_fetch versions times) (one_fetch law body message reading reads read) ∙ ap reply_with (sym is)
 reply_is law versions times Find body text reply (message, reads, is) (reading, read, same) =
     same ∙ ap (reply_to_find versions times) (one_find law body message reading reads read) ∙ ap reply_with (sym is)
+reply_is law versions times Lookup body text reply (message, reads, is) (reading, read, same) =
+    same ∙ ap (reply_to_lookup versions times) (one_lookup law body message reading reads read) ∙ ap reply_with (sym is)
 
 -- ---- what is written with status 0
 

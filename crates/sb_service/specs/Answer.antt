@@ -18,13 +18,15 @@ use Rattle.update_messages.specs.Messages.{Request}
 use Rattle.hash_messages.specs.Faults.{fault_of_find_request}
 use Rattle.hash_messages.specs.Messages.{AskedHashes}
 use Rattle.hash_messages.specs.Reading.{ReadsFindRequest}
+use Rattle.lookup_messages.specs.Faults.{fault_of_lookup}
+use Rattle.lookup_messages.specs.Messages.{AskedUrls}
+use Rattle.lookup_messages.specs.Reading.{ReadsLookup}
 use Rattle.sb_json.specs.declared.faults.MessageFault.{MessageFault}
 use Rattle.sb_service.specs.declared.command.MessageKind.{MessageKind}
-use Rattle.sb_service.specs.declared.command.MessageKind.TheVariants.{Fetch, Find}
-use Rattle.sb_outside.specs.declared.links.Kind.TheVariants as session
+use Rattle.sb_service.specs.declared.command.MessageKind.TheVariants.{Fetch, Find, Lookup}
 use Rattle.delta_server.specs.declared.answering.Settings.{Settings}
-use Rattle.sb_service.specs.Connection.{IsAnswerText}
-use Rattle.sb_service.specs.Printed.{Reply, refusal_of, reply_to_fetch, reply_to_find}
+use Rattle.sb_service.specs.Connection.{IsUpdatesText, IsMatchesText, IsLookupsText}
+use Rattle.sb_service.specs.Printed.{Reply, refusal_of, reply_to_fetch, reply_to_find, reply_to_lookup}
 
 -- each exit status that a run of the server can have
 abbrev pub IsStatus : ℕ → Type 0
@@ -81,10 +83,16 @@ abbrev pub IsFindOf : List ℕ → Result AskedHashes MessageFault → Type 0
 IsFindOf body (Ok request) = IsTextOf ReadsFindRequest body request
 IsFindOf body (Err fault) = fault_of_text fault_of_find_request (value_of body) ≡ Some fault
 
+-- A body is read as a request to look URLs up, or has a first fault.
+abbrev pub IsLookupOf : List ℕ → Result AskedUrls MessageFault → Type 0
+IsLookupOf body (Ok request) = IsTextOf ReadsLookup body request
+IsLookupOf body (Err fault) = fault_of_text fault_of_lookup (value_of body) ≡ Some fault
+
 -- The answer to the body of a message is the one that a connection gives.
 abbrev pub IsAnswerOf : History → Settings → MessageKind → List ℕ → List ℕ → Type 0
-IsAnswerOf versions times Fetch body text = IsAnswerText versions times session.Update body text
-IsAnswerOf versions times Find body text = IsAnswerText versions times session.Find body text
+IsAnswerOf versions times Fetch body text = IsUpdatesText versions times body text
+IsAnswerOf versions times Find body text = IsMatchesText versions times body text
+IsAnswerOf versions times Lookup body text = IsLookupsText versions times body text
 
 -- the reply to a body that asks for this, by a server that has this history and these times
 abbrev pub IsReplyTo : History → Settings → MessageKind → List ℕ → Reply → Type 0
@@ -92,6 +100,8 @@ IsReplyTo versions times Fetch body reply =
     (reading : Result Request MessageFault) × IsFetchOf body reading × (reply ≡ reply_to_fetch versions times reading)
 IsReplyTo versions times Find body reply =
     (reading : Result AskedHashes MessageFault) × IsFindOf body reading × (reply ≡ reply_to_find versions times reading)
+IsReplyTo versions times Lookup body reply =
+    (reading : Result AskedUrls MessageFault) × IsLookupOf body reading × (reply ≡ reply_to_lookup versions times reading)
 
 -- A body was replied to.
 pub record IsReplied (versions : History) (times : Settings) (asked : MessageKind) (body : List ℕ) (status : ℕ)

@@ -11,7 +11,7 @@ use Rattle.sb_service.specs.declared.command.DoorRoom.{DoorRoom}
 use Rattle.sb_service.specs.declared.command.GenerateLine.{GenerateLine}
 use Rattle.sb_service.specs.declared.command.Load.{Load}
 use Rattle.sb_service.specs.declared.command.MessageKind.{MessageKind}
-use Rattle.sb_service.specs.declared.command.MessageKind.TheVariants.{Fetch, Find}
+use Rattle.sb_service.specs.declared.command.MessageKind.TheVariants.{Fetch, Find, Lookup}
 
 abbrev pub needed : Text → CommandOption
 needed name = record { name = name; kind = Needed }
@@ -73,9 +73,13 @@ settings_given named =
     (seconds_given (codes "find-wait") 0 named))
     (seconds_given (codes "wait") 1800 named)
 
--- the kind of the message: `fetch` for updates, or `find` for full hashes
+-- the kind of the message: `fetch` for updates, `find` for full hashes, or `lookup` for URLs
 abbrev pub kind_of : Text → Option MessageKind
-kind_of text = if bytes_eq text (codes "fetch") then Some Fetch else if bytes_eq text (codes "find") then Some Find else None
+kind_of text =
+    if bytes_eq text (codes "fetch") then Some Fetch
+    else if bytes_eq text (codes "find") then Some Find
+    else if bytes_eq text (codes "lookup") then Some Lookup
+    else None
 
 abbrev pub kind_given : List (Text × Text) → Option MessageKind
 kind_given named = option_and_then kind_of (value_among (codes "kind") named)

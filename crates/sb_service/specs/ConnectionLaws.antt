@@ -4,10 +4,11 @@ use Rattle.sb_model.specs.History.{History}
 use Rattle.http_edge.specs.declared.messages.Allow.{Allow}
 use Rattle.http_edge.specs.declared.messages.HttpRequest.{HttpRequest}
 use Rattle.http_edge.specs.declared.messages.Status.{Status}
-use Rattle.http_edge.specs.declared.messages.Status.TheVariants.{BadRequest}
+use Rattle.http_edge.specs.declared.messages.Status.TheVariants.{Success, BadRequest}
 use Rattle.http_serving.specs.Law as serving
 use Rattle.http_serving.specs.Routes.{AsksAt}
 use Rattle.delta_server.specs.declared.answering.Settings.{Settings}
+use Rattle.sb_lookup.specs.Lookups.{lists_text}
 use Rattle.sb_service.specs.Connection.{list_routes, IsCauseAt, IsResponseTo, IsTextAt}
 
 -- No two statuses, no two bodies and no two causes are right for one request.
@@ -24,3 +25,10 @@ TellsFirstFault history times request =
     (place : ℕ) → AsksAt list_routes request place → ((text : List ℕ) → ¬ IsTextAt history times place request.body text)
     → (status : Status) (allow : Allow) (body cause : List ℕ) → IsResponseTo history times request status allow body cause
     → (status ≡ BadRequest) × (body ≡ []) × IsCauseAt place request.body cause
+
+-- A request for the names of lists is answered 200 with them, whatever its body, and no cause is told of it.
+abbrev pub AlwaysTellsLists : History → Settings → HttpRequest → Type 0
+AlwaysTellsLists history times request =
+    AsksAt list_routes request 3
+    → (status : Status) (allow : Allow) (body cause : List ℕ) → IsResponseTo history times request status allow body cause
+    → (status ≡ Success) × (body ≡ lists_text history) × (cause ≡ [])

@@ -8,8 +8,9 @@ use Rattle.list_versions.specs.declared.fault.JournalFault.{JournalFault}
 use Rattle.list_versions.specs.Printed.{cause_text as journal_cause}
 use Rattle.update_messages.specs.Messages.{Request}
 use Rattle.hash_messages.specs.Messages.{AskedHashes}
+use Rattle.lookup_messages.specs.Messages.{AskedUrls}
 use Rattle.delta_server.specs.declared.answering.Settings.{Settings}
-use Rattle.sb_service.specs.Connection.{updates_text, matches_text}
+use Rattle.sb_service.specs.Connection.{updates_text, matches_text, lookups_text}
 
 -- why a journal is refused
 abbrev pub journal_line : JournalFault → List ℕ
@@ -39,7 +40,7 @@ reply_with text = record { text = answer_line text; status = 0 }
 abbrev pub reply_because : List ℕ → Reply
 reply_because cause = record { text = request_line cause; status = 5 }
 
--- A body is read as a request for updates or for full hashes, or has a first fault.
+-- A body is read as a request for updates, for full hashes or to look URLs up, or has a first fault.
 abbrev pub reply_to_fetch : History → Settings → Result Request MessageFault → Reply
 reply_to_fetch versions times (Ok request) = reply_with (updates_text versions times request)
 reply_to_fetch versions times (Err fault) = reply_because (message_cause fault)
@@ -47,3 +48,7 @@ reply_to_fetch versions times (Err fault) = reply_because (message_cause fault)
 abbrev pub reply_to_find : History → Settings → Result AskedHashes MessageFault → Reply
 reply_to_find versions times (Ok request) = reply_with (matches_text versions times request)
 reply_to_find versions times (Err fault) = reply_because (message_cause fault)
+
+abbrev pub reply_to_lookup : History → Settings → Result AskedUrls MessageFault → Reply
+reply_to_lookup versions times (Ok request) = reply_with (lookups_text versions times request)
+reply_to_lookup versions times (Err fault) = reply_because (message_cause fault)

@@ -119,6 +119,8 @@ pub(crate) enum MessageKind {
     Fetch,
     /// A request for full hashes (`fullHashes:find`).
     Find,
+    /// A request to look URLs up (`threatMatches:find`).
+    Lookup,
 }
 
 /// How large a load is, and what it is made from.
@@ -223,6 +225,7 @@ fn kind_of(word: &str) -> Option<MessageKind>
     match word {
         "fetch" => Some(MessageKind::Fetch),
         "find" => Some(MessageKind::Find),
+        "lookup" => Some(MessageKind::Lookup),
         _ => None,
     }
 }

@@ -10,8 +10,9 @@ ghost use Rattle.http_serving.specs.Law.{HasOneAnswer};
 ghost use Rattle.http_serving.specs.Serving.{unavailable_text, AnswersAtMost, IsWholeOrFault, Serves};
 ghost use Rattle.http_serving.specs.Written.{IsRightAnswer};
 ghost use Rattle.delta_server.specs.declared.answering.Settings.{Settings as Times};
-ghost use Rattle.sb_service.specs.Connection.{list_routes, ListServed, matches_text, updates_text, IsResponseAt, IsResponseTo, HasGoodRequest};
-ghost use Rattle.sb_service.specs.ConnectionLaws.{HasOneResponse, IsAnsweredAsRead, TellsFirstFault};
+ghost use Rattle.sb_lookup.specs.Lookups.{lists_text};
+ghost use Rattle.sb_service.specs.Connection.{list_routes, lists_path, lookups_path, lookups_text, matches_text, route_at, updates_text, HasGoodRequest, IsResponseAt, IsResponseFor, IsResponseTo, ListServed};
+ghost use Rattle.sb_service.specs.ConnectionLaws.{AlwaysTellsLists, HasOneResponse, IsAnsweredAsRead, TellsFirstFault};
 ghost use Rattle.sb_service.specs.ConnectionSteps.{IsBareRefusal, IsSentAs, MayBeKept};
 ghost use Rattle.update_messages.specs.Messages.{Request};
 ghost use Rattle.update_messages.specs.Reading.{ReadsRequest, IsTextOf};
@@ -27,7 +28,11 @@ use http_serving::{
     answers_follow_requests, find_route, requests_have_one_answer, write_out,
 };
 use list_versions::History;
+use lookup_messages::{
+    LookupRequest, lookup_values_read_one_way, read_lookup, write_lookup_matches,
+};
 use sb_json::{MessageFault, push_message_cause};
+use sb_lookup::{answer_lookup, write_lists};
 use sb_model::{Bytes, OutOfMemory, Row, names_go_by_their_codes};
 use sb_outside::{Kind, Wire};
 use std::alloc::Global;
@@ -38,6 +43,47 @@ use update_messages::{
 
 /// The most bytes that the body of a kept answer has: 16 MiB.
 const MOST_KEPT: usize = 16_777_216;
+
+/// The path of requests to look URLs up.
+#[tactic(auto, unfolding(crate::specs::Connection::lookups_path))]
+fn lookups_path() -> &'static str
+    ensures { result.now ≡ lookups_path }
+{
+    "/v4/threatMatches:find"
+}
+
+/// The path of requests for the names of lists.
+#[tactic(auto, unfolding(crate::specs::Connection::lists_path))]
+fn lists_path() -> &'static str
+    ensures { result.now ≡ lists_path }
+{
+    "/v4/threatLists"
+}
+
+/// What a list server is asked for.
+#[derive(Clone, Copy, Debug, PartialEq, Eq)]
+pub(crate) enum ListRoute {
+    /// Updates (`threatListUpdates:fetch`).
+    Updates,
+    /// Full hashes (`fullHashes:find`).
+    Hashes,
+    /// Which of some URLs are on its lists (`threatMatches:find`).
+    Lookups,
+    /// The names of its lists (`threatLists`).
+    Lists,
+}
+
+/// The route at a place of the table.
+fn route_at(place: usize) -> ListRoute
+    ensures { result ≡ route_at place }
+{
+    match place {
+        0 => ListRoute::Updates,
+        1 => ListRoute::Hashes,
+        2 => ListRoute::Lookups,
+        _ => ListRoute::Lists,
+    }
+}
 
 /// The response to a message that asks for updates.
 fn answer_message(
@@ -112,12 +158,82 @@ fn answer_hashes_body(
     settings: &Settings,
     request: &HttpRequest,
 ) -> Result<Response, OutOfMemory>
-    ensures { IfOk result (λ response. IsResponseAt history.now.versions settings.now 1 request.now
+    ensures { IfOk result (λ response. IsResponseFor history.now.versions settings.now ListRoute.Hashes request.now
         response.status response.allow response.body response.cause) }
 {
     match read_find(alloc, request.body.as_slice()) {
         Ok(message) => answer_hashes(alloc, history, settings, &message),
         Err(fault) => refuse_body(alloc, &fault),
+    }
+}
+
+/// The response to a message that asks which URLs are on the lists.
+fn answer_lookups(
+    alloc: Global,
+    history: &History,
+    settings: &Settings,
+    message: &LookupRequest,
+) -> Result<Response, OutOfMemory>
+    ensures status { IfOk result (λ response. response.status ≡ Status.Success) }
+    ensures body { IfOk result (λ response. response.body ≡ lookups_text history.now.versions settings.now message.now) }
+    ensures cause { IfOk result (λ response. response.cause ≡ []) }
+{
+    let answer = answer_lookup(alloc, history, settings, message)?;
+    Ok(Response {
+        status: Status::Success,
+        allow: Allow::Post,
+        body: write_lookup_matches(alloc, &answer)?,
+        cause: Bytes::new(alloc),
+    })
+}
+
+/// The response to a request to look URLs up.
+fn answer_lookups_body(
+    alloc: Global,
+    history: &History,
+    settings: &Settings,
+    request: &HttpRequest,
+) -> Result<Response, OutOfMemory>
+    ensures { IfOk result (λ response. IsResponseFor history.now.versions settings.now ListRoute.Lookups request.now
+        response.status response.allow response.body response.cause) }
+{
+    match read_lookup(alloc, request.body.as_slice()) {
+        Ok(message) => answer_lookups(alloc, history, settings, &message),
+        Err(fault) => refuse_body(alloc, &fault),
+    }
+}
+
+/// The response to a request for the names of lists.
+fn answer_lists(alloc: Global, history: &History) -> Result<Response, OutOfMemory>
+    ensures status { IfOk result (λ response. response.status ≡ Status.Success) }
+    ensures body { IfOk result (λ response. response.body ≡ lists_text history.now.versions) }
+    ensures cause { IfOk result (λ response. response.cause ≡ []) }
+{
+    Ok(Response {
+        status: Status::Success,
+        allow: Allow::Get,
+        body: write_lists(alloc, history)?,
+        cause: Bytes::new(alloc),
+    })
+}
+
+/// The response to a request that is answered without a look at what is kept.
+fn answer_anew(
+    alloc: Global,
+    history: &History,
+    settings: &Settings,
+    route: ListRoute,
+    request: &HttpRequest,
+) -> Result<Response, OutOfMemory>
+    requires { route ≢ ListRoute.Updates }
+    ensures { IfOk result (λ response. IsResponseFor history.now.versions settings.now route request.now
+        response.status response.allow response.body response.cause) }
+{
+    match route {
+        ListRoute::Updates => unreachable!(),
+        ListRoute::Hashes => answer_hashes_body(alloc, history, settings, request),
+        ListRoute::Lookups => answer_lookups_body(alloc, history, settings, request),
+        ListRoute::Lists => answer_lists(alloc, history),
     }
 }
 
@@ -179,7 +295,7 @@ fn answer_wishes(
     requires reads { IsTextOf ReadsRequest request.now.body message.now }
     requires only { (other : Request) → IsTextOf ReadsRequest request.now.body other → message.now ≡ other }
     requires kept { AreKeptOf history.now.versions settings.now kept.old }
-    ensures right { IfOk result (λ answer. IsRightAnswer (IsResponseAt history.now.versions settings.now 0 request.now) answer) }
+    ensures right { IfOk result (λ answer. IsRightAnswer (IsResponseFor history.now.versions settings.now ListRoute.Updates request.now) answer) }
     ensures kept { AreKeptOf history.now.versions settings.now kept.new }
 {
     names_go_by_their_codes();
@@ -207,7 +323,7 @@ fn answer_updates(
     request: &HttpRequest,
 ) -> Result<Answer, OutOfMemory>
     requires { AreKeptOf history.now.versions settings.now kept.old }
-    ensures right { IfOk result (λ answer. IsRightAnswer (IsResponseAt history.now.versions settings.now 0 request.now) answer) }
+    ensures right { IfOk result (λ answer. IsRightAnswer (IsResponseFor history.now.versions settings.now ListRoute.Updates request.now) answer) }
     ensures kept { AreKeptOf history.now.versions settings.now kept.new }
 {
     let asked = request.body.as_slice();
@@ -237,9 +353,9 @@ fn answer_at(
     ensures right { IfOk result (λ answer. IsRightAnswer (IsResponseAt history.now.versions settings.now place request.now) answer) }
     ensures kept { AreKeptOf history.now.versions settings.now kept.new }
 {
-    match place {
-        0 => answer_updates(alloc, history, settings, kept, request),
-        _ => match answer_hashes_body(alloc, history, settings, request) {
+    match route_at(place) {
+        ListRoute::Updates => answer_updates(alloc, history, settings, kept, request),
+        route => match answer_anew(alloc, history, settings, route, request) {
             Ok(response) => Ok(Answer::Made(response)),
             Err(OutOfMemory) => Err(OutOfMemory),
         },
@@ -296,6 +412,14 @@ impl<'a> Answers for ListServer<'a> {
                     path: path_of(Kind::Find).as_bytes(),
                     allow: Allow::Post,
                 },
+                Route {
+                    path: lookups_path().as_bytes(),
+                    allow: Allow::Post,
+                },
+                Route {
+                    path: lists_path().as_bytes(),
+                    allow: Allow::Get,
+                },
             ],
         )
     }
@@ -322,6 +446,7 @@ impl<'a> Answers for ListServer<'a> {
     {
         values_read_one_way();
         find_values_read_one_way();
+        lookup_values_read_one_way();
     }
 
     ghost stays_itself = { λ server. refl };
@@ -329,13 +454,13 @@ impl<'a> Answers for ListServer<'a> {
 
 /// Reads one request and writes one response (RFC 9112).
 ///
-/// A POST request to `/v4/threatListUpdates:fetch` is answered 200 with the updates of those lists
-/// that it asks for and that are declared, and one to `/v4/fullHashes:find` with the full hashes
-/// that it asks for. Other responses have no body: 400 where the request is malformed or cut off,
-/// and where its body is no message; 404 for another path; 405 for another method; 411 where the length of the body is not given; 413 where it is more than
-/// 1,048,576 bytes; 431 where the head is too long; 503 if memory is refused, of which a front may be
-/// written as with any other. What follows a `?` in the target is not looked at, nor what follows the
-/// request.
+/// A POST request to `/v4/threatListUpdates:fetch` is answered 200 with the updates of those lists that it asks for and that
+/// are declared, one to `/v4/fullHashes:find` with the full hashes that it asks for, and one to `/v4/threatMatches:find` with
+/// those of its URLs that are on the lists. A GET request for `/v4/threatLists` is answered 200 with the names of the lists.
+/// Other responses have no body: 400 where the request is malformed or cut off, and where its body is no message; 404 for
+/// another path; 405 for another method; 411 where the length of the body is not given; 413 where it is more than 1,048,576
+/// bytes; 431 where the head is too long; 503 if memory is refused, of which a front may be written as with any other. What
+/// follows a `?` in the target is not looked at, nor what follows the request.
 pub fn serve_connection<T: Wire>(
     alloc: Global,
     history: &History,
@@ -376,13 +501,14 @@ pub fn serve_connection<T: Wire>(
     http_serving::serve_connection(alloc, &mut server, wire)
 }
 
-/// A request has one response, bytes that begin with a whole request are answered as that request is, and of a body without
-/// an answer the cause of its 400 tells the first fault.
+/// A request has one response, bytes that begin with a whole request are answered as that request is, of a body without an
+/// answer the cause of its 400 tells the first fault, and the names of lists are told whatever the body.
 pub fn requests_have_one_response()
     ensures one { (history : Versions) (times : Times) (request : HttpRequest) → HasOneResponse history times request }
     ensures whole { (history : Versions) (times : Times) (bytes : List ℕ) (request : HttpRequest)
         → IsAnsweredAsRead history times bytes request }
     ensures told { (history : Versions) (times : Times) (request : HttpRequest) → TellsFirstFault history times request }
+    ensures lists { (history : Versions) (times : Times) (request : HttpRequest) → AlwaysTellsLists history times request }
 {
     requests_have_one_answer::<ListServer>();
     answers_follow_requests::<ListServer>();

@@ -3,10 +3,12 @@ ghost use Rattle.sb_json.specs.Printed.{cause_text as message_cause};
 ghost use Rattle.list_versions.specs.Lines.{newline};
 ghost use Rattle.update_messages.specs.Writing.{spelling_of_response};
 ghost use Rattle.hash_messages.specs.Writing.{spelling_of_find_response};
+ghost use Rattle.lookup_messages.specs.Writing.{spelling_of_lookup_response};
 ghost use Rattle.sb_service.specs.Printed.{answer_line, journal_line as line_of_journal, request_line};
 
 use hash_messages::{FindResponse, write_matches};
 use list_versions::{JournalFault, push_journal_cause};
+use lookup_messages::{LookupResponse, write_lookup_matches};
 use sb_json::{MessageFault, push_message_cause};
 use sb_model::{Bytes, OutOfMemory};
 use std::alloc::Global;
@@ -48,6 +50,15 @@ pub(crate) fn matches_line(alloc: Global, response: &FindResponse) -> Result<Byt
     ensures { IfOk result (λ line. line ≡ answer_line (spelling_of_find_response response.now)) }
 {
     let mut line = write_matches(alloc, response)?;
+    line.push(b'\n')?;
+    Ok(line)
+}
+
+/// The line of an answer to a request to look URLs up.
+pub(crate) fn lookups_line(alloc: Global, response: &LookupResponse) -> Result<Bytes, OutOfMemory>
+    ensures { IfOk result (λ line. line ≡ answer_line (spelling_of_lookup_response response.now)) }
+{
+    let mut line = write_lookup_matches(alloc, response)?;
     line.push(b'\n')?;
     Ok(line)
 }

@@ -2,15 +2,17 @@ ghost use Rattle.std.specs.Prelude.{◌≡◌, ◌≢◌, IfOk};
 ghost use Rattle.sb_json.specs.Printed.{cause_text as message_cause};
 ghost use Rattle.sb_service.specs.Printed.{refusal_of, reply_because, reply_with};
 ghost use Rattle.sb_service.specs.Answer.{IsReplyTo};
-ghost use Rattle.sb_service.specs.Connection.{matches_text, updates_text};
+ghost use Rattle.sb_service.specs.Connection.{lookups_text, matches_text, updates_text};
 
 use crate::command::MessageKind;
-use crate::printing::{journal_line, matches_line, message_line, response_line};
+use crate::printing::{journal_line, lookups_line, matches_line, message_line, response_line};
 use crate::stop::Stop;
 use delta_server::{Settings, answer_fetch, answer_find};
 use hash_messages::{FindRequest, read_find};
 use list_versions::{History, JournalFault};
+use lookup_messages::{LookupRequest, read_lookup};
 use sb_json::MessageFault;
+use sb_lookup::answer_lookup;
 use sb_model::{Bytes, OutOfMemory};
 use std::alloc::Global;
 use std::marker::Model;
@@ -122,6 +124,38 @@ fn reply_to_find(
     }
 }
 
+/// The reply to a request to look URLs up.
+fn reply_with_lookups(
+    alloc: Global,
+    history: &History,
+    settings: &Settings,
+    request: &LookupRequest,
+) -> Result<Reply, OutOfMemory>
+    ensures { IfOk result (λ reply. reply ≡ reply_with (lookups_text history.now.versions settings.now request.now)) }
+{
+    let response = answer_lookup(alloc, history, settings, request)?;
+    let text = lookups_line(alloc, &response)?;
+    Ok(Reply {
+        text,
+        stop: Stop::Done,
+    })
+}
+
+/// The reply to the body of a request to look URLs up.
+fn reply_to_lookup(
+    alloc: Global,
+    history: &History,
+    settings: &Settings,
+    body: &[u8],
+) -> Result<Reply, OutOfMemory>
+    ensures { IfOk result (λ reply. IsReplyTo history.now.versions settings.now MessageKind.Lookup body.now reply) }
+{
+    match read_lookup(alloc, body) {
+        Ok(request) => reply_with_lookups(alloc, history, settings, &request),
+        Err(fault) => refuse_body(alloc, &fault),
+    }
+}
+
 /// The reply to the body of a request of a kind.
 pub(crate) fn reply_to_body(
     alloc: Global,
@@ -135,5 +169,6 @@ pub(crate) fn reply_to_body(
     match kind {
         MessageKind::Fetch => reply_to_fetch(alloc, history, settings, body),
         MessageKind::Find => reply_to_find(alloc, history, settings, body),
+        MessageKind::Lookup => reply_to_lookup(alloc, history, settings, body),
     }
 }

@@ -19,6 +19,7 @@ use crate::serve::serve;
 use crate::stop::{Stop, status_of};
 use hash_messages::{find_values_read_one_way, find_values_read_or_have_a_fault};
 use list_versions::cuts_make_no_difference;
+use lookup_messages::{lookup_values_read_one_way, lookup_values_read_or_have_a_fault};
 use sb_model::OutOfMemory;
 use sb_outside::{Door, Failed, Sink, Source, write_all};
 use std::alloc::Global;
@@ -26,8 +27,8 @@ use update_messages::{values_read_one_way, values_read_or_have_a_fault};
 
 /// What is printed where the words are no command line.
 pub const USAGE: &str = "usage: sblistd COMMAND\n\n  \
-    sblistd answer --journal PATH --kind fetch|find [--wait S] [--find-wait S] [--cache S] [--negative S]\n      \
-    reads a request for updates or for full hashes, and writes the answer from the lists of a journal\n  \
+    sblistd answer --journal PATH --kind fetch|find|lookup [--wait S] [--find-wait S] [--cache S] [--negative S]\n      \
+    reads a request for updates, for full hashes or to look URLs up, and writes the answer from the lists of a journal\n  \
     sblistd serve --journal PATH --listen HOST:PORT [--connections N] [--peers N] [--answers MIB] [--wait S] [--find-wait S] [--cache S] [--negative S]\n      \
     serves the lists of a journal over HTTP; without --wait and --find-wait, fetches are to wait 1800 seconds and finds none\n  \
     sblistd generate [--urls] N SEED\n      \
@@ -98,8 +99,8 @@ fn run_command<J: Source, S: Source, O: Sink, D: Door>(
 /// Runs one command of the list server, and answers the exit status. The first word is the program's name, `sblistd`.
 ///
 /// `answer` loads the journal, reads the input to its next end, takes it as the body of a fetch request
-/// (`threatListUpdates:fetch`) or of a find request (`fullHashes:find`), by the kind that the words name, and writes the body
-/// of the answer and a newline. The door is not used.
+/// (`threatListUpdates:fetch`), of a find request (`fullHashes:find`) or of a request to look URLs up (`threatMatches:find`),
+/// by the kind that the words name, and writes the body of the answer and a newline. The door is not used.
 ///
 /// `serve` loads the journal and takes connections from the door. Before each it reads the journal to its next end; each
 /// is answered as `serve_connection` says and given back to the door in every case, and then its line is written:
@@ -115,7 +116,7 @@ fn run_command<J: Source, S: Source, O: Sink, D: Door>(
 /// | 1 | exactly where the words are no command line: the usage text is written |
 /// | 2 | only where the journal's or the input's count of faults rose |
 /// | 3 | only where the output's count of faults rose |
-/// | 5 | exactly where the body has no reading or names a list that is not declared: `request CAUSE` is written |
+/// | 5 | exactly where the body has no reading: `request CAUSE` is written |
 /// | 6 | exactly where the input passes 1,048,576 bytes |
 /// | 7 | exactly where the journal has a bad line: `journal CAUSE` is written. Of `exercise`, only where the made journal passes a limit: nothing is written |
 /// | 8 | where memory was refused, by a connection too |
@@ -202,6 +203,8 @@ pub fn run_server<J: Source, S: Source, O: Sink, D: Door>(
     values_read_or_have_a_fault();
     find_values_read_one_way();
     find_values_read_or_have_a_fault();
+    lookup_values_read_one_way();
+    lookup_values_read_or_have_a_fault();
     cuts_make_no_difference();
     match command_of(alloc, words) {
         Ok(Some(command)) => run_command(alloc, command, journal, input, out, door),

@@ -1,4 +1,4 @@
-use Rattle.sb_service.proofs.ConnectionFacts.{first_fault_told}
+use Rattle.sb_service.proofs.ConnectionFacts.{first_fault_told, lists_told}
 use Rattle.sb_service.proofs.connection.requests_have_one_response.Goals as goal
 
 pub returns-clause-one : goal.returns-clause-one
@@ -11,3 +11,6 @@ returns-clause-whole c = λ history times bytes request.
 
 pub returns-clause-told : goal.returns-clause-told
 returns-clause-told c = λ history times request. first_fault_told history times request
+
+pub returns-clause-lists : goal.returns-clause-lists
+returns-clause-lists c = λ history times request. lists_told history times request

@@ -13,9 +13,10 @@ returns-in-Ok-Some-clause-answers g c answer words other =
 pub returns-in-Ok-Some-clause-complete : goal.returns-in-Ok-Some-clause-complete
 returns-in-Ok-Some-clause-complete g c answer pieces bodies kept text words told is given short has journal input out =
     let law : ReadsOrFails = record {
-      once = record { updates = c.values_read_one_way.ensures.request; hashes = c.find_values_read_one_way.ensures.request };
+      once = record { updates = c.values_read_one_way.ensures.request; hashes = c.find_values_read_one_way.ensures.request; lookups = c.lookup_values_read_one_way.ensures.request };
       fetch = c.values_read_or_have_a_fault.ensures.request;
       find = c.find_values_read_or_have_a_fault.ensures.request;
+      lookup = c.lookup_values_read_or_have_a_fault.ensures.request;
     } in
     let counts = c.run_command.ensures.counts in
     zero_or_memory c.run_command.result c.run_command.ensures.statuses (λ other.
@@ -27,9 +28,10 @@ returns-in-Ok-Some-clause-complete g c answer pieces bodies kept text words told
 pub returns-in-Ok-Some-clause-served : goal.returns-in-Ok-Some-clause-served
 returns-in-Ok-Some-clause-served g c answer pieces bodies kept text words told is given has zero =
     let law : ReadsOrFails = record {
-      once = record { updates = c.values_read_one_way.ensures.request; hashes = c.find_values_read_one_way.ensures.request };
+      once = record { updates = c.values_read_one_way.ensures.request; hashes = c.find_values_read_one_way.ensures.request; lookups = c.lookup_values_read_one_way.ensures.request };
       fetch = c.values_read_or_have_a_fault.ensures.request;
       find = c.find_values_read_or_have_a_fault.ensures.request;
+      lookup = c.lookup_values_read_or_have_a_fault.ensures.request;
     } in
     served law answer.settings answer.kind c.run_command.result pieces bodies _ _ _ _ _ _ kept text told is given has
     (c.run_command.ensures.answers answer.kind answer.settings (is_answer _ _ _ answer c.in-Ok-Some.ensures c.in-Ok-Some.field-0-is words) (not_8 _ zero)) zero
