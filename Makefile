@@ -98,6 +98,7 @@ try-readme: all
 bench: all
 	python3 tools/build.py publication_looks
 	python3 bench/bench.py
+	python3 bench/lookups.py
 	python3 bench/door.py
 	python3 bench/workers.py
 

@@ -1,12 +1,12 @@
 #!/usr/bin/env python3
 """Runs the second program over the stored cases, as docs/FORMATS.md says how a case is written.
 
-A run of a case is left out where it takes connections (`sblistd serve`), where an object fails at a call with a number, for another
-program makes other calls, where the host of a URL has bytes from 128 on, or where it depends on the threads of a run that judges what
-it prints. A run of updates is left out, too, where a session gives other bytes than a whole response. What a run that is left out keeps
-is what its case says. Of a run of a client, what its sessions send, their moments and what
-the keeper is handed are compared too. The last case is wrong on purpose, so exactly that one has to
-differ: else the exit status is 1.
+A run of a case is left out where an object fails at a call with a number, for another program makes other calls, where the host of a
+URL has bytes from 128 on, or where it depends on the threads of a run that judges what it prints. A run of updates is left out, too,
+where a session gives other bytes than a whole response, and a server of a journal of more than 262,144 bytes. What a run that is left
+out keeps is what its case says. Of a run of a client, what its sessions send, their moments and what the keeper is handed are compared
+too, and of a server what is written to each connection. The last case is wrong on purpose, so exactly that one has to differ: else the
+exit status is 1.
 """
 
 import argparse
@@ -21,12 +21,14 @@ import exchanges
 import judging
 import loads
 import server
+import serving
 import urls
 import vectors
 from compare import REPOSITORY, replay
 
 CASES = os.path.join(REPOSITORY, "crates", "stored_cases", "stdin")
 MOST_INPUT = 201_326_592
+LONG_JOURNAL = 262_144
 MOST_LINES = 65_536
 SIGNS = "|:~=@%&()"
 
@@ -157,16 +159,43 @@ def lists_of(words):
 
 def answer_words(words):
     found = options_of(words, ("--journal", "--kind", "--wait", "--find-wait", "--cache", "--negative"))
-    if found is None or found[1] or "--journal" not in found[0] or found[0].get("--kind") not in ("fetch", "find"):
+    if found is None or found[1] or "--journal" not in found[0] or found[0].get("--kind") not in server.BODIES:
         return None
+    times = times_of(found[0])
+    return times and (found[0]["--kind"], times)
+
+
+def times_of(said):
+    """The times that an answer tells, by the options that are given, or None."""
     unsaid = {"wait": "1800", "find-wait": "0", "cache": "300", "negative": "300"}
-    times = {name: found[0].get("--" + name, seconds) for name, seconds in unsaid.items()}
+    times = {name: said.get("--" + name, seconds) for name, seconds in unsaid.items()}
     if any(not re.fullmatch("0|[1-9][0-9]{0,4}", seconds) or int(seconds) > 86_400 for seconds in times.values()):
         return None
-    return found[0]["--kind"], {name: int(seconds) for name, seconds in times.items()}
+    return {name: int(seconds) for name, seconds in times.items()}
 
 
 NUMBER = "0|[1-9][0-9]{0,9}"
+LISTENED = r"(?:[A-Za-z0-9.][A-Za-z0-9.-]*|\[[0-9A-Fa-f:.]+\]):(0|[1-9][0-9]{0,4})"
+SERVED = {"connections": 1_000_000, "peers": 4_096, "answers": 4_096}
+
+
+def serve_words(words):
+    """What the words of `sblistd serve` plan, or None."""
+    options = ("journal", "listen", *SERVED, "wait", "find-wait", "cache", "negative")
+    found = options_of(words, ["--" + name for name in options])
+    if found is None or found[1] or not {"--journal", "--listen"} <= set(found[0]):
+        return None
+    said, times = found[0], times_of(found[0])
+    address = re.fullmatch(LISTENED, said["--listen"])
+    if times is None or address is None or int(address[1]) > 65_535:
+        return None
+    for name, most in SERVED.items():
+        text = said.get("--" + name, "1")
+        if re.fullmatch(NUMBER, text) is None or not 1 <= int(text) <= most:
+            return None
+    return {"times": times, "connections": int(said.get("--connections", NO_COUNT))}
+
+
 NO_COUNT = 4_294_967_295
 HOST_AND_PORT = r"([A-Za-z0-9.][A-Za-z0-9.-]*):([1-9][0-9]{0,4})"
 ASKED = ("--store", "--server", "--key", "--max-update", "--max-database")
@@ -213,17 +242,20 @@ def lines_of(text):
 
 
 def answer(words, text, journal, make):
-    """What the second program prints, and its status. None stands for the usage text. `make` makes a run of a client by its plan: one
-    that judges, or else one of updates."""
+    """What the second program prints, and its status. None stands for the usage text. `make` makes a run by its kind and its plan: of
+    updates, one that judges, or one that serves."""
     command, rest = words[:2], words[2:]
     if command == ["sbupdate", "run"]:
         plan = client_words(rest, RUN)
-        return make(plan, False) if plan else (None, 1)
+        return make("run", plan) if plan else (None, 1)
+    if command == ["sblistd", "serve"]:
+        plan = serve_words(rest)
+        return make("serve", plan) if plan else (None, 1)
     if command == ["sbcheck", "judge"]:
         plan = client_words(rest, JUDGED)
         if plan is None:
             return None, 1
-        return make(plan, True) if len(text) <= MOST_INPUT and len(lines_of(text)) <= MOST_LINES else (b"", 6)
+        return make("judge", plan) if len(text) <= MOST_INPUT and len(lines_of(text)) <= MOST_LINES else (b"", 6)
     if command == ["sblistd", "answer"]:
         found = answer_words(rest)
         return server.answer(journal, text, *found) if found else (None, 1)
@@ -255,10 +287,10 @@ KNOWN = (
     ["sbcheck", "show"],
     ["sbcheck", "vectors"],
     ["sblistd", "answer"],
+    ["sblistd", "serve"],
     ["sblistd", "generate"],
     ["sblistd", "exercise"],
 )
-LEFT_OUT = (["sblistd", "serve"],)
 
 
 class Run:
@@ -303,10 +335,15 @@ class Run:
         texts = self.texts(b"session", 0) or []
         return all(text == exchanges.response(text.partition(b"\r\n\r\n")[2]) for text in texts)
 
+    def has_long_journal(self):
+        """Whether its journal has more bytes at the end than this program folds in seconds."""
+        turns, _ = self.turns(0)
+        return len(self.text(b"journal", 0)[0]) + sum(len(gained) for gained, _ in turns) > LONG_JOURNAL
+
     def is_known(self):
         fails = any(re.match(rb"[a-z]+-fails ", self.book.lines[number]) for number in self.own)
         command = self.words()[:2]
-        if command in LEFT_OUT or fails or not self.has_known_store():
+        if fails or not self.has_known_store() or command == ["sblistd", "serve"] and self.has_long_journal():
             return False
         return command != ["sbupdate", "run"] or self.has_whole_sessions()
 
@@ -350,6 +387,19 @@ class Run:
         times = {"wait": wait, "find-wait": wait, "cache": cache, "negative": negative}
         return judging.Link(plays, self.text(b"journal", cut)[0], times), max(fronts)
 
+    def turns(self, cut):
+        """Of each connection what the journal has gained before it, and what it gives; and how many fronts its texts are to be run for."""
+        turns, gained, fronts = [], b"", 0
+        for number in self.every(b"connection", b"append"):
+            text, more = self.book.text(number, cut)
+            fronts = max(fronts, more)
+            if self.book.lines[number].startswith(b"append"):
+                gained += text
+            else:
+                turns.append((gained, text))
+                gained = b""
+        return turns, fronts
+
     def told(self, cut):
         """What the case says of the sessions' requests, of the moments and of what the keeper was handed, where it does."""
         moments = self.find(b"moments", (self.own, self.group))
@@ -367,21 +417,27 @@ class Run:
         number = self.find(b"status", (self.own, self.group))
         status = 0 if number is None else int(self.book.lines[number].split(b" ")[1])
         link, more = self.link(cut)
-        reports = []
+        turns, further = self.turns(cut)
+        came = []
 
-        def make(plan, judges):
+        def make(kind, plan):
+            if kind == "serve":
+                report = serving.serve(plan, journal, turns)
+                came.append((self.texts(b"written", cut), report.written))
+                return report.printed, report.status
             given = self.store(cut), judging.Clock(self.numbers(b"clock")), judging.Dice(self.numbers(b"dice")), link.session
-            reports.append(judging.judge(plan, lines_of(text), *given) if judges else judging.update(plan, *given))
-            return reports[0].printed, reports[0].status
+            report = judging.judge(plan, lines_of(text), *given) if kind == "judge" else judging.update(plan, *given)
+            came.extend(zip(self.told(cut), (report.sent, report.moments, report.handed)))
+            return report.printed, report.status
 
         printed, found = answer(self.words(), text, journal, make)
         usage = printed is None and wanted.startswith(b"usage: ")
         same = status == found and (usage or printed == wanted)
-        fronts = max(more, *(fronts for _, fronts in texts))
-        if same and reports:
-            for says, came in zip(self.told(cut), (reports[0].sent, reports[0].moments, reports[0].handed)):
-                if says is not None and says != came:
-                    return ("sessions, moments or what was handed", repr(says).encode(), "these", came), fronts
+        fronts = max(more, further, *(fronts for _, fronts in texts))
+        if same:
+            for says, one in came:
+                if says is not None and says != one:
+                    return ("what was sent, written or handed, or moments", repr(says).encode(), "these", one), fronts
         return None if same else (status, wanted, found, printed), fronts
 
 

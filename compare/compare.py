@@ -5,7 +5,7 @@ The second program is the first part of this file, and the files that it imports
 JSON, base64 and SHA-256, and shares nothing with the crates. First come the recordings of compare/recordings.py, whose
 texts are known; then seeded inputs: bodies that are right, bodies with changed fields, and bodies with changed
 bytes, and texts that stand at the limits of lists, objects and values. `sbcheck show` runs beside compare/urls.py on seeded
-URLs, and `sblistd answer` beside compare/server.py on seeded journals, fetch requests and find requests. Runs of `sbcheck judge`
+URLs, and `sblistd answer` beside compare/server.py on seeded journals, fetch, find and look-up requests. Runs of `sbcheck judge`
 are seeded with their stores, URLs, clocks, rounds and finds, which are scripted or served: they are cases for `stored_cases`.
 Where a URL is looked up, no round of theirs installs a list, so that what is printed does not depend on when that is. The exit
 status is 1 where a run differs.
@@ -232,7 +232,7 @@ def compare_answers(rand, kind, count):
         matches += printed.count(b'"threat":')
         differing += answers_differ(number, question)
     told = ", ".join(f"{count:,} with status {status}" for status, count in sorted(statuses.items()))
-    found = f"; {matches:,} matches" if kind == "find" else ""
+    found = "" if kind == "fetch" else f"; {matches:,} matches"
     print(f"{count:,} journals and {kind} requests: {told}{found}")
     return differing
 
@@ -245,7 +245,7 @@ def compare_dense(rand, count):
         wanted, status, outcomes = replay(text, ["MALWARE/ANY_PLATFORM/URL"])
         refused += outcomes["too dense"]
         differing += differs(f"dense text {number}", ["MALWARE/ANY_PLATFORM/URL"], text, (wanted, status))
-        for kind in ("fetch", "find"):
+        for kind in server.BODIES:
             question = b"sblist 1 0000000000000001\n", text, kind, {"wait": 1, "find-wait": 1, "cache": 1, "negative": 1}
             differing += answers_differ(f"to dense text {number}", question)
     print(f"{count:,} texts about the limits of lists, objects and values, {refused:,} of them too dense")
@@ -307,7 +307,7 @@ def main():
         refused += sum(line.split(b" ")[1] == b"refused" for line in wanted.splitlines())
         differing += differs(f"URLs {number}", [], b"\n".join(lines) + b"\n", (wanted, status), run=show)
     print(f"{options.urls // 1_000 * 1_000:,} URLs, {refused:,} of them refused")
-    for kind in ("fetch", "find"):
+    for kind in server.BODIES:
         differing += compare_answers(rand, kind, options.answers)
     differing += compare_judged(rand, options.judged)
     print(f"{differing} differ")

@@ -15,6 +15,7 @@ MOST_STATE = 4_096
 MOST_SECONDS = 315_576_000_000
 MOST_ITEMS = 8
 MOST_PREFIXES = 1_024
+MOST_URLS = 500
 I32, I64 = 2**31 - 1, 2**63 - 1
 
 
@@ -263,6 +264,10 @@ class Reader:
             self.refuse(f"size {len(data)}", "hash")
         return data
 
+    def url(self, value):
+        entry = self.object(value, "threatEntries")
+        return self.string(self.needed(entry, "url"), "url")
+
     def duration(self, holder, name):
         """The nanoseconds of a duration."""
         value = holder.get(name)
@@ -326,6 +331,17 @@ def read_request(text):
     return [asked for asked in read if asked["name"]]
 
 
+def read_info(outside, body, most):
+    """The three lists of words of a request's `threatInfo`, and its items, of which it may have so many."""
+    info = outside.inner(body, "threatInfo")
+    tables = (("threatTypes", THREATS), ("platformTypes", PLATFORMS), ("threatEntryTypes", ENTRIES))
+    words = [outside.words(info, field, table) for field, table in tables]
+    items = outside.list(info, "threatEntries")
+    if len(items) > most:
+        raise Unreadable(f"too-many-items {len(items)}")
+    return words, items
+
+
 def read_find(text):
     """The words that a find request asks for, three lists of them, and its prefixes."""
     outside = Reader(0)
@@ -334,13 +350,17 @@ def read_find(text):
     for state in outside.list(body, "clientStates"):
         if state is not None:
             outside.bytes(state, "clientStates")
-    info = outside.inner(body, "threatInfo")
-    tables = (("threatTypes", THREATS), ("platformTypes", PLATFORMS), ("threatEntryTypes", ENTRIES))
-    words = [outside.words(info, field, table) for field, table in tables]
-    items = outside.list(info, "threatEntries")
-    if len(items) > MOST_PREFIXES:
-        raise Unreadable(f"too-many-items {len(items)}")
+    words, items = read_info(outside, body, MOST_PREFIXES)
     return words, [Reader(number).prefix(item) for number, item in enumerate(items, 1)]
+
+
+def read_lookup(text):
+    """The words that a look-up request asks for, three lists of them, and its URLs."""
+    outside = Reader(0)
+    body = outside.object(read_json(text), "message")
+    read_client(outside, body)
+    words, items = read_info(outside, body, MOST_URLS)
+    return words, [Reader(number).url(item) for number, item in enumerate(items, 1)]
 
 
 def read_find_answer(text):

@@ -1,16 +1,19 @@
-"""The second program's list server: it reads a journal and a fetch or find request, and answers.
+"""The second program's list server: it reads a journal and a fetch, find or look-up request, and answers.
 
 The rules are those of docs/FORMATS.md. A history is folded anew for each version, and a target is looked for from the
-newest version down. A find goes through all full hashes of a list for each prefix.
+newest version down. A find goes through all full hashes of a list for each prefix. A look-up asks each list for the hash
+of each expression of a URL.
 """
 
 import base64
+import functools
 import hashlib
 import json
 import re
 
+import urls
 from changing import change_bytes, change_field
-from messages import ENTRIES, PLATFORMS, THREATS, Unreadable, read_find, read_request
+from messages import ENTRIES, PLATFORMS, THREATS, Unreadable, read_find, read_lookup, read_request
 
 MOST_LINE = 128
 MOST_LISTS = 8
@@ -265,25 +268,68 @@ def some_seconds(name, seconds):
     return {name: f"{seconds}s"} if seconds else {}
 
 
+def types_of(name):
+    return dict(zip(("threatType", "platformType", "threatEntryType"), name.split("/")))
+
+
+def asked_names(journal, words):
+    """The declared lists whose three types are among three lists of words, in the order of names."""
+    every = ((t, p, e) for t in THREATS for p in PLATFORMS for e in ENTRIES)
+    return ["/".join(name) for name in every if "/".join(name) in journal.declared and all(map(list.__contains__, words, name))]
+
+
 def matches_of(journal, name, prefixes, cache):
     """The matches of a list: each of its newest full hashes that begins with one of the prefixes."""
-    threat, platform, entry = name.split("/")
-    of_list = {"threatType": threat, "platformType": platform, "threatEntryType": entry} | some_seconds("cacheDuration", cache)
+    of_list = types_of(name) | some_seconds("cacheDuration", cache)
     found = [full for full in sorted(journal.newest[name]) if any(full.startswith(prefix) for prefix in prefixes)]
     return [of_list | {"threat": {"hash": base64.b64encode(full).decode("ascii")}} for full in found]
 
 
 def find_body(journal, text, times):
     """The body of the answer to a find request."""
-    (threats, platforms, entries), prefixes = read_find(text)
-    names = [f"{t}/{p}/{e}" for t in THREATS for p in PLATFORMS for e in ENTRIES if t in threats and p in platforms and e in entries]
-    matches = [one for name in names if name in journal.declared for one in matches_of(journal, name, prefixes, times["cache"])]
+    words, prefixes = read_find(text)
+    matches = [one for name in asked_names(journal, words) for one in matches_of(journal, name, prefixes, times["cache"])]
     body = {"matches": matches} if matches else {}
     return body | some_seconds("minimumWaitDuration", times["find-wait"]) | some_seconds("negativeCacheDuration", times["negative"])
 
 
+@functools.lru_cache(maxsize=4_096)
+def hashes_of(url):
+    """The full hashes of the expressions of a URL, none of a text that has no canonical form."""
+    try:
+        _, *parts = urls.canonical(url.encode("utf-8"))
+    except urls.NoUrl:
+        return frozenset()
+    return frozenset(hashlib.sha256(expression).digest() for expression in urls.expressions(*parts))
+
+
+def lookup_body(journal, text, times):
+    """The body of the answer to a look-up request: of each URL a match with each asked list that has one of its expressions."""
+    words, asked = read_lookup(text)
+    names, matches = asked_names(journal, words), []
+    for url in asked:
+        hashes = hashes_of(url)
+        listed = [name for name in names if not hashes.isdisjoint(journal.newest[name])]
+        matches += [types_of(name) | some_seconds("cacheDuration", times["cache"]) | {"threat": {"url": url}} for name in listed]
+    return {"matches": matches} if matches else {}
+
+
+def lists_body(journal):
+    """The body of the answer to one who asks which lists there are."""
+    names = asked_names(journal, (THREATS, PLATFORMS, ENTRIES))
+    return {"threatLists": list(map(types_of, names))} if names else {}
+
+
+BODIES = {"fetch": fetch_body, "find": find_body, "lookup": lookup_body}
+
+
+def written_body(body):
+    """A body in its one spelling."""
+    return json.dumps(body, ensure_ascii=False, sort_keys=True, separators=(",", ":")).encode("utf-8")
+
+
 def answer(data, text, kind, times):
-    """What `sblistd answer` prints, and its status. The kind is `fetch` or `find`."""
+    """What `sblistd answer` prints, and its status. The kind is `fetch`, `find` or `lookup`."""
     try:
         journal = read_journal(data)
     except BadJournal as fault:
@@ -291,10 +337,10 @@ def answer(data, text, kind, times):
     if len(text) > MOST_REQUEST:
         return b"", 6
     try:
-        body = (fetch_body if kind == "fetch" else find_body)(journal, text, times)
+        body = BODIES[kind](journal, text, times)
     except Unreadable as fault:
         return f"request {fault}\n".encode("ascii"), 5
-    return json.dumps(body, sort_keys=True, separators=(",", ":")).encode("ascii") + b"\n", 0
+    return written_body(body) + b"\n", 0
 
 
 # ---- seeded journals and requests
@@ -309,7 +355,8 @@ def hex_of(rand, data):
     return data.hex().upper() if rand.random() < 0.1 else data.hex()
 
 
-def any_journal(rand, names):
+def any_journal(rand, names, any_full):
+    """A journal whose full hashes are drawn by a function."""
     form = rand.choice([1, 2])
     lines = [f"sblist {form} {hex_of(rand, rand.choice([0, 1, 2**64 - 1]).to_bytes(8, 'big'))}"]
     declared = rand.sample(names, rand.choice([1, 1, 2, len(names)]))
@@ -319,8 +366,8 @@ def any_journal(rand, names):
         lines.append(f"change {rand.choice(declared)} {adds} {removes}")
         for _ in range(adds):
             size = f" {rand.choice([4, 6, 32])}" if form == 2 and rand.random() < 0.5 else ""
-            lines.append(f"+{hex_of(rand, some_hash(rand))}{size}")
-        lines += [f"-{hex_of(rand, some_hash(rand))}" for _ in range(removes)]
+            lines.append(f"+{hex_of(rand, any_full(rand))}{size}")
+        lines += [f"-{hex_of(rand, any_full(rand))}" for _ in range(removes)]
     if rand.random() < 0.15:
         at = rand.randrange(len(lines))
         lines[at] = rand.choice([
@@ -344,12 +391,12 @@ def any_state(rand, journal, name, names):
     return token[:-1] if kind == 3 and rand.random() < 0.3 else token
 
 
-def written(rand, body, changed):
+def written(rand, body, changed, ascii=True):
     """The text of a body, of which now and then a field is changed (so often), or some bytes."""
     kind = rand.random()
     if kind < changed:
         change_field(rand, body)
-    text = json.dumps(body).encode("ascii")
+    text = json.dumps(body, ensure_ascii=ascii).encode("utf-8", "surrogatepass")
     return change_bytes(rand, text) if kind > 0.93 else text
 
 
@@ -397,13 +444,18 @@ def some_words(rand, table, named):
     return words
 
 
-def any_find(rand, journal, names):
+def some_types(rand, journal, names):
+    """The three lists of words of a find or a look-up request."""
     threats, platforms, entries = zip(*(name.split("/") for name in list(journal.declared) or names))
-    info = {
+    return {
         "threatTypes": some_words(rand, THREATS, threats),
         "platformTypes": some_words(rand, PLATFORMS, platforms),
         "threatEntryTypes": some_words(rand, ENTRIES, entries),
     }
+
+
+def any_find(rand, journal, names):
+    info = some_types(rand, journal, names)
     count = rand.choice([0, 1, 1, 2, 3, 8]) if rand.random() < 0.98 else rand.choice([1_024, 1_025])
     info["threatEntries"] = [{"hash": base64.b64encode(any_hash(rand, journal)).decode("ascii")} for _ in range(count)]
     body = {"client": {"clientId": "sblist", "clientVersion": "1"}, "threatInfo": info}
@@ -415,15 +467,87 @@ def any_find(rand, journal, names):
     return written(rand, body, 0.2)
 
 
+def any_asked_url(rand):
+    """The characters of a seeded URL. Bytes that are no UTF-8 stand for the characters of their numbers."""
+    url = urls.any_url(rand)
+    try:
+        return url.decode("utf-8")
+    except UnicodeDecodeError:
+        return url.decode("latin-1")
+
+
+def some_asked_urls(rand, count):
+    """Seeded URLs, of some of which other pages of the host follow, and one twice."""
+    asked = [any_asked_url(rand) for _ in range(count)]
+    asked += [url.partition("?")[0] + rand.choice(["/", "/x", "?q", "#f", " "]) for url in rand.sample(asked, count // 3)]
+    return asked + asked[:1]
+
+
+def listed_hash(asked):
+    """Draws the hash of an expression of one of some URLs, and now and then one that begins as such a hash, or another."""
+
+    def any_full(rand):
+        hashes = sorted(hashes_of(rand.choice(asked)))
+        if not hashes or rand.random() < 0.1:
+            return some_hash(rand)
+        full = rand.choice(hashes)
+        return full[:4] + rand.randbytes(28) if rand.random() < 0.25 else full
+
+    return any_full
+
+
+def any_lookup(rand, journal, names, asked):
+    """A look-up request of some of the URLs, and of others."""
+    info = some_types(rand, journal, names)
+    count = rand.choice([0, 1, 2, 3, 8, 30]) if rand.random() < 0.98 else rand.choice([500, 501])
+    chosen = [rand.choice(asked) if rand.random() < 0.8 else any_asked_url(rand) for _ in range(count)]
+    info["threatEntries"] = [{"url": url} | ({"x": 1} if rand.random() < 0.02 else {}) for url in chosen]
+    body = {"client": {"clientId": "\u00e9\u20ac", "clientVersion": "1"}, "threatInfo": info}
+    return written(rand, body, 0.2, ascii=rand.random() < 0.5)
+
+
+def has_known_hosts(text):
+    """Whether no URL of a request that is read has a host that the second program does not know."""
+    try:
+        for url in read_lookup(text)[1]:
+            hashes_of(url)
+    except Unreadable:
+        return True
+    except urls.Skipped:
+        return False
+    return True
+
+
+def known_lookup(rand, journal, names, asked):
+    while not has_known_hosts(text := any_lookup(rand, journal, names, asked)):
+        pass
+    return text
+
+
+def known_urls(rand, count):
+    """Seeded URLs whose hosts the second program knows."""
+    known = []
+    while not known:
+        for url in some_asked_urls(rand, count):
+            try:
+                hashes_of(url)
+            except urls.Skipped:
+                continue
+            known.append(url)
+    return known
+
+
 def any_question(rand, kind):
     """A journal, a request of a kind, the kind, and the times that an answer tells."""
     every = [f"{t}/{p}/{e}" for t in THREATS for p in PLATFORMS for e in ENTRIES]
     names = rand.sample(every, 9)
-    data = any_journal(rand, names[: rand.choice([2, 9])])
+    asked = known_urls(rand, 12) if kind == "lookup" else []
+    data = any_journal(rand, names[: rand.choice([2, 9])], listed_hash(asked) if kind == "lookup" else some_hash)
     try:
         journal = read_journal(data)
     except BadJournal:
         journal = Journal()
-    request = any_request(rand, journal, names) if kind == "fetch" else any_find(rand, journal, names)
+    requests = {"fetch": any_request, "find": any_find, "lookup": lambda *given: known_lookup(*given, asked)}
+    request = requests[kind](rand, journal, names)
     times = {name: rand.choice([0, 1, 1_800, 86_400]) for name in ("wait", "find-wait", "cache", "negative")}
     return data, request, kind, times

@@ -1,6 +1,6 @@
 #!/usr/bin/env bash
-# Drives the built sblistd over loopback with curl: updates, each refusal that a client can bring about, clients that stall,
-# and many connections. Prints a line for each step, and ends with status 1 at the first that is not as it should be.
+# Drives the built sblistd over loopback with curl: updates, look-ups, each refusal that a client can bring about, clients that
+# stall, and many connections. Prints a line for each step, and ends with status 1 at the first that is not as it should be.
 #
 # Clients that stall or send a byte a second hold nobody up. It takes some minutes.
 set -u
@@ -117,6 +117,72 @@ connection 9 answered 431
 END
 diff "$folder/wanted" "$folder/printed" || fail "the server printed other lines"
 echo "the server printed a line for each connection"
+
+# ---- look-ups, and the names of the lists
+
+# a look-up of these URLs in the list
+look_up() {
+  local items= asked
+  for asked in "$@"; do items+="${items:+,}{\"url\":\"$asked\"}"; done
+  echo "{\"threatInfo\":{\"threatTypes\":[\"MALWARE\"],\"platformTypes\":[\"ANY_PLATFORM\"],\"threatEntryTypes\":[\"URL\"],\"threatEntries\":[$items]}}"
+}
+
+# the answer to one of whose URLs this one alone is listed
+match_of() {
+  echo "{\"matches\":[{\"cacheDuration\":\"300s\",\"platformType\":\"ANY_PLATFORM\",\"threat\":{\"url\":\"$1\"},\
+\"threatEntryType\":\"URL\",\"threatType\":\"MALWARE\"}]}"
+}
+
+# a request that is answered with this body
+expect_body() {
+  local step=$1 wanted=$2
+  shift 2
+  expect "$step" 200 "$@"
+  [ "$(< "$folder/body")" = "$wanted" ] || fail "$step: its body is $(< "$folder/body")"
+}
+
+# a method that a path does not answer: the response names the one that it does
+expect_allowed() {
+  local step=$1 wanted=$2
+  shift 2
+  expect "$step" 405 --dump-header "$folder/head" "$@"
+  tr -d '\r' < "$folder/head" | grep -qx "Allow: $wanted" || fail "$step: its head is $(< "$folder/head")"
+}
+
+cp "$folder/journal" "$kept"
+printf 'sblist 1 0000000000000001\nlist %s 4\nchange %s 1 0\n+%s\n' "$LIST" "$LIST" "$(hash_of bad.example/)" > "$folder/journal"
+listed=http://bad.example/a/b.html
+both=$(look_up "$listed" http://odd.example/)
+serve 9
+lists="http://127.0.0.1:$port/v4/threatLists"
+matches="http://127.0.0.1:$port/v4/threatMatches:find"
+expect_body "the names of the lists" '{"threatLists":[{"platformType":"ANY_PLATFORM","threatEntryType":"URL","threatType":"MALWARE"}]}' "$lists"
+expect_body "a look-up of a URL whose host is listed, and of another" "$(match_of "$listed")" --data "$both" "$matches?key=a"
+[ "$(bin/sblistd answer --journal "$folder/journal" --kind lookup <<< "$both")" = "$(< "$folder/body")" ] \
+  || fail "sblistd answer prints another answer to a look-up"
+expect_body "a look-up of a URL that is not listed" '{}' --data "$(look_up http://odd.example/)" "$matches"
+printf 'change %s 1 1\n+%s\n-%s\n' "$LIST" "$(hash_of odd.example/)" "$(hash_of bad.example/)" >> "$folder/journal"
+expect_body "a look-up of both after a change of the journal" "$(match_of http://odd.example/)" --data "$both" "$matches"
+# shellcheck disable=SC2046
+expect "a look-up of 501 URLs" 400 --data "$(look_up $(seq 501))" "$matches"
+expect_allowed "GET of look-ups" POST "$matches"
+expect_allowed "PUT of look-ups" POST --request PUT --data '{}' "$matches"
+expect_allowed "POST to the names of the lists" GET --data '{}' "$lists"
+expect_allowed "HEAD of the names of the lists" GET --head "$lists"
+ended
+cat > "$folder/wanted" <<'END'
+connection 1 answered 200
+connection 2 answered 200
+connection 3 answered 200
+connection 4 answered 200
+connection 5 answered 400 too-many-items 501
+connection 6 answered 405
+connection 7 answered 405
+connection 8 answered 405
+connection 9 answered 405
+END
+diff "$folder/wanted" "$folder/printed" || fail "the server printed other lines for look-ups"
+cp "$kept" "$folder/journal"
 
 # ---- both requests of GNOME Web 43.1, at a server of three of its lists and at one of none
 

@@ -1,0 +1,148 @@
+"""The second program's list server at a door: it hears a request, answers it, and tells of each connection in a line.
+
+It follows docs/FORMATS.md, "HTTP" and "The list server". Heads are read by the grammar of RFC 9112 in place of `httparse`, and no
+answer is kept.
+"""
+
+import base64
+import collections
+import hashlib
+import re
+
+import exchanges
+import server
+from messages import Unreadable
+
+MOST_BODY = 1_048_576
+WITHOUT_BODIES = (b"GET", b"HEAD", b"OPTIONS")
+REASONS = {
+    400: "Bad Request",
+    404: "Not Found",
+    405: "Method Not Allowed",
+    411: "Length Required",
+    413: "Content Too Large",
+    431: "Request Header Fields Too Large",
+}
+
+# of each path: the one method that is answered there, and the kind of request that comes by it
+PATHS = {
+    b"/v4/threatListUpdates:fetch": (b"POST", "fetch"),
+    b"/v4/fullHashes:find": (b"POST", "find"),
+    b"/v4/threatMatches:find": (b"POST", "lookup"),
+    b"/v4/threatLists": (b"GET", "lists"),
+}
+
+TOKEN = rb"[!#$%&'*+.^_`|~0-9A-Za-z-]+"
+REQUEST_LINE = re.compile(rb"(%s) ([!-~\x80-\xff]+) HTTP/1\.[01]" % TOKEN)
+BEGUN_LINE = re.compile(rb"%s(?: (?:[!-~\x80-\xff]+(?: (?:H(?:T(?:T(?:P(?:/(?:1(?:\.[01]?)?)?)?)?)?)?)?)?)?)?" % TOKEN)
+BEGUN_FIELD = re.compile(rb"(?:%s(?::[\t -~\x80-\xff]*)?)?\r?" % TOKEN)
+ABSOLUTE = re.compile(rb"[A-Za-z][A-Za-z0-9+.\-]*://[^/?]*")
+
+Served = collections.namedtuple("Served", "printed status written")
+
+
+class Refused(Exception):
+    """A request is refused with the status that stands first. What stands behind it is the cause in the line."""
+
+
+# ---- a request
+
+
+def begins_well(line):
+    """Whether a request line may begin so."""
+    line = line.removesuffix(b"\r")
+    return not line or BEGUN_LINE.fullmatch(line) is not None
+
+
+def head_of(given):
+    """The request line's method and target, the fields, and the place where the body begins."""
+    front = given[: exchanges.MOST_HEAD]
+    text = front.lstrip(b"\r\n")
+    end = re.search(rb"\r?\n\r?\n", text)
+    lines = re.split(rb"\r?\n", text[: end.end()] if end else text)
+    found = REQUEST_LINE.fullmatch(lines[0])
+    if found is None and (len(lines) > 1 or not begins_well(lines[0])):
+        raise Refused(400)
+    try:
+        fields = exchanges.fields_of(lines[1:-2] if end else lines[1:-1])
+    except exchanges.Failed as fault:
+        raise Refused(400) from fault
+    if end is None:
+        may_end = len(lines) == 1 or BEGUN_FIELD.fullmatch(lines[-1])
+        raise Refused(431 if may_end and len(given) >= exchanges.MOST_HEAD else 400)
+    lengths = [value for name, value in fields if name == b"content-length"]
+    if len(fields) > exchanges.MOST_FIELDS or len(lengths) > 1 or any(re.fullmatch(rb"[0-9]+", one) is None for one in lengths):
+        raise Refused(400)
+    return found[1], found[2], fields, len(front) - len(text) + end.end()
+
+
+def heard(given):
+    """The method, the path and the body of the request that some bytes are."""
+    method, target, fields, at = head_of(given)
+    lengths = [int(value) for name, value in fields if name == b"content-length"]
+    if any(name == b"transfer-encoding" for name, _ in fields) or not lengths and method not in WITHOUT_BODIES:
+        raise Refused(411)
+    length = lengths[0] if lengths else 0
+    if length > MOST_BODY:
+        raise Refused(413)
+    if len(given) - at < length:
+        raise Refused(400)
+    absolute = ABSOLUTE.match(target)
+    path = (target[absolute.end() :] if absolute else target).partition(b"?")[0]
+    return method, path, given[at : at + length]
+
+
+def answered(journal, given, times):
+    """The body of the answer to the request that some bytes are."""
+    method, path, body = heard(given)
+    if path not in PATHS:
+        raise Refused(404)
+    wanted, kind = PATHS[path]
+    if method != wanted:
+        raise Refused(405, wanted)
+    if kind == "lists":
+        return server.written_body(server.lists_body(journal))
+    try:
+        return server.written_body(server.BODIES[kind](journal, body, times))
+    except Unreadable as fault:
+        raise Refused(400, fault) from fault
+
+
+def refusal(status, allowed):
+    """The response with a status and without a body."""
+    digest = base64.b64encode(hashlib.sha256(b"").digest()).decode("ascii")
+    lines = [f"HTTP/1.1 {status} {REASONS[status]}", "Content-Type: application/json", "Content-Length: 0"]
+    lines += [f"Content-Digest: sha-256=:{digest}:"]
+    lines += [f"Allow: {allowed}"] if allowed else []
+    return "\r\n".join([*lines, "Connection: close", "", ""]).encode("ascii")
+
+
+def turn(journal, given, times):
+    """The response to what came over a connection, and how its line ends."""
+    try:
+        return exchanges.response(answered(journal, given, times)), "200"
+    except Refused as fault:
+        status, said = fault.args[0], fault.args[1] if len(fault.args) > 1 else None
+        allowed = said.decode("ascii") if status == 405 else None
+        return refusal(status, allowed), f"{status} {said}" if status == 400 and said else str(status)
+
+
+# ---- a run
+
+
+def serve(plan, journal, turns):
+    """What is printed, the status, and what is written to each connection that is taken. A turn is what the journal has gained, and what
+    the connection gives."""
+    printed, written = [], []
+    try:
+        server.read_journal(journal)
+        for number, (gained, given) in enumerate(turns[: plan["connections"]], 1):
+            journal += gained
+            written.append(b"")
+            response, ending = turn(server.read_journal(journal), given, plan["times"])
+            written[-1] = response
+            printed.append(f"connection {number} answered {ending}")
+    except server.BadJournal as fault:
+        printed.append(f"journal {fault}")
+        return Served("".join(line + "\n" for line in printed).encode("ascii"), 7, written)
+    return Served("".join(line + "\n" for line in printed).encode("ascii"), 0, written)
