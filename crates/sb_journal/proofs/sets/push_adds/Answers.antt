@@ -1,0 +1,10 @@
+use Rattle.std.proofs.Common.{not, rules}
+use Rattle.sb_model.specs.Difference.{has_member}
+use Rattle.sb_journal.specs.Records.{add_of}
+use Rattle.sb_journal.proofs.RisingSets.{passed_step}
+use Rattle.sb_journal.proofs.sets.push_adds.Goals as goal
+
+pub loop-hash-preserved : goal.loop-hash-preserved
+loop-hash-preserved c =
+    passed_step (λ hash. not (has_member c.args.held.now hash)) (add_of c.args.size) c.args.wanted.now c.loop-hash.hash-index _ c.loop-hash.lines.items c.push_add.new.lines.items _
+    c.loop-hash-test.true (search rules) c.loop-hash.invariant c.in_ok-push_add.ensures
