@@ -59,3 +59,4 @@ pub mod Toggles
 pub mod Versions
 pub mod Words
 pub mod Written
+pub mod Followed

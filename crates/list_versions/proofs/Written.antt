@@ -69,33 +69,33 @@ header_short sized epoch =
     let form = form_short sized in
     omega (arith, long, form, length-append (form_word sized) (32 ∷ encode_lower (to_be_bytes w64 epoch)))
 
-abbrev list_words : ListName → ℕ → List (List ℕ)
+abbrev pub list_words : ListName → ℕ → List (List ℕ)
 list_words name size = codes "list" ∷ text_of name ∷ decimal size ∷ []
 
-are_list : (name : ListName) (size : ℕ) → size ≤ 32 → AreWords (list_words name size)
+pub are_list : (name : ListName) (size : ℕ) → size ≤ 32 → AreWords (list_words name size)
 are_list name size h = (refl, (name_word name, (decimal_word size (omega arith), tt)))
 
-list_read : (name : ListName) (size : ℕ) → 4 ≤ size → size ≤ 32 → head_of (join_with_byte 32 (list_words name size)) ≡ Some (head.List name size)
+pub list_read : (name : ListName) (size : ℕ) → 4 ≤ size → size ≤ 32 → head_of (join_with_byte 32 (list_words name size)) ≡ Some (head.List name size)
 list_read name size l h =
     ap head_of_words (words_joined (codes "list") (text_of name ∷ decimal size ∷ []) (are_list name size h))
     ∙ ap (λ n. list_head (result_ok n) (size_of (decimal size))) (name_back name)
     ∙ ap (list_head (Some name)) (number_back 4 32 size l h (omega arith))
 
-list_short : (name : ListName) (size : ℕ) → size ≤ 32 → length (join_with_byte 32 (list_words name size)) ≤ 128
+pub list_short : (name : ListName) (size : ℕ) → size ≤ 32 → length (join_with_byte 32 (list_words name size)) ≤ 128
 list_short name size h =
     let few : length (decimal size) ≤ 2 = length-decimal-le 2 size (omega arith) (omega arith) (omega arith) in
     omega (arith, name_short name, few, length-append (text_of name) (32 ∷ decimal size))
 
-abbrev change_words : ListName → ℕ → ℕ → List (List ℕ)
+abbrev pub change_words : ListName → ℕ → ℕ → List (List ℕ)
 change_words name adds removes = codes "change" ∷ text_of name ∷ decimal adds ∷ decimal removes ∷ []
 
-are_change : (name : ListName) (adds removes : ℕ) → adds + removes ≤ 1024 → AreWords (change_words name adds removes)
+pub are_change : (name : ListName) (adds removes : ℕ) → adds + removes ≤ 1024 → AreWords (change_words name adds removes)
 are_change name adds removes h = (refl, (name_word name, (decimal_word adds (omega arith), (decimal_word removes (omega arith), tt))))
 
 is_size : (count : ℕ) → 1 ≤ count → count ≤ 1024 → is_change_size count ≡ true
 is_size count l h = grind (arith, nat_tests)
 
-change_read : (name : ListName) (adds removes : ℕ) → 1 ≤ adds + removes → adds + removes ≤ 1024
+pub change_read : (name : ListName) (adds removes : ℕ) → 1 ≤ adds + removes → adds + removes ≤ 1024
     → head_of (join_with_byte 32 (change_words name adds removes)) ≡ Some (head.Change name adds removes)
 change_read name adds removes l h =
     ap head_of_words (words_joined (codes "change") (text_of name ∷ decimal adds ∷ decimal removes ∷ []) (are_change name adds removes h))
@@ -104,7 +104,7 @@ change_read name adds removes l h =
     ∙ ap (change_head (Some name) (Some adds)) (number_back 0 1024 removes (omega arith) (omega arith) (omega arith))
     ∙ choose_true (is_change_size (adds + removes)) _ _ (is_size (adds + removes) l h)
 
-change_short : (name : ListName) (adds removes : ℕ) → adds + removes ≤ 1024 → length (join_with_byte 32 (change_words name adds removes)) ≤ 128
+pub change_short : (name : ListName) (adds removes : ℕ) → adds + removes ≤ 1024 → length (join_with_byte 32 (change_words name adds removes)) ≤ 128
 change_short name adds removes h =
     let a : length (decimal adds) ≤ 4 = length-decimal-le 4 adds (omega arith) (omega arith) (omega arith) in
     let r : length (decimal removes) ≤ 4 = length-decimal-le 4 removes (omega arith) (omega arith) (omega arith) in
@@ -121,7 +121,7 @@ pub record IsWrittenHash (hash : List ℕ) : Type 0 where
   pub bytes : IsBytes hash
 
 -- where a line names no size, the hash has the one that is declared
-abbrev IsOfForm : Bool → ℕ → Added → Type 0
+abbrev pub IsOfForm : Bool → ℕ → Added → Type 0
 IsOfForm true declared added = ⊤
 IsOfForm false declared added = declared ≡ added.size
 
@@ -129,10 +129,10 @@ are_add : (sized : Bool) (added : Added) → IsWritten added → AreWords (add_w
 are_add true added h = let high = h.size.high in (hex_word added.hash h.bytes, (decimal_word added.size (omega (arith, high)), tt))
 are_add false added h = (hex_word added.hash h.bytes, tt)
 
-abbrev entry_with : List ℕ → ℕ → Added
+abbrev pub entry_with : List ℕ → ℕ → Added
 entry_with hash size = record { hash = hash; size = size }
 
-add_read : (sized : Bool) (declared : ℕ) (added : Added) → IsWritten added → IsOfForm sized declared added → added_of sized declared (43 ∷ join_with_byte 32 (add_words sized added)) ≡ Some added
+pub add_read : (sized : Bool) (declared : ℕ) (added : Added) → IsWritten added → IsOfForm sized declared added → added_of sized declared (43 ∷ join_with_byte 32 (add_words sized added)) ≡ Some added
 add_read true declared added h of =
     let high = h.size.high in
     ap (added_of_words true declared) (words_joined (encode_lower added.hash) (decimal added.size ∷ []) (are_add true added h))
@@ -143,24 +143,24 @@ add_read false declared added h of =
     ∙ ap (option_map (λ (hash : List ℕ). entry_with hash declared)) (hash_back added.hash h.whole h.bytes)
     ∙ ap (λ (size : ℕ). Some (entry_with added.hash size)) of
 
-add_line_is : (sized : Bool) (added : Added) → IsWritten added → IsOneLine (join_with_byte 32 (add_words sized added))
+pub add_line_is : (sized : Bool) (added : Added) → IsWritten added → IsOneLine (join_with_byte 32 (add_words sized added))
 add_line_is true added h = one_line (encode_lower added.hash) (decimal added.size ∷ []) (are_add true added h)
 add_line_is false added h = one_line (encode_lower added.hash) [] (are_add false added h)
 
-add_short : (sized : Bool) (added : Added) → IsWritten added → length (43 ∷ join_with_byte 32 (add_words sized added)) ≤ 128
+pub add_short : (sized : Bool) (added : Added) → IsWritten added → length (43 ∷ join_with_byte 32 (add_words sized added)) ≤ 128
 add_short true added h =
     let high = h.size.high in
     let few : length (decimal added.size) ≤ 2 = length-decimal-le 2 added.size (omega arith) (omega (arith, high)) (omega (arith, high)) in
     omega (arith, hex_long added.hash, h.whole, few, length-append (encode_lower added.hash) (32 ∷ decimal added.size))
 add_short false added h = omega (arith, hex_long added.hash, h.whole)
 
-remove_read : (hash : List ℕ) → IsWrittenHash hash → removed_of (45 ∷ encode_lower hash) ≡ Some hash
+pub remove_read : (hash : List ℕ) → IsWrittenHash hash → removed_of (45 ∷ encode_lower hash) ≡ Some hash
 remove_read hash h = hash_back hash h.whole h.bytes
 
-remove_short : (hash : List ℕ) → IsWrittenHash hash → length (45 ∷ encode_lower hash) ≤ 128
+pub remove_short : (hash : List ℕ) → IsWrittenHash hash → length (45 ∷ encode_lower hash) ≤ 128
 remove_short hash h = omega (arith, hex_long hash, h.whole)
 
-signed_line : (sign : ℕ) (text : List ℕ) → is_newline sign ≡ false → IsOneLine text → IsOneLine (sign ∷ text)
+pub signed_line : (sign : ℕ) (text : List ℕ) → is_newline sign ≡ false → IsOneLine text → IsOneLine (sign ∷ text)
 signed_line sign text e h = All-cons (λ byte. is_newline byte ≡ false) sign text e h
 
 -- ---- a text that leads on
@@ -173,25 +173,25 @@ leads_then : (a b c : Reading) (s t : List ℕ) → Leads a s b → Leads b t c 
 leads_then a b c s t h k more = ap (after_bytes a) (append_assoc s t more) ∙ h (t ++ more) ∙ k more
 
 -- a line with its end
-leads_line : (before : Reading) (line more : List ℕ) → IsOneLine line → length line ≤ 128
+pub leads_line : (before : Reading) (line more : List ℕ) → IsOneLine line → length line ≤ 128
     → after_bytes before ((line ++ newline ∷ []) ++ more) ≡ (after_line before line >>= λ next. after_bytes next more)
 leads_line before line more one short = bytes_line before (line ++ newline ∷ []) line [] more (record { whole = refl; within = one; short = short })
 
 -- what is known between two records
-abbrev at_history : Bool → History → Reading
+abbrev pub at_history : Bool → History → Reading
 at_history sized history = record { kept = wholly sized history; begun = None }
 
-abbrev kept_at : Bool → History → List ℕ → Kept
+abbrev pub kept_at : Bool → History → List ℕ → Kept
 kept_at sized history rest = record { sized = sized; versions = history; rest = rest }
 
-head_line : (sized : Bool) (history : History) (line : List ℕ) (first : Head) → length line ≤ 128 → head_of line ≡ Some first
+pub head_line : (sized : Bool) (history : History) (line : List ℕ) (first : Head) → length line ≤ 128 → head_of line ≡ Some first
     → after_line (at_history sized history) line ≡ after_head (kept_at sized history (line ++ newline ∷ [])) (Some first)
 unfolding after_line
 head_line sized history line first short h = ap (after_head (kept_at sized history (line ++ newline ∷ []))) (short_is line (head_of line) short ∙ h)
 
 -- ---- the lists
 
-abbrev declared_at : ℕ → List (ListName × ℕ) → History
+abbrev pub declared_at : ℕ → List (ListName × ℕ) → History
 declared_at epoch declared = record { epoch = epoch; declared = declared; changes = [] }
 
 after_all : {X : Type 0} (P : X → Type 0) (xs ys : List X) → All P (xs ++ ys) → All P ys
@@ -232,7 +232,7 @@ lists_lead sized epoch got (list ∷ left) apart sizes few more =
 -- ---- a change
 
 -- a change of which some hash lines have come
-abbrev begun_with : ℕ → Change → List Added → List (List ℕ) → Begun
+abbrev pub begun_with : ℕ → Change → List Added → List (List ℕ) → Begun
 begun_with size change adds removes = record {
   list = change.list;
   declared_size = size;
@@ -264,11 +264,11 @@ last_false : (a b : Bool) → b ≡ false → (a && b) ≡ false
 last_false true b h = h
 last_false false b h = refl
 
-open_adds : (sized : Bool) (history : History) (change : Change) (size : ℕ) (rest : List ℕ) (adds : List Added) (removes : List (List ℕ)) → length adds < length change.adds
+pub open_adds : (sized : Bool) (history : History) (change : Change) (size : ℕ) (rest : List ℕ) (adds : List Added) (removes : List (List ℕ)) → length adds < length change.adds
     → settled (kept_at sized history rest) (begun_with size change adds removes) ≡ Ok (record { kept = kept_at sized history rest; begun = Some (begun_with size change adds removes) })
 open_adds sized history change size rest adds removes h = choose_false (is_complete (begun_with size change adds removes)) _ _ (first_false _ _ (not_equal _ _ h))
 
-open_removes : (sized : Bool) (history : History) (change : Change) (size : ℕ) (rest : List ℕ) (adds : List Added) (removes : List (List ℕ)) → length removes < length change.removes
+pub open_removes : (sized : Bool) (history : History) (change : Change) (size : ℕ) (rest : List ℕ) (adds : List Added) (removes : List (List ℕ)) → length removes < length change.removes
     → settled (kept_at sized history rest) (begun_with size change adds removes) ≡ Ok (record { kept = kept_at sized history rest; begun = Some (begun_with size change adds removes) })
 open_removes sized history change size rest adds removes h =
     choose_false (is_complete (begun_with size change adds removes)) _ _ (last_false (nat_eq (length adds) (length change.adds)) _ (not_equal _ _ h))
@@ -281,10 +281,10 @@ whole_change sized history change size rest fits =
     choose_true (is_complete begun) _ _ both
     ∙ ap (if_within_limits (record { sized = sized; versions = with_change change history; rest = rest })) (fits.limits (next_line history + lines_begun begun))
 
-adds_done : (change : Change) (size : ℕ) (removes : List (List ℕ)) → nat_lt (length change.adds) (length change.adds) ≡ false
+pub adds_done : (change : Change) (size : ℕ) (removes : List (List ℕ)) → nat_lt (length change.adds) (length change.adds) ≡ false
 adds_done change size removes = grind (arith, nat_tests)
 
-below : (m n : ℕ) → m < n → nat_lt m n ≡ true
+pub below : (m n : ℕ) → m < n → nat_lt m n ≡ true
 below m n h = grind (arith, nat_tests)
 
 -- a line that removes
@@ -357,7 +357,7 @@ found_any {X} p (x ∷ xs) h = here (p x) refl (found_any p xs) h
     here true e later k = (x, refl)
     here false e later k = later k
 
-size_known : (history : History) (name : ListName) → declares history name ≡ true → (size : ℕ) × (declared_size_of history name ≡ Some size)
+pub size_known : (history : History) (name : ListName) → declares history name ≡ true → (size : ℕ) × (declared_size_of history name ≡ Some size)
 size_known history name h =
     let found = found_any (λ (list : ListName × ℕ). same_name list.0 name) history.declared h in
     (found.0.1, ap (option_map (λ (list : ListName × ℕ). list.1)) found.1)
@@ -365,7 +365,7 @@ size_known history name h =
 few_changes : (n : ℕ) → n < 65536 → nat_le most_changes n ≡ false
 few_changes n h = grind (arith, nat_tests)
 
-is_begun : (sized : Bool) (history : History) (change : Change) (size : ℕ) (rest : List ℕ) → 1 ≤ length change.adds + length change.removes
+pub is_begun : (sized : Bool) (history : History) (change : Change) (size : ℕ) (rest : List ℕ) → 1 ≤ length change.adds + length change.removes
     → settled (kept_at sized history rest) (begun_with size change [] []) ≡ Ok (record { kept = kept_at sized history rest; begun = Some (begun_with size change [] []) })
 is_begun sized history change size rest h = by_adds (length change.adds) refl
   where
@@ -431,14 +431,14 @@ fits_limits history got left change h are n =
     let long = length-append now left in
     no_limit n _ (subst IsWithin (same_sizes history now left change.list same) (h.within change.list (length now) (omega (arith, long, ap length same))))
 
-are_written : (adds : List Added) → All (λ (added : Added). (length added.hash ≡ 32) × IsPrefixSize added.size) adds → All (λ (added : Added). IsBytes added.hash) adds → All IsWritten adds
+pub are_written : (adds : List Added) → All (λ (added : Added). (length added.hash ≡ 32) × IsPrefixSize added.size) adds → All (λ (added : Added). IsBytes added.hash) adds → All IsWritten adds
 are_written [] h k = All-nil IsWritten
 are_written (added ∷ adds) h k =
     let well = All-head (λ (added : Added). (length added.hash ≡ 32) × IsPrefixSize added.size) added adds h in
     All-cons IsWritten added adds (record { whole = well.0; bytes = All-head (λ (added : Added). IsBytes added.hash) added adds k; size = well.1 })
     (are_written adds (All-tail (λ (added : Added). (length added.hash ≡ 32) × IsPrefixSize added.size) added adds h) (All-tail (λ (added : Added). IsBytes added.hash) added adds k))
 
-are_hashes : (hashes : List (List ℕ)) → All (λ (hash : List ℕ). length hash ≡ 32) hashes → All IsBytes hashes → All IsWrittenHash hashes
+pub are_hashes : (hashes : List (List ℕ)) → All (λ (hash : List ℕ). length hash ≡ 32) hashes → All IsBytes hashes → All IsWrittenHash hashes
 are_hashes [] h k = All-nil IsWrittenHash
 are_hashes (hash ∷ hashes) h k =
     All-cons IsWrittenHash hash hashes (record { whole = All-head (λ (hash : List ℕ). length hash ≡ 32) hash hashes h; bytes = All-head IsBytes hash hashes k })
@@ -457,7 +457,7 @@ abbrev HasDeclaredSize : Option ℕ → Change → Type 0
 HasDeclaredSize known change = All (λ (added : Added). known ≡ Some added.size) change.adds
 
 -- a change of the first form
-of_declared : (known : Option ℕ) (size : ℕ) (adds : List Added) → known ≡ Some size → All (λ (added : Added). known ≡ Some added.size) adds → All (IsOfForm false size) adds
+pub of_declared : (known : Option ℕ) (size : ℕ) (adds : List Added) → known ≡ Some size → All (λ (added : Added). known ≡ Some added.size) adds → All (IsOfForm false size) adds
 of_declared known size [] e h = All-nil (IsOfForm false size)
 of_declared known size (added ∷ adds) e h =
     let here : known ≡ Some added.size = All-head (λ (a : Added). known ≡ Some a.size) added adds h in
@@ -465,7 +465,7 @@ of_declared known size (added ∷ adds) e h =
     let is : size ≡ added.size = cc in
     All-cons (IsOfForm false size) added adds is (of_declared known size adds e (All-tail (λ (a : Added). known ≡ Some a.size) added adds h))
 
-of_any : (size : ℕ) (adds : List Added) → All (IsOfForm true size) adds
+pub of_any : (size : ℕ) (adds : List Added) → All (IsOfForm true size) adds
 of_any size [] = All-nil (IsOfForm true size)
 of_any size (added ∷ adds) = All-cons (IsOfForm true size) added adds tt (of_any size adds)
 
@@ -514,7 +514,7 @@ after_first_line : (line : List ℕ) (parts : List (List ℕ)) → 0 < length pa
 after_first_line line [] h = absurd (omega arith)
 after_first_line line (part ∷ parts) h = refl
 
-header_leads : (sized : Bool) (epoch : ℕ) (more : List ℕ) → epoch < 2 ^ 64
+pub header_leads : (sized : Bool) (epoch : ℕ) (more : List ℕ) → epoch < 2 ^ 64
     → kept_of (header_line (header_with sized epoch) ++ more) ≡ after_bytes (at_history sized (empty_history epoch)) more
 unfolding kept_of
 header_leads sized epoch more h =

@@ -8,7 +8,7 @@ use Rattle.sb_model.specs.declared.history.Added.{Added}
 use Rattle.sb_model.specs.declared.history.Change.{Change}
 use Rattle.sb_model.specs.declared.names.ListName.{ListName}
 use Rattle.sb_model.specs.Names.{same_name, text_of}
-use Rattle.sb_model.specs.History.{History, IsWellFormed, declares}
+use Rattle.sb_model.specs.History.{History, IsPrefixSize, IsWellFormed, declares}
 use Rattle.list_versions.specs.declared.heads.Header.{Header}
 use Rattle.list_versions.specs.Journal.{Kept, declared_size_of}
 use Rattle.list_versions.specs.Limits.{WithinLimits, hash_lines, most_changes, most_hash_lines, most_lists}
@@ -87,10 +87,31 @@ pub record HasJournal (history : History) : Type 0 where
   pub few_hashes : hash_lines history.changes ≤ most_hash_lines
   pub within : WithinLimits history
 
--- Each hash that a change adds has the declared size of its list: then a journal of the first form tells it too.
+-- Each hash that these changes add has the declared size of its list: then lines without sizes tell them too.
+abbrev pub HaveDeclaredSizes : History → List Change → Type 0
+HaveDeclaredSizes history changes = All (λ change. All (λ added. declared_size_of history change.list ≡ Some added.size) change.adds) changes
+
 abbrev pub HasDeclaredSizes : History → Type 0
-HasDeclaredSizes history = All (λ change. All (λ added. declared_size_of history change.list ≡ Some added.size) change.adds) history.changes
+HasDeclaredSizes history = HaveDeclaredSizes history history.changes
 
 -- what such a journal says: this history, and nothing after it
 abbrev pub wholly : Bool → History → Kept
 wholly sized history = record { sized = sized; versions = history; rest = [] }
+
+-- ---- what is read of a text that was written
+
+-- A change that a record can tell behind a history. Whether it passes a limit is not said.
+pub record MayFollow (history : History) (change : Change) : Type 0 where
+  pub lines : HasLines history change
+  pub adds : All (λ added. (length added.hash ≡ 32) × IsPrefixSize added.size) change.adds
+  pub removes : All (λ hash. length hash ≡ 32) change.removes
+
+-- what is known once further changes have come
+abbrev pub with_changes : List Change → Kept → Kept
+with_changes changes kept = record kept { versions = record kept.versions { changes = kept.versions.changes ++ changes } }
+
+-- A history whose text has the form of a journal. Whether it passes a limit is not said.
+pub record HasText (history : History) : Type 0 where
+  pub epoch : history.epoch < 2 ^ 64
+  pub sizes : All (λ list. IsPrefixSize list.1) history.declared
+  pub changes : All (MayFollow history) history.changes

@@ -10,7 +10,7 @@ ghost use Rattle.sb_model.specs.Prefixes.{set_of};
 ghost use Rattle.list_versions.specs.Journal.{Kept, declared_size_of, read_on, after_bytes, at_record};
 ghost use Rattle.list_versions.specs.HashSizes.{IsMapOf};
 ghost use Rattle.list_versions.specs.Live.{IsPublishable};
-ghost use Rattle.list_versions.specs.Limits.{WithinLimits, most_changes};
+ghost use Rattle.list_versions.specs.Limits.{WithinLimits, hash_lines, most_changes, most_hash_lines, most_lists};
 ghost use Rattle.list_versions.specs.Draft.{history_of, kept_of_draft, before_record, IsDraft};
 ghost use Rattle.sb_model.specs.Difference.{removed_places, added_members};
 ghost use Rattle.list_versions.specs.Ends.{adds_of};
@@ -25,7 +25,7 @@ use crate::growing::{More, read_more};
 use crate::hash_sizes::Folding;
 use crate::leading::leading;
 use crate::listing::{hashes_begun, hashes_of};
-use crate::lists::{same, size_of};
+use crate::lists::{declared_lists, same, size_of};
 use crate::lookup::{hashes_with, live_of};
 use crate::newest::Newest;
 use crate::older::{fold_on, folding_at};
@@ -300,6 +300,22 @@ impl History {
         ensures { result.now ≡ self.now.versions.changes }
     {
         self.draft.changes.as_slice()
+    }
+
+    /// How many hash lines the changes have, 2,097,152 at most.
+    pub fn hash_lines(&self) -> u64
+        ensures count { result ≡ hash_lines self.now.versions.changes }
+        ensures few { result ≤ most_hash_lines }
+    {
+        self.draft.hashes
+    }
+
+    /// The declared lists with their prefix sizes in bytes, in the order of the journal. There are eight at most.
+    pub fn lists(&self, alloc: Global) -> Result<Row<(ListName, u8)>, OutOfMemory>
+        ensures value { IfOk result (λ lists. lists ≡ self.now.versions.declared) }
+        ensures few { OnOk result (length self.now.versions.declared ≤ most_lists) }
+    {
+        declared_lists(alloc, self.draft.lists.as_slice())
     }
 
     /// The prefix size that is declared for a list, in bytes.

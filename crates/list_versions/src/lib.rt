@@ -6,7 +6,10 @@ pub use fault::JournalFault;
 pub use hash_sizes::Folding;
 pub use heads::{Head, Header};
 pub use history::History;
-pub use laws::{cuts_make_no_difference, journals_read_as_written};
+pub use laws::{
+    cuts_make_no_difference, journals_read_as_written, records_are_read_as_their_changes,
+    texts_are_read_as_their_histories,
+};
 pub use lines::{read_add, read_head, read_header, read_remove};
 pub use newest::Newest;
 pub use printing::push_journal_cause;

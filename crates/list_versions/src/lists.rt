@@ -1,4 +1,4 @@
-ghost use Rattle.std.specs.Prelude.{◌≡◌, ℕ, ◌+◌, ◌^◌, ◌<◌, ◌≤◌, min, List, true, length, All, Option, option_map, find, OnOk, slice_index_or};
+ghost use Rattle.std.specs.Prelude.{◌≡◌, ℕ, ◌+◌, ◌^◌, ◌<◌, ◌≤◌, min, List, true, length, All, Option, option_map, find, IfOk, OnOk, slice_index_or};
 ghost use Rattle.sb_model.specs.Names.{same_name};
 ghost use Rattle.sb_model.specs.History.{after_change};
 ghost use Rattle.sb_model.specs.declared.history.Added.{Added as Entry};
@@ -12,7 +12,7 @@ ghost use Rattle.list_versions.specs.Live.{Holds, IsPlaced, KeepsEnds};
 
 use crate::JournalFault;
 use crate::draft::Listed;
-use sb_model::{Change, ListName, OutOfMemory};
+use sb_model::{Change, ListName, OutOfMemory, Row};
 use std::alloc::Global;
 
 /// Whether two names are the same.
@@ -39,6 +39,20 @@ pub(crate) fn size_of(lists: &[Listed], name: ListName) -> Option<u8>
         }
     }
     None
+}
+
+/// The names of some lists, with their declared sizes.
+pub(crate) fn declared_lists(
+    alloc: Global,
+    lists: &[Listed],
+) -> Result<Row<(ListName, u8)>, OutOfMemory>
+    ensures { IfOk result (λ declared. declared ≡ declared_of lists.now) }
+{
+    let mut declared = Row::with_capacity(alloc, lists.len())?;
+    for list in lists {
+        declared.push((list.name, list.size))?;
+    }
+    Ok(declared)
 }
 
 // Applies a change to a list, where it is one of the list.

@@ -202,7 +202,8 @@ fn prefixes_gained(alloc: Global, older: &[u32], newer: &[u32]) -> Result<Row<Pr
     requires newer { IsStrictlyIncreasing newer.now }
     ensures { IfOk result (λ prefixes. prefixes ≡ added_members (quads_of older.now) (quads_of newer.now)) }
 {
-    let mut prefixes = Row::new(alloc);
+    let least = newer.len().saturating_sub(older.len());
+    let mut prefixes = Row::with_capacity(alloc, least)?;
     let mut rest = older;
     for number in newer {
         rest = from_number(rest, *number);

@@ -1,9 +1,8 @@
-use Rattle.std.proofs.Common.{◌≡◌, List, map, ap, ◌∙◌}
-use Rattle.hash_prefixes.specs.declared.hashes.FullHash.{FullHash}
+use Rattle.std.proofs.Common.{map, ap, ◌∙◌}
 use Rattle.url_expressions.specs.Expressions.{expressions_of}
 use Rattle.url_expressions.specs.Spans.{piece_of}
 use Rattle.url_expressions.specs.declared.spans.Span.{Span}
-use Rattle.url_hashes.specs.Hashes.{full_hash_of, hashes_of}
+use Rattle.url_hashes.specs.Hashes.{full_hash_of}
 use Rattle.url_hashes.proofs.Pieces.{hashes_of_pieces, hashes_whole}
 use Rattle.url_hashes.proofs.url_hashes.Goals as goal
 

@@ -7,7 +7,7 @@ use Rattle.list_versions.proofs.quads.prefixes_gained.Goals as goal
 use Rattle.list_versions.proofs.quads.prefixes_gained.Goals.{then-not-is_first+in_ok-push, else-not-is_first}
 
 pub loop-number-init : goal.loop-number-init
-loop-number-init c = record { prefixes = c.new-prefixes.ensures; tells = tells_first c.args.older.now c.requires.older }
+loop-number-init c = record { prefixes = c.in_ok-prefixes.ensures; tells = tells_first c.args.older.now c.requires.older }
 
 pub loop-number-preserved : goal.loop-number-preserved
 loop-number-preserved c =
