@@ -34,21 +34,40 @@ pub record IsOutgoing (full : List (List ℕ)) (last : List ℕ) (sent left : �
   pub filled : All (λ piece. 0 < length piece) full
   pub count : left ≡ length (drop sent (first_piece full last) ++ after_first full last)
 
--- An answer that leaves: the bytes that are left, how many of them are sent next, and how many are its own and not of a text
--- that others hold too.
+-- An answer that leaves: what is left of its own bytes before the text that it shares, of that text, and of its own bytes behind it;
+-- how many bytes are sent next; and the number and the length of that text, where it holds one.
 pub record Leaving : Type 0 where
-  pub bytes : List ℕ
+  pub before : List ℕ
+  pub text : List ℕ
+  pub behind : List ℕ
   pub front : ℕ
-  pub own : ℕ
+  pub held : Option (ℕ × ℕ)
 
 -- no bytes
 abbrev pub nothing_leaves : Leaving
-nothing_leaves = record { bytes = []; front = 0; own = 0 }
+nothing_leaves = record { before = []; text = []; behind = []; front = 0; held = None }
+
+-- all bytes that are left, in order
+abbrev pub all_left : Leaving → List ℕ
+all_left answer = answer.before ++ (answer.text ++ answer.behind)
+
+-- how many of them are its own, and not of a text that others hold too
+abbrev pub own_left : Leaving → ℕ
+own_left answer = length answer.before + length answer.behind
+
+-- a text of this length is held, whatever its number
+abbrev pub Holds : Option (ℕ × ℕ) → ℕ → Type 0
+Holds held size = (number : ℕ) × (held ≡ Some (number, size))
 
 -- the bytes of a text, where there is one
 abbrev pub text_of : Option (List ℕ) → List ℕ
 text_of None = []
 text_of (Some text) = text
+
+-- its number and its length
+abbrev pub held_of : ℕ → Option (List ℕ) → Option (ℕ × ℕ)
+held_of number None = None
+held_of number (Some text) = Some (number, length text)
 
 -- the first of three lengths that is not 0
 abbrev pub first_length : (a b c : ℕ) → ℕ
@@ -57,11 +76,13 @@ first_length zero (suc b) c = suc b
 first_length (suc a) b c = suc a
 
 -- own bytes, then what is left of a text, then own bytes
-abbrev pub leaving : Waiting → List ℕ → Waiting → Leaving
-leaving head shared tail = record {
-  bytes = bytes_of head ++ (shared ++ bytes_of tail);
+abbrev pub leaving : Waiting → List ℕ → Waiting → Option (ℕ × ℕ) → Leaving
+leaving head shared tail held = record {
+  before = bytes_of head;
+  text = shared;
+  behind = bytes_of tail;
   front = first_length (length head.front) (length shared) (length tail.front);
-  own = length (bytes_of head) + length (bytes_of tail);
+  held = held;
 }
 
 -- a connection that is handed out

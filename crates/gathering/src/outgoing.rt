@@ -1,6 +1,6 @@
-ghost use Rattle.std.specs.Prelude.{◌≡◌, ◌+◌, ◌≤◌, [], ◌++◌, length, take, drop, true, false, IfOk, IfSome, IfNone, OnErr, ◌↔◌, IsTrue};
+ghost use Rattle.std.specs.Prelude.{◌≡◌, ◌+◌, ◌-◌, ◌≤◌, [], ◌++◌, length, take, drop, true, false, None, IfOk, OnErr, ◌↔◌, IsTrue};
 ghost use Rattle.gathering.specs.Deadlines.{moment};
-ghost use Rattle.gathering.specs.Wires.{bytes_of, nothing_leaves, text_of};
+ghost use Rattle.gathering.specs.Wires.{all_left, own_left, nothing_leaves, text_of, Holds};
 
 use crate::own_bytes::OwnBytes;
 use sb_model::OutOfMemory;
@@ -10,13 +10,16 @@ use std::marker::Model;
 use std::mem;
 
 /// An answer of which some is not yet sent: bytes of its own, and among them at most one text that others may hold too.
-/// Contracts see it as the list of the bytes that are left, with how many of them are sent next, and how many are its own.
+/// Contracts see it as what is left of its own bytes before the text, of the text, and of its own bytes behind it, with how
+/// many bytes are sent next, and the number and the length of the text.
 #[derive(Drop)]
 pub struct Outgoing {
     alloc: Global,
     // its own bytes before the text
     head: OwnBytes,
+    // the text, and its number
     shared: Option<SharedText>,
+    number: u64,
     // how many bytes of the text are sent
     sent: usize,
     // its own bytes after the text, or all where there is none
@@ -24,14 +27,14 @@ pub struct Outgoing {
 }
 
 impl Model for Outgoing {
-    ghost use Rattle.std.specs.Prelude.{◌≤◌, drop, length};
-    ghost use Rattle.gathering.specs.Wires.{Leaving, leaving, text_of};
+    ghost use Rattle.std.specs.Prelude.{◌≡◌, ◌≤◌, [], None, drop, length};
+    ghost use Rattle.gathering.specs.Wires.{Leaving, leaving, bytes_of, text_of, held_of};
 
     ghost Value = { Leaving };
 
-    ghost view = { λ o. leaving o.head (drop o.sent (text_of o.shared)) o.tail };
+    ghost view = { λ o. leaving o.head (drop o.sent (text_of o.shared)) o.tail (held_of o.number o.shared) };
 
-    ghost invariant = { λ o. o.sent ≤ length (text_of o.shared) };
+    ghost invariant = { λ o. (o.sent ≤ length (text_of o.shared)) × (o.shared ≡ None → bytes_of o.head ≡ []) };
 }
 
 /// What of a text is left after so many bytes.
@@ -64,6 +67,7 @@ impl Outgoing {
             alloc,
             head: OwnBytes::new(alloc),
             shared: None,
+            number: 0,
             sent: 0,
             tail: OwnBytes::new(alloc),
         }
@@ -71,7 +75,7 @@ impl Outgoing {
 
     /// How many bytes are left to send, at most the greatest `u64`.
     pub fn left(&self) -> u64
-        ensures { result ≡ moment (length self.now.bytes) }
+        ensures { result ≡ moment (length (all_left self.now)) }
     {
         let shared = rest_of(&self.shared, self.sent).len() as u64;
         let own = (self.head.len() as u64).saturating_add(self.tail.len() as u64);
@@ -80,18 +84,17 @@ impl Outgoing {
 
     /// How many of them are its own, at most the greatest `u64`.
     pub fn owned(&self) -> u64
-        ensures { result ≡ moment self.now.own }
+        ensures { result ≡ moment (own_left self.now) }
     {
         (self.head.len() as u64).saturating_add(self.tail.len() as u64)
     }
 
-    /// The number of the text that it shares, and the length of that text: all bytes that are not its own are the text's.
+    /// The number and the length of the text that it shares, or `None` where it holds none.
     pub fn shared(&self) -> Option<(u64, usize)>
-        ensures some { IfSome result (λ held. length self.now.bytes ≤ self.now.own + held.1) }
-        ensures none { IfNone result (length self.now.bytes ≡ self.now.own) }
+        ensures { result ≡ self.now.held }
     {
         match &self.shared {
-            Some(text) => Some((text.number(), text.as_slice().len())),
+            Some(text) => Some((self.number, text.as_slice().len())),
             None => None,
         }
     }
@@ -101,9 +104,12 @@ impl Outgoing {
     pub fn put(&mut self, piece: &[u8]) -> Result<usize, OutOfMemory>
         ensures within { IfOk result (λ n. n ≤ length piece.now) }
         ensures some { IfOk result (λ n. n ≡ 0 → piece.now ≡ []) }
-        ensures ok { IfOk result (λ n. self.new.bytes ≡ self.old.bytes ++ take n piece.now) }
-        ensures own { IfOk result (λ n. self.new.own ≡ self.old.own + n) }
-        ensures err { OnErr result (self.new.bytes ≡ self.old.bytes) }
+        ensures ok { IfOk result (λ n. self.new ≡ record self.old {
+          behind = self.old.behind ++ take n piece.now;
+          front = self.new.front;
+        }) }
+        ensures bytes { IfOk result (λ n. all_left self.new ≡ all_left self.old ++ take n piece.now) }
+        ensures err { OnErr result (self.new ≡ record self.old { front = self.new.front }) }
     {
         self.tail.put(piece)
     }
@@ -111,26 +117,29 @@ impl Outgoing {
     /// Appends a whole text, which is held and not copied, where none is held so far. It says whether it did. Where memory
     /// is refused, nothing is appended.
     pub fn put_shared(&mut self, text: &SharedText) -> Result<bool, OutOfMemory>
-        ensures taken { IfOk result (λ took. took ≡ true → self.new.bytes ≡ self.old.bytes ++ text.now) }
-        ensures own { IfOk result (λ took. took ≡ true → self.new.own ≡ self.old.own) }
+        ensures takes { IfOk result (λ took. IsTrue took ↔ self.old.held ≡ None) }
+        ensures taken { IfOk result (λ took. took ≡ true → all_left self.new ≡ all_left self.old ++ text.now) }
+        ensures own { IfOk result (λ took. took ≡ true → own_left self.new ≡ own_left self.old) }
+        ensures held { IfOk result (λ took. took ≡ true → Holds self.new.held (length text.now)) }
         ensures not { IfOk result (λ took. took ≡ false → self.new ≡ self.old) }
         ensures err { OnErr result (self.new ≡ self.old) }
     {
-        if self.shared.is_some() || self.head.len() > 0 {
+        if self.shared.is_some() {
             return Ok(false);
         }
-        let text = text.share()?;
+        let held = text.share()?;
         self.head = mem::replace(&mut self.tail, OwnBytes::new(self.alloc));
-        self.shared = Some(text);
+        self.shared = Some(held);
+        self.number = text.number();
         self.sent = 0;
         Ok(true)
     }
 
     /// The bytes that are sent next: empty only where nothing is left.
     pub fn front(&self) -> &[u8]
-        ensures front { result.now ≡ take self.now.front self.now.bytes }
+        ensures front { result.now ≡ take self.now.front (all_left self.now) }
         ensures size { length result.now ≡ self.now.front }
-        ensures some { result.now ≡ [] → self.now.bytes ≡ [] }
+        ensures some { result.now ≡ [] → all_left self.now ≡ [] }
     {
         let head = self.head.front();
         if !head.is_empty() {
@@ -146,8 +155,12 @@ impl Outgoing {
     /// Says that so many bytes of the front are sent.
     pub fn advance(&mut self, count: usize)
         requires { count ≤ self.old.front }
-        ensures bytes { self.new.bytes ≡ drop count self.old.bytes }
-        ensures own { self.new.own ≤ self.old.own }
+        ensures before { self.new.before ≡ drop count self.old.before }
+        ensures text { self.new.text ≡ drop (count - length self.old.before) self.old.text }
+        ensures behind { self.new.behind ≡ drop (count - length self.old.before - length self.old.text) self.old.behind }
+        ensures bytes { all_left self.new ≡ drop count (all_left self.old) }
+        ensures own { own_left self.new ≤ own_left self.old }
+        ensures held { self.new.held ≡ self.old.held }
     {
         if !self.head.front().is_empty() {
             self.head.advance(count);

@@ -2,7 +2,7 @@ ghost use Rattle.std.specs.Prelude.{◌≡◌, ℕ, ◌≤◌, ◌<◌, ◌↔�
 ghost use Rattle.http_edge.specs.Requests.{NeedsMore};
 ghost use Rattle.sb_outside.specs.Outside.{Rose, GivesFront, AnswersEnd, raised, next_piece, appended};
 ghost use Rattle.sb_outside.specs.Connections.{pieces_of};
-ghost use Rattle.gathering.specs.Wires.{WireInHand, IsFreshWire, HasItsTurn};
+ghost use Rattle.gathering.specs.Wires.{WireInHand, all_left, IsFreshWire, HasItsTurn};
 
 use crate::{Ending, Gathered, Outgoing};
 use sb_model::Bytes;
@@ -32,7 +32,7 @@ pub struct GatheredWire {
 impl Model for GatheredWire {
     ghost use Rattle.std.specs.Prelude.{◌≡◌, ◌≤◌, [], drop, length, true, if◌then◌else◌};
     ghost use Rattle.sb_outside.specs.Connections.{pieces_of};
-    ghost use Rattle.gathering.specs.Wires.{WireInHand};
+    ghost use Rattle.gathering.specs.Wires.{WireInHand, all_left};
     ghost use Rattle.gathering.specs.declared.phases.Ending.{Ending};
 
     ghost Value = { WireInHand };
@@ -45,7 +45,7 @@ impl Model for GatheredWire {
       ended = s.ended;
       left = (if s.has_ended then [] else pieces_of (drop s.given s.gathered));
       ending = s.ending;
-      written = s.written.bytes;
+      written = all_left s.written;
       read_faults = s.read_faults;
       write_faults = s.write_faults;
     } };
@@ -145,7 +145,7 @@ impl GatheredWire {
 
     /// What was written to it, or `None` where a write failed.
     pub fn into_answer(self) -> Option<Outgoing>
-        ensures answer { IfSome result (λ answer. answer.bytes ≡ self.written) }
+        ensures answer { IfSome result (λ answer. all_left answer ≡ self.written) }
         ensures whole { IsSome result ↔ (self.write_faults ≡ 0) }
     {
         if self.write_faults == 0 {

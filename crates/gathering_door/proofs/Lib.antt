@@ -1,1 +1,4 @@
 pub mod Untold
+pub mod Served
+pub mod Rounds
+pub mod Sending

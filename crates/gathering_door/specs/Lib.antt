@@ -1,1 +1,4 @@
 pub mod Doors
+pub mod Counted
+pub mod Guests
+pub mod Houses

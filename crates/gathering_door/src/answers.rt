@@ -1,3 +1,6 @@
+ghost use Rattle.std.specs.Prelude.{◌≡◌, ◌-◌, [], OnOk, OnErr};
+ghost use Rattle.gathering_door.specs.Counted.{entered, without};
+
 use gathering::{Outgoing, Texts};
 use sb_model::OutOfMemory;
 use std::alloc::Global;
@@ -10,19 +13,26 @@ pub(crate) struct Answers {
 }
 
 impl Answers {
-    pub(crate) fn new(alloc: Global) -> Answers {
+    pub(crate) fn new(alloc: Global) -> Answers
+        ensures { result ≡ record { bytes = 0; texts = [] } }
+    {
         Answers {
             bytes: 0,
             texts: Texts::new(alloc),
         }
     }
 
-    pub(crate) fn bytes(&self) -> u64 {
+    pub(crate) fn bytes(&self) -> u64
+        ensures { result ≡ self.now.bytes }
+    {
         self.bytes
     }
 
     /// An answer waits from now on. Where memory is refused, it does not count.
-    pub(crate) fn enter(&mut self, answer: &Outgoing) -> Result<(), OutOfMemory> {
+    pub(crate) fn enter(&mut self, answer: &Outgoing) -> Result<(), OutOfMemory>
+        ensures ok { OnOk result (self.new ≡ entered self.old answer.now) }
+        ensures err { OnErr result (self.new ≡ self.old) }
+    {
         if let Some((number, length)) = answer.shared() {
             match self.texts.take(number) {
                 Ok(true) => self.bytes = self.bytes.saturating_add(length as u64),
@@ -35,12 +45,16 @@ impl Answers {
     }
 
     /// Some of an answer was taken: so many bytes of its own were left before, and so many now.
-    pub(crate) fn move_on(&mut self, before: u64, now: u64) {
+    pub(crate) fn move_on(&mut self, before: u64, now: u64)
+        ensures { self.new ≡ record self.old { bytes = self.old.bytes - (before - now) } }
+    {
         self.bytes = self.bytes.saturating_sub(before.saturating_sub(now));
     }
 
     /// An answer waits no longer.
-    pub(crate) fn leave(&mut self, answer: &Outgoing) {
+    pub(crate) fn leave(&mut self, answer: &Outgoing)
+        ensures { self.new ≡ without self.old answer.now }
+    {
         self.bytes = self.bytes.saturating_sub(answer.owned());
         if let Some((number, length)) = answer.shared()
             && self.texts.let_go(number)

@@ -1,4 +1,10 @@
+ghost use Rattle.std.specs.Prelude.{◌≡◌, ◌≤◌, [], length, drop, Some, None, IfOk, OnOk, OnErr};
+ghost use Rattle.gathering.specs.Deadlines.{moment};
+ghost use Rattle.gathering.specs.Wires.{all_left, own_left};
+ghost use Rattle.gathering_door.specs.Guests.{gathered_with, left_of, IsSent, IsSettled};
+
 use gathering::{Address, Candidate, Ending, Gathered, Heard, InLine, Outgoing, Phase, Sent};
+use mio::event::Event;
 use mio::net::TcpStream;
 use mio::{Interest, Registry, Token};
 use sb_model::OutOfMemory;
@@ -46,6 +52,47 @@ pub(crate) struct Guest {
     pub(crate) is_in_row: bool,
 }
 
+/// Writes what the system takes of the bytes that are sent next, and says how many.
+fn send_piece(stream: &mut TcpStream, answer: &mut Outgoing) -> io::Result<usize>
+    ensures within { IfOk result (λ n. n ≤ length (all_left answer.old)) }
+    ensures ok { IfOk result (λ n. all_left answer.new ≡ drop n (all_left answer.old)) }
+    ensures err { OnErr result (answer.new ≡ answer.old) }
+    ensures stream { stream.new ≡ stream.old }
+{
+    let front = answer.front();
+    match stream.write(front) {
+        Ok(count) => {
+            answer.advance(count);
+            Ok(count)
+        }
+        Err(e) => Err(e),
+    }
+}
+
+/// Writes what the system takes of an answer, at most some pieces. Where it takes no more, there is no writing for now.
+#[tactic(auto, using(crate::proofs::Sending::nothing_sent, crate::proofs::Sending::more_sent, crate::proofs::Sending::sent_till_fault))]
+fn send_pieces(stream: &mut TcpStream, answer: &mut Outgoing, can_write: &mut bool) -> Sent
+    ensures sent { IsSent (all_left answer.old) (all_left answer.new) result }
+    ensures stream { stream.new ≡ stream.old }
+{
+    let mut taken = 0u64;
+    'pieces: for _ in 0..PIECES_A_TURN {
+        if answer.front().is_empty() {
+            break;
+        }
+        match send_piece(stream, answer) {
+            Ok(count) => taken = taken.saturating_add(count as u64),
+            Err(e) if e.kind() == ErrorKind::Interrupted => break,
+            Err(e) if e.kind() == ErrorKind::WouldBlock => {
+                *can_write = false;
+                break;
+            }
+            Err(_) => return Sent::Fault,
+        }
+    }
+    Sent::Taken(taken)
+}
+
 /// Whether a connection waits for its turn, or has it.
 pub(crate) fn is_held(phase: Phase) -> bool {
     matches!(phase, Phase::Decided { .. } | Phase::InTurn)
@@ -58,7 +105,11 @@ impl Guest {
         serial: u64,
         gathered: Gathered,
         now: u64,
-    ) -> Guest {
+    ) -> Guest
+        ensures serial { result.serial ≡ serial }
+        ensures gathered { result.gathered ≡ Some gathered }
+        ensures answer { result.answer ≡ None }
+    {
         Guest {
             stream,
             serial,
@@ -127,7 +178,9 @@ impl Guest {
     }
 
     /// Has the system report what it has to, under a token. What is there already when this begins is reported too.
-    pub(crate) fn be_watched(&mut self, registry: &Registry, token: Token) -> io::Result<()> {
+    pub(crate) fn be_watched(&mut self, registry: &Registry, token: Token) -> io::Result<()>
+        ensures { IsSettled self.old self.new }
+    {
         let wanted = self.wanted();
         if wanted == self.watch {
             return Ok(());
@@ -146,8 +199,21 @@ impl Guest {
         Ok(())
     }
 
+    /// Notes what the system reports of it.
+    pub(crate) fn note(&mut self, event: &Event)
+        ensures { self.new ≡ record self.old { can_read = self.new.can_read; can_write = self.new.can_write } }
+    {
+        let has_failed = event.is_error();
+        let reads = event.is_readable() || event.is_read_closed() || has_failed;
+        let writes = event.is_writable() || event.is_write_closed() || has_failed;
+        self.can_read = self.can_read || reads;
+        self.can_write = self.can_write || writes;
+    }
+
     /// One read of the socket into the buffer.
-    pub(crate) fn hear(&mut self, buffer: &mut [u8]) -> Heard {
+    pub(crate) fn hear(&mut self, buffer: &mut [u8]) -> Heard
+        ensures { self.new ≡ record self.old { has_ended = self.new.has_ended; can_read = self.new.can_read } }
+    {
         if self.has_ended {
             self.can_read = false;
             return Heard::Nothing;
@@ -180,7 +246,10 @@ impl Guest {
     }
 
     /// Takes what a read brought to what is gathered, and says whether it decides the request.
-    pub(crate) fn gather(&mut self, piece: &[u8]) -> Result<bool, OutOfMemory> {
+    pub(crate) fn gather(&mut self, piece: &[u8]) -> Result<bool, OutOfMemory>
+        ensures ok { OnOk result (self.new ≡ record self.old { gathered = gathered_with self.old.gathered piece.now }) }
+        ensures err { OnErr result (self.new ≡ self.old) }
+    {
         match &mut self.gathered {
             Some(gathered) => {
                 gathered.take(piece)?;
@@ -190,8 +259,17 @@ impl Guest {
         }
     }
 
+    /// Its answer is to be sent.
+    pub(crate) fn begin_answer(&mut self, answer: Outgoing)
+        ensures { self.new ≡ record self.old { answer = Some answer } }
+    {
+        self.answer = Some(answer);
+    }
+
     /// How many bytes of its answer are left to send.
-    pub(crate) fn left(&self) -> u64 {
+    pub(crate) fn left(&self) -> u64
+        ensures { result ≡ moment (length (left_of self.now.answer)) }
+    {
         match &self.answer {
             Some(answer) => answer.left(),
             None => 0,
@@ -207,29 +285,13 @@ impl Guest {
     }
 
     /// Writes what the system takes of the answer, at most some pieces.
-    pub(crate) fn send(&mut self) -> Sent {
-        let mut taken = 0u64;
-        let Some(answer) = &mut self.answer else {
-            return Sent::Taken(0);
-        };
-        for _ in 0..PIECES_A_TURN {
-            let front = answer.front();
-            if front.is_empty() {
-                break;
-            }
-            match self.stream.write(front) {
-                Ok(count) => {
-                    answer.advance(count);
-                    taken = taken.saturating_add(count as u64);
-                }
-                Err(e) if e.kind() == ErrorKind::Interrupted => break,
-                Err(e) if e.kind() == ErrorKind::WouldBlock => {
-                    self.can_write = false;
-                    break;
-                }
-                Err(_) => return Sent::Fault,
-            }
+    pub(crate) fn send(&mut self) -> Sent
+        ensures sent { IsSent (left_of self.old.answer) (left_of self.new.answer) result }
+        ensures same { self.new ≡ record self.old { answer = self.new.answer; can_write = self.new.can_write } }
+    {
+        match &mut self.answer {
+            Some(answer) => send_pieces(&mut self.stream, answer, &mut self.can_write),
+            None => Sent::Taken(0),
         }
-        Sent::Taken(taken)
     }
 }

@@ -1,5 +1,8 @@
-ghost use Rattle.std.specs.Prelude.{IfSome};
-ghost use Rattle.gathering.specs.Wires.{IsFreshWire, HasItsTurn};
+ghost use Rattle.std.specs.Prelude.{◌≡◌, ◌↔◌, take, None, IfSome, IfNone, IsSomeAnd, IsTrue, OnOk, OnErr};
+ghost use Rattle.gathering.specs.Wires.{IsFreshWire, HasItsTurn, all_left};
+ghost use Rattle.gathering_door.specs.Guests.{gathered_with, left_of, IsSettled, StandsFor};
+ghost use Rattle.gathering_door.specs.Houses.{Answers as AnswersIn, HandsOut, IsOut, Keeps, Moves, OnlyCloses, OnlyClosesOthers, Settles, TakesBack, WorksFor, WorksForAll};
+ghost use Rattle.slab.specs.Slab.{get, Updates};
 
 use crate::answers::Answers;
 use crate::door_time::begun_millis;
@@ -21,6 +24,49 @@ use std::net::Shutdown;
 
 /// How many bytes of a peer are read in one turn.
 const READ_A_TURN: usize = 65_536;
+
+/// The front of a buffer, of so many bytes.
+fn front_of(buffer: &[u8], count: u64) -> &[u8]
+    ensures { result.now ≡ take count buffer.now }
+{
+    match usize::try_from(count) {
+        Ok(size) if size <= buffer.len() => &buffer[..size],
+        _ => buffer,
+    }
+}
+
+/// Keeps so many bytes of a buffer for a connection, and says whether they decide its request.
+fn keep_piece(guest: &mut Guest, buffer: &[u8], count: u64) -> Result<bool, OutOfMemory>
+    ensures ok { OnOk result (guest.new ≡ record guest.old {
+      gathered = gathered_with guest.old.gathered (take count buffer.now);
+      held = guest.new.held;
+    }) }
+    ensures err { OnErr result (guest.new ≡ guest.old) }
+{
+    let decides = guest.gather(front_of(buffer, count))?;
+    guest.held = guest.held.saturating_add(count);
+    Ok(decides)
+}
+
+/// What a connection has gathered, in its turn, as a wire of this number.
+fn turn_of(
+    alloc: Global,
+    guest: &mut Guest,
+    slot: usize,
+    number: u64,
+    passed: u64,
+) -> Option<GatheredWire>
+    ensures fresh { IfSome result (λ wire. IsFreshWire number wire) }
+    ensures turn { IfSome result HasItsTurn }
+    ensures slot { IfSome result (λ wire. wire.slot ≡ slot) }
+    ensures stands { IfSome result (λ wire. StandsFor wire guest.old) }
+    ensures took { guest.new ≡ record guest.old { turn_began = passed; gathered = None } }
+{
+    guest.turn_began = passed;
+    let gathered = guest.gathered.take()?;
+    let (serial, has_ended, ending) = (guest.serial, guest.has_ended, guest.ending);
+    GatheredWire::in_turn(alloc, number, slot, serial, gathered, has_ended, ending)
+}
 
 /// All connections of a door, by their slots.
 #[derive(Drop)]
@@ -92,13 +138,18 @@ impl House {
     }
 
     /// What passes with time: how many may be open rises, and the shares are halved.
-    pub(crate) fn pass_time(&mut self, now: u64) {
+    pub(crate) fn pass_time(&mut self, now: u64)
+        ensures { self.new.guests ≡ self.old.guests }
+    {
         self.room = risen(&self.limits, self.room, now);
         self.line.pass_time(now);
     }
 
     /// Closes a connection.
-    fn close(&mut self, slot: usize) {
+    fn close(&mut self, slot: usize)
+        ensures closed { Updates self.old.guests self.new.guests slot None }
+        ensures buffer { self.new.buffer ≡ self.old.buffer }
+    {
         if let Some(guest) = self.guests.try_remove(slot) {
             self.rows.leave(&self.limits, guest.phase, guest.serial);
             self.crowd.left(guest.address);
@@ -114,7 +165,9 @@ impl House {
     }
 
     /// The slot of the connection that gives way, where there is one. All are looked at: this is for a full house.
-    fn first_to_yield(&mut self) -> Option<usize> {
+    fn first_to_yield(&mut self) -> Option<usize>
+        ensures { self.new.guests ≡ self.old.guests }
+    {
         self.candidates.clear();
         for (slot, guest) in self.guests.iter() {
             if self.candidates.push(guest.candidate(slot)).is_err() {
@@ -126,14 +179,19 @@ impl House {
     }
 
     /// Closes the connection that gives way, where there is one.
-    fn give_way(&mut self) {
+    #[tactic(auto, using(crate::proofs::Rounds::nothing_closed, crate::proofs::Rounds::one_closed))]
+    fn give_way(&mut self)
+        ensures { OnlyCloses self.old.guests self.new.guests }
+    {
         if let Some(slot) = self.first_to_yield() {
             self.close(slot);
         }
     }
 
     /// The system has no room for a further connection: one gives way, and no more may be open than are left.
-    pub(crate) fn make_room(&mut self, now: u64) {
+    pub(crate) fn make_room(&mut self, now: u64)
+        ensures { OnlyCloses self.old.guests self.new.guests }
+    {
         self.give_way();
         self.room = after_no_room(self.guests.len(), now);
     }
@@ -176,7 +234,9 @@ impl House {
     }
 
     /// Has the system report what there is to wait for of a connection. Where it cannot, the connection is closed.
-    fn watch(&mut self, slot: usize, registry: &Registry) {
+    fn watch(&mut self, slot: usize, registry: &Registry)
+        ensures { Settles self.old.guests self.new.guests slot }
+    {
         let Some(guest) = self.guests.get_mut(slot) else {
             return;
         };
@@ -187,18 +247,20 @@ impl House {
     }
 
     /// Notes what the system reports of a connection.
-    pub(crate) fn mark(&mut self, slot: usize, event: &Event) {
+    pub(crate) fn mark(&mut self, slot: usize, event: &Event)
+        ensures { Settles self.old.guests self.new.guests slot }
+    {
         let Some(guest) = self.guests.get_mut(slot) else {
             return;
         };
-        let has_failed = event.is_error();
-        guest.can_read |= event.is_readable() || event.is_read_closed() || has_failed;
-        guest.can_write |= event.is_writable() || event.is_write_closed() || has_failed;
+        guest.note(event);
         self.line_up(slot);
     }
 
     /// Puts a connection into the row of those that are ready, where a try may bring something.
-    fn line_up(&mut self, slot: usize) {
+    fn line_up(&mut self, slot: usize)
+        ensures { Settles self.old.guests self.new.guests slot }
+    {
         let Some(guest) = self.guests.get_mut(slot) else {
             return;
         };
@@ -211,43 +273,67 @@ impl House {
         }
     }
 
+    /// Works for a connection that stood in the row of those that are ready.
+    #[tactic(auto, using(crate::proofs::Rounds::nothing_worked))]
+    fn work_from_row(&mut self, slot: usize, registry: &Registry, now: u64)
+        ensures { WorksFor self.old.guests self.new.guests slot }
+    {
+        let Some(guest) = self.guests.get_mut(slot) else {
+            return;
+        };
+        guest.is_in_row = false;
+        self.work(slot, registry, now);
+    }
+
     /// Works once for each connection that is ready.
-    pub(crate) fn work_ready(&mut self, registry: &Registry, now: u64) {
-        for _ in 0..self.ready.len() {
+    #[tactic(auto, using(crate::proofs::Rounds::nobody_served, crate::proofs::Rounds::one_more_served))]
+    pub(crate) fn work_ready(&mut self, registry: &Registry, now: u64)
+        ensures { WorksForAll self.old.guests self.new.guests }
+    {
+        'ready: for _ in 0..self.ready.len() {
             let Some(slot) = self.ready.pop_front() else {
                 return;
             };
-            if let Some(guest) = self.guests.get_mut(slot) {
-                guest.is_in_row = false;
-            }
-            self.work(slot, registry, now);
+            self.work_from_row(slot, registry, now);
         }
     }
 
+    /// Tries the socket of a connection once more whose time is up.
+    #[tactic(auto, using(crate::proofs::Rounds::nothing_worked))]
+    fn work_late(&mut self, slot: usize, registry: &Registry, now: u64)
+        ensures { WorksFor self.old.guests self.new.guests slot }
+    {
+        let Some(guest) = self.guests.get_mut(slot) else {
+            return;
+        };
+        guest.can_read = true;
+        guest.can_write = true;
+        self.work(slot, registry, now);
+    }
+
     /// Tries the socket of each connection once more whose time is up at this moment, and then looks at its time.
-    pub(crate) fn work_due(&mut self, registry: &Registry, now: u64) {
-        for _ in 0..self.guests.len() {
+    #[tactic(auto, using(crate::proofs::Rounds::nobody_served, crate::proofs::Rounds::one_more_served))]
+    pub(crate) fn work_due(&mut self, registry: &Registry, now: u64)
+        ensures { WorksForAll self.old.guests self.new.guests }
+    {
+        'due: for _ in 0..self.guests.len() {
             let Some((at, slot)) = self.rows.first_due() else {
                 return;
             };
             if at > now {
                 return;
             }
-            if let Some(guest) = self.guests.get_mut(slot) {
-                guest.can_read = true;
-                guest.can_write = true;
-            }
-            self.work(slot, registry, now);
+            self.work_late(slot, registry, now);
         }
     }
 
-    /// One try of a connection's socket, and what becomes of the connection. What a peer sends beside its answer is read
-    /// behind the try to send: so the peer waits for no read.
-    fn work(&mut self, slot: usize, registry: &Registry, now: u64) {
-        let Some(guest) = self.guests.get(slot) else {
-            return;
-        };
-        match guest.phase {
+    /// One try of a connection's socket, in its phase. What a peer sends beside its answer is read behind the try to send: so
+    /// the peer waits for no read.
+    #[tactic(auto, using(crate::proofs::Rounds::settles_works, crate::proofs::Rounds::works_settles, crate::proofs::Rounds::nothing_worked))]
+    fn try_socket(&mut self, slot: usize, phase: Phase, now: u64)
+        ensures { WorksFor self.old.guests self.new.guests slot }
+    {
+        match phase {
             Phase::Gathering { .. } => self.gather(slot, now),
             Phase::Decided { .. } => self.after_heard(slot, Heard::Nothing, false, now),
             Phase::InTurn => {}
@@ -257,56 +343,79 @@ impl House {
             }
             Phase::Past { .. } => self.forget(slot, now),
         }
+    }
+
+    /// One try of a connection's socket, and what becomes of the connection.
+    #[tactic(auto, using(crate::proofs::Rounds::nothing_worked))]
+    fn work(&mut self, slot: usize, registry: &Registry, now: u64)
+        ensures { WorksFor self.old.guests self.new.guests slot }
+    {
+        let Some(guest) = self.guests.get(slot) else {
+            return;
+        };
+        let phase = guest.phase;
+        self.try_socket(slot, phase, now);
         self.watch(slot, registry);
         self.line_up(slot);
     }
 
     /// Reads what a peer has sent of its request.
-    fn gather(&mut self, slot: usize, now: u64) {
+    fn gather(&mut self, slot: usize, now: u64)
+        ensures { WorksFor self.old.guests self.new.guests slot }
+    {
         let Some(guest) = self.guests.get_mut(slot) else {
             return;
         };
         let heard = guest.hear(&mut self.buffer);
-        let mut is_decided = false;
-        if let Heard::Bytes(count) = heard {
-            match self.keep(slot, count) {
-                Ok(decides) => is_decided = decides,
-                Err(OutOfMemory) => {
-                    self.close(slot);
-                    return;
-                }
+        match self.keep_heard(slot, heard) {
+            Ok(is_decided) => self.after_heard(slot, heard, is_decided, now),
+            Err(OutOfMemory) => self.close(slot),
+        }
+    }
+
+    /// Keeps what a read brought, and says whether it decides the request.
+    fn keep_heard(&mut self, slot: usize, heard: Heard) -> Result<bool, OutOfMemory>
+        ensures { WorksFor self.old.guests self.new.guests slot }
+    {
+        match heard {
+            Heard::Bytes(count) => self.keep(slot, count),
+            Heard::End | Heard::Nothing | Heard::Fault => Ok(false),
+        }
+    }
+
+    /// Those that have gathered longest give way to so many bytes that come, until all are within their sum.
+    #[tactic(auto, using(crate::proofs::Rounds::nothing_closed, crate::proofs::Rounds::closes_more))]
+    fn drop_longest(&mut self, count: u64)
+        ensures closes { OnlyCloses self.old.guests self.new.guests }
+        ensures buffer { self.new.buffer ≡ self.old.buffer }
+    {
+        'drops: for _ in 0..self.guests.len() {
+            match self.rows.first_to_drop(&self.limits, self.gathered, count) {
+                Some(longest) => self.close(longest),
+                None => return,
             }
         }
-        self.after_heard(slot, heard, is_decided, now);
     }
 
     /// Keeps so many bytes of the buffer for a connection, and says whether they decide its request. Where all that are
     /// gathered would pass their sum, those that have gathered longest give way: this one too.
-    fn keep(&mut self, slot: usize, count: u64) -> Result<bool, OutOfMemory> {
-        for _ in 0..self.guests.len() {
-            let next = self.rows.first_to_drop(&self.limits, self.gathered, count);
-            match next {
-                Some(longest) => self.close(longest),
-                None => break,
-            }
-        }
+    fn keep(&mut self, slot: usize, count: u64) -> Result<bool, OutOfMemory>
+        ensures ok { OnOk result (Keeps self.old.guests self.new.guests slot (take count self.old.buffer.items)) }
+        ensures err { OnErr result (OnlyCloses self.old.guests self.new.guests) }
+    {
+        self.drop_longest(count);
         let Some(guest) = self.guests.get_mut(slot) else {
             return Ok(false);
         };
-        let Ok(size) = usize::try_from(count) else {
-            return Ok(false);
-        };
-        let Some(piece) = self.buffer.get(..size) else {
-            return Ok(false);
-        };
-        let decides = guest.gather(piece)?;
-        guest.held = guest.held.saturating_add(count);
+        let decides = keep_piece(guest, self.buffer.as_slice(), count)?;
         self.gathered = self.gathered.saturating_add(count);
         Ok(decides)
     }
 
     /// Reads what a peer sends after its request, and forgets it.
-    fn forget(&mut self, slot: usize, now: u64) {
+    fn forget(&mut self, slot: usize, now: u64)
+        ensures { Settles self.old.guests self.new.guests slot }
+    {
         let Some(guest) = self.guests.get_mut(slot) else {
             return;
         };
@@ -317,7 +426,9 @@ impl House {
     }
 
     /// What becomes of a connection after a read.
-    fn after_heard(&mut self, slot: usize, heard: Heard, is_decided: bool, now: u64) {
+    fn after_heard(&mut self, slot: usize, heard: Heard, is_decided: bool, now: u64)
+        ensures { Settles self.old.guests self.new.guests slot }
+    {
         if let Some(guest) = self.guests.get(slot) {
             let gathered = guest.held;
             let step = after_read(&self.limits, guest.phase, heard, is_decided, gathered, now);
@@ -326,7 +437,9 @@ impl House {
     }
 
     /// Writes what the system takes of an answer.
-    fn send(&mut self, slot: usize, now: u64) {
+    fn send(&mut self, slot: usize, now: u64)
+        ensures { WorksFor self.old.guests self.new.guests slot }
+    {
         let Some(guest) = self.guests.get_mut(slot) else {
             return;
         };
@@ -340,14 +453,26 @@ impl House {
         self.settle(slot, step, now);
     }
 
-    /// Says to a peer that its answer is over, and reads on for a while.
-    fn rest(&mut self, slot: usize, phase: Phase) {
+    /// The answer of a connection is over.
+    fn end_answer(&mut self, slot: usize)
+        ensures { Settles self.old.guests self.new.guests slot }
+    {
         let Some(guest) = self.guests.get_mut(slot) else {
             return;
         };
         if let Some(answer) = guest.answer.take() {
             self.answers.leave(&answer);
         }
+    }
+
+    /// Says to a peer that its answer is over, and reads on for a while.
+    fn rest(&mut self, slot: usize, phase: Phase)
+        ensures { Settles self.old.guests self.new.guests slot }
+    {
+        self.end_answer(slot);
+        let Some(guest) = self.guests.get(slot) else {
+            return;
+        };
         if guest.stream.shutdown(Shutdown::Write).is_ok() {
             self.move_to(slot, phase);
         } else {
@@ -356,7 +481,9 @@ impl House {
     }
 
     /// Puts a connection in line, whose reads answer this after its bytes.
-    fn line_up_for_turn(&mut self, slot: usize, ending: Ending, now: u64) {
+    fn line_up_for_turn(&mut self, slot: usize, ending: Ending, now: u64)
+        ensures { Settles self.old.guests self.new.guests slot }
+    {
         self.move_to(slot, Phase::Decided { since: now });
         let Some(guest) = self.guests.get_mut(slot) else {
             return;
@@ -368,7 +495,9 @@ impl House {
     }
 
     /// Carries out what becomes of a connection.
-    fn settle(&mut self, slot: usize, step: Step, now: u64) {
+    fn settle(&mut self, slot: usize, step: Step, now: u64)
+        ensures { Settles self.old.guests self.new.guests slot }
+    {
         match step {
             Step::On(phase) => self.move_to(slot, phase),
             Step::Close => self.close(slot),
@@ -378,7 +507,9 @@ impl House {
     }
 
     /// Counts how many wait for their turn or have it.
-    fn count_held(&mut self, before: Phase, now: Phase) {
+    fn count_held(&mut self, before: Phase, now: Phase)
+        ensures { self.new.guests ≡ self.old.guests }
+    {
         if is_held(now) && !is_held(before) {
             self.held = self.held.saturating_add(1);
         } else if is_held(before) && !is_held(now) {
@@ -387,7 +518,9 @@ impl House {
     }
 
     /// Moves a connection to its rows in another phase. Where memory is refused for that, it is closed.
-    fn move_to(&mut self, slot: usize, phase: Phase) {
+    fn move_to(&mut self, slot: usize, phase: Phase)
+        ensures { Moves self.old.guests self.new.guests slot phase }
+    {
         let Some(guest) = self.guests.get_mut(slot) else {
             return;
         };
@@ -420,24 +553,25 @@ impl House {
     fn wire_of(&mut self, one: &InLine, number: u64, passed: u64) -> Option<GatheredWire>
         ensures fresh { IfSome result (λ wire. IsFreshWire number wire) }
         ensures turn { IfSome result HasItsTurn }
+        ensures stands { IfSome result (λ wire. HandsOut self.old.guests wire) }
+        ensures out { IfSome result (λ wire. IsOut self.new.guests wire) }
+        ensures others { OnlyClosesOthers self.old.guests self.new.guests one.now.slot }
     {
         self.move_to(one.slot, Phase::InTurn);
         let guest = self.guests.get_mut(one.slot)?;
-        guest.turn_began = passed;
-        let gathered = guest.gathered.take()?;
-        let (has_ended, ending) = (guest.has_ended, guest.ending);
-        GatheredWire::in_turn(
-            self.alloc, number, one.slot, one.serial, gathered, has_ended, ending,
-        )
+        turn_of(self.alloc, guest, one.slot, number, passed)
     }
 
     /// The next connection whose turn it is, as a wire of this number. Those that have failed, or waited for too long, are
     /// closed. The moment is that of the door's clock, and so much time passed in all.
+    #[tactic(auto, using(crate::proofs::Rounds::nothing_closed, crate::proofs::Rounds::closes_more, crate::proofs::Rounds::out_before))]
     pub(crate) fn hand_out(&mut self, number: u64, now: u64, passed: u64) -> Option<GatheredWire>
         ensures fresh { IfSome result (λ wire. IsFreshWire number wire) }
         ensures turn { IfSome result HasItsTurn }
+        ensures stands { IfSome result (λ wire. HandsOut self.old.guests wire) }
+        ensures out { IfSome result (λ wire. IsOut self.new.guests wire) }
     {
-        for _ in 0..self.line.len() {
+        'line: for _ in 0..self.line.len() {
             let one = self.line.next()?;
             if self.is_to_have_turn(&one, now)
                 && let Some(wire) = self.wire_of(&one, number, passed)
@@ -450,7 +584,9 @@ impl House {
     }
 
     /// An answer waits to be sent.
-    fn begin_answer(&mut self, slot: usize, answer: Outgoing, now: u64) {
+    fn begin_answer(&mut self, slot: usize, answer: Outgoing, now: u64)
+        ensures { AnswersIn self.old.guests self.new.guests slot (all_left answer) }
+    {
         if self.answers.enter(&answer).is_err() {
             self.close(slot);
             return;
@@ -459,8 +595,41 @@ impl House {
             return;
         };
         let step = after_answer(answer.left(), guest.has_ended, now);
-        guest.answer = Some(answer);
+        guest.begin_answer(answer);
         self.settle(slot, step, now);
+    }
+
+    /// The turn of a connection is over after so much time had passed in all: what was gathered of it counts no more.
+    fn end_turn(&mut self, slot: usize, passed: u64)
+        ensures { Settles self.old.guests self.new.guests slot }
+    {
+        let Some(guest) = self.guests.get_mut(slot) else {
+            return;
+        };
+        let took = passed.saturating_sub(guest.turn_began);
+        let (address, held) = (guest.address, guest.held);
+        guest.held = 0;
+        self.line.took(address, begun_millis(took));
+        self.gathered = self.gathered.saturating_sub(held);
+    }
+
+    /// Sends what the system takes of an answer that begins.
+    fn send_answer(&mut self, slot: usize, answer: Outgoing, registry: &Registry, now: u64)
+        ensures { AnswersIn self.old.guests self.new.guests slot (all_left answer) }
+    {
+        self.begin_answer(slot, answer, now);
+        self.work(slot, registry, now);
+        self.cut_answers();
+    }
+
+    /// Whether the connection of this serial number has its turn, in this slot.
+    fn has_turn(&self, slot: usize, serial: u64) -> bool
+        ensures { IsTrue result ↔ IsSomeAnd (get self.now.guests slot) (λ guest. (guest.serial ≡ serial) × (guest.phase ≡ Phase.InTurn)) }
+    {
+        match self.guests.get(slot) {
+            Some(guest) => guest.serial == serial && guest.phase == Phase::InTurn,
+            None => false,
+        }
     }
 
     /// Takes a connection back that had its turn until so much time had passed in all, and sends what the system takes of its
@@ -471,31 +640,28 @@ impl House {
         registry: &Registry,
         now: u64,
         passed: u64,
-    ) {
+    )
+        ensures { TakesBack self.old.guests self.new.guests wire }
+    {
         let slot = wire.slot();
         let serial = wire.serial();
         let answer = wire.into_answer();
-        let Some(guest) = self.guests.get_mut(slot) else {
-            return;
-        };
-        if guest.serial != serial || guest.phase != Phase::InTurn {
+        if !self.has_turn(slot, serial) {
             return;
         }
-        let took = passed.saturating_sub(guest.turn_began);
-        self.line.took(guest.address, begun_millis(took));
-        self.gathered = self.gathered.saturating_sub(guest.held);
-        guest.held = 0;
+        self.end_turn(slot, passed);
         match answer {
-            Some(answer) => self.begin_answer(slot, answer, now),
+            Some(answer) => self.send_answer(slot, answer, registry, now),
             None => self.close(slot),
         }
-        self.work(slot, registry, now);
-        self.cut_answers();
     }
 
     /// Closes those of whose answers no byte was taken for longest, until the answers hold their sum.
-    fn cut_answers(&mut self) {
-        for _ in 0..self.guests.len() {
+    #[tactic(auto, using(crate::proofs::Rounds::nothing_closed, crate::proofs::Rounds::closes_more))]
+    fn cut_answers(&mut self)
+        ensures { OnlyCloses self.old.guests self.new.guests }
+    {
+        'cuts: for _ in 0..self.guests.len() {
             match self.rows.first_to_cut(&self.limits, self.answers.bytes()) {
                 Some(slot) => self.close(slot),
                 None => return,
@@ -503,15 +669,26 @@ impl House {
         }
     }
 
-    /// Closes the connections that have no answer yet.
-    pub(crate) fn close_unanswered(&mut self) {
-        for _ in 0..self.guests.len() {
+    /// Closes the connections whose requests are gathered.
+    #[tactic(auto, using(crate::proofs::Rounds::nothing_closed, crate::proofs::Rounds::closes_more))]
+    fn close_gathering(&mut self)
+        ensures { OnlyCloses self.old.guests self.new.guests }
+    {
+        'gathering: for _ in 0..self.guests.len() {
             match self.rows.first_gathering() {
                 Some(slot) => self.close(slot),
-                None => break,
+                None => return,
             }
         }
-        for _ in 0..self.line.len() {
+    }
+
+    /// Closes the connections that have no answer yet.
+    #[tactic(auto, using(crate::proofs::Rounds::nothing_closed, crate::proofs::Rounds::closes_more))]
+    pub(crate) fn close_unanswered(&mut self)
+        ensures { OnlyCloses self.old.guests self.new.guests }
+    {
+        self.close_gathering();
+        'line: for _ in 0..self.line.len() {
             if let Some(one) = self.line.next() {
                 self.close(one.slot);
             }

@@ -1,5 +1,6 @@
 ghost use Rattle.std.specs.Prelude.{IfSome, IfOk};
 ghost use Rattle.gathering.specs.Wires.{IsFreshWire, HasItsTurn};
+ghost use Rattle.gathering_door.specs.Houses.{IsOut, TakesBack};
 
 use crate::door_time::{DoorTime, system_millis};
 use crate::house::House;
@@ -271,6 +272,7 @@ impl OpenDoor {
     ) -> Result<Option<GatheredWire>, DoorFault>
         ensures fresh { IfOk result (λ next. IfSome next (λ wire. IsFreshWire number wire)) }
         ensures turn { IfOk result (λ next. IfSome next HasItsTurn) }
+        ensures out { IfOk result (λ next. IfSome next (λ wire. IsOut self.new.house.guests wire)) }
     {
         for _ in 0..u64::MAX {
             let left = left_until(rt, moment)?;
@@ -289,7 +291,9 @@ impl OpenDoor {
     }
 
     /// Takes a connection back that had its turn.
-    pub(crate) fn take_back(&mut self, rt: &impl time::Clock, wire: GatheredWire) {
+    pub(crate) fn take_back(&mut self, rt: &impl time::Clock, wire: GatheredWire)
+        ensures { TakesBack self.old.house.guests self.new.house.guests wire }
+    {
         self.time.look(rt);
         let (now, passed) = (self.time.now(), self.time.passed());
         let registry = self.port.poll.registry();
