@@ -5,15 +5,16 @@
 
 SHELL := /bin/bash
 LIST := MALWARE/ANY_PLATFORM/URL
-PROGRAMS := sbupdate sbcheck sblistd
-INSTALLED := sbupdate sbcheck sblistd
+PROGRAMS := sbupdate sbcheck sblistd sbjournal
+INSTALLED := sbupdate sbcheck sblistd sbjournal
 BUILT := $(wildcard bin/sbupdate bin/sblistd)
 
 PREFIX ?= /usr/local
 BINDIR ?= $(PREFIX)/bin
 MANDIR ?= $(PREFIX)/share/man/man1
 
-.PHONY: all test check gate wrong-bodies install uninstall demo compare try-http try-run try-slow try-memory try-readme bench clean
+.PHONY: all test check gate wrong-bodies install uninstall demo compare try-http try-run try-feeds try-slow try-memory try-readme bench
+.PHONY: clean
 
 all:
 	python3 tools/build.py $(PROGRAMS)
@@ -61,12 +62,13 @@ else
 	@bash demo/run.sh
 endif
 
-# A second program of the same rules, in Python, has to print what sbupdate, sbcheck and sblistd print, and what the stored
+# A second program of the same rules, in Python, has to print what the programs print, and what the stored
 # cases say. Runs that judge are compared by the program that runs the stored cases.
 compare: all
 	python3 tools/build.py $(PROGRAMS) stored_cases
 	python3 compare/cases.py
 	python3 compare/compare.py
+	python3 compare/making.py
 
 # Drives sblistd over loopback with curl, and shows what the programs say of what they cannot use.
 try-http: all
@@ -78,6 +80,10 @@ try-run: all
 	bash try/run.sh
 	bash try/judge.sh
 	python3 try/beside.py
+
+# Makes lists of small feeds by deploy/sync-feed, and sees what a client says of their URLs. Up to three minutes.
+try-feeds: all
+	bash try/feeds.sh
 
 # Measures how long good clients of sblistd wait beside slow ones, and fails where one waits for more than a second. Each kind
 # and number of peers is kept for a minute, or for SECONDS: it takes twenty to thirty minutes, and at most ten with SECONDS=15.

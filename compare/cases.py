@@ -20,6 +20,7 @@ import sys
 import exchanges
 import judging
 import loads
+import making
 import server
 import serving
 import urls
@@ -182,7 +183,7 @@ SERVED = {"connections": 1_000_000, "peers": 4_096, "answers": 4_096}
 def serve_words(words):
     """What the words of `sblistd serve` plan, or None."""
     options = ("journal", "listen", *SERVED, "wait", "find-wait", "cache", "negative")
-    found = options_of(words, ["--" + name for name in options])
+    found = options_of(words, ["--" + name for name in options], ("--hold",))
     if found is None or found[1] or not {"--journal", "--listen"} <= set(found[0]):
         return None
     said, times = found[0], times_of(found[0])
@@ -193,7 +194,7 @@ def serve_words(words):
         text = said.get("--" + name, "1")
         if re.fullmatch(NUMBER, text) is None or not 1 <= int(text) <= most:
             return None
-    return {"times": times, "connections": int(said.get("--connections", NO_COUNT))}
+    return {"times": times, "connections": int(said.get("--connections", NO_COUNT)), "hold": "--hold" in said}
 
 
 NO_COUNT = 4_294_967_295
@@ -236,6 +237,43 @@ def load_words(words, flags=()):
     return (found[0], count, seed) if 1 <= count <= 65_536 and seed < loads.BITS else None
 
 
+MADE = {
+    "new": (("--size",), ()),
+    "sync": (("--journal",), ("--skip", "--empty")),
+    "change": (("--size",), ("--skip",)),
+    "has": (("--journal",), ()),
+    "check": ((), ()),
+}
+MOST_MADE_LINES = 2_097_152
+
+
+def made(words, text, journal, dice):
+    """What `sbjournal` prints, and its status. None stands for the usage text."""
+    command = words[1] if len(words) > 1 else None
+    found = options_of(words[2:], *MADE[command]) if command in MADE else None
+    if found is None:
+        return None, 1
+    said, names = found
+    size = said.get("--size")
+    if size is not None and (re.fullmatch(NUMBER, size) is None or not 4 <= int(size) <= 32):
+        return None, 1
+    if command == "check":
+        return making.check(text) if not names else (None, 1)
+    if command == "new":
+        if lists_of(["--", *names]) is None:
+            return None, 1
+        upper, lower = ([*dice, dice[-1]] if dice else [0, 0])[:2]
+        lines = [f"sblist 2 {upper:08x}{lower:08x}", *(f"list {name} {size or 4}" for name in names)]
+        return "".join(line + "\n" for line in lines).encode(), 0
+    if len(names) != 1 or not server.is_name(names[0]) or command != "change" and "--journal" not in said:
+        return None, 1
+    if len(text) > MOST_INPUT or len(making.lines_of(text)) > MOST_MADE_LINES:
+        return b"", 6
+    if command == "change":
+        return making.change(names[0], text, size, said)
+    return making.sync(journal, names[0], text, said) if command == "sync" else making.has(journal, names[0], text)
+
+
 def lines_of(text):
     lines = text.split(b"\n")
     return lines[:-1] if lines[-1] == b"" else lines
@@ -245,6 +283,8 @@ def answer(words, text, journal, make):
     """What the second program prints, and its status. None stands for the usage text. `make` makes a run by its kind and its plan: of
     updates, one that judges, or one that serves."""
     command, rest = words[:2], words[2:]
+    if words[0] == "sbjournal":
+        return make("made", words)
     if command == ["sbupdate", "run"]:
         plan = client_words(rest, RUN)
         return make("run", plan) if plan else (None, 1)
@@ -318,7 +358,7 @@ class Run:
 
     def words(self):
         spans = (self.own, self.before, self.group)
-        number = max(self.find(name, spans) or -1 for name in (b"client", b"server"))
+        number = max(self.find(name, spans) or -1 for name in (b"client", b"server", b"maker"))
         words = self.rest(number).decode().split(" ")
         return ["" if word == '""' else word for word in words]
 
@@ -421,6 +461,8 @@ class Run:
         came = []
 
         def make(kind, plan):
+            if kind == "made":
+                return made(plan, text, journal, self.numbers(b"dice"))
             if kind == "serve":
                 report = serving.serve(plan, journal, turns)
                 came.append((self.texts(b"written", cut), report.written))

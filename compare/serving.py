@@ -133,16 +133,24 @@ def turn(journal, given, times):
 def serve(plan, journal, turns):
     """What is printed, the status, and what is written to each connection that is taken. A turn is what the journal has gained, and what
     the connection gives."""
-    printed, written = [], []
+    printed, written, held = [], [], False
     try:
-        server.read_journal(journal)
+        good = server.read_journal(journal)
         for number, (gained, given) in enumerate(turns[: plan["connections"]], 1):
             journal += gained
             written.append(b"")
-            response, ending = turn(server.read_journal(journal), given, plan["times"])
+            if not held:
+                try:
+                    good = server.read_journal(journal)
+                except server.BadJournal as fault:
+                    if not plan["hold"]:
+                        raise
+                    held = True
+                    printed.append(f"journal {fault}")
+            response, ending = turn(good, given, plan["times"])
             written[-1] = response
             printed.append(f"connection {number} answered {ending}")
     except server.BadJournal as fault:
         printed.append(f"journal {fault}")
         return Served("".join(line + "\n" for line in printed).encode("ascii"), 7, written)
-    return Served("".join(line + "\n" for line in printed).encode("ascii"), 0, written)
+    return Served("".join(line + "\n" for line in printed).encode("ascii"), 7 if held else 0, written)

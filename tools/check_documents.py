@@ -31,8 +31,9 @@ ENDINGS = ("antt", "rt", "py", "sh", "md", "jsonl", "edit", "txt")
 ENDS = {
     "the client": ("sb_client", "Words and statuses of the client programs"),
     "the server": ("sb_service", "The list server"),
+    "the maker": ("journal_run", "The program that makes journals"),
 }
-PROGRAMS = {"sbupdate": "the client", "sbcheck": "the client", "sblistd": "the server"}
+PROGRAMS = {"sbupdate": "the client", "sbcheck": "the client", "sblistd": "the server", "sbjournal": "the maker"}
 
 DECLARES = r"\b(?:fn|struct|enum|trait|type|const|static|mod)\s+{}\b|^\s*{}(?:\(|,|\s*\{{|\s*=|$)|pub use [^;]*\b{}\b"
 

@@ -28,6 +28,7 @@ PROGRAMS = {
     "sblistd": ("sb_service", "USAGE"),
     "sbupdate": ("sb_client", "UPDATE_USAGE"),
     "sbcheck": ("sb_client", "CHECK_USAGE"),
+    "sbjournal": ("journal_run", "USAGE"),
 }
 
 # a session reads files of the repository; whoever installed the programs has others

@@ -29,6 +29,7 @@ CALLS = (
     ("run_client", "sb_client", "src/client.rt"),
     ("run_server", "sb_service", "src/service.rt"),
     ("serve_connection", "sb_service", "src/connection.rt"),
+    ("run_journal", "journal_run", "src/run.rt"),
 )
 
 USE = re.compile(r"^(?:ghost )?use Rattle\.([\w.]+?)(?:\.\{([^}]*)\}| as (\w+))?;?\s*$", re.M)

@@ -6,10 +6,11 @@ use crate::words::numbers_of;
 use sb_model::Row;
 
 /// The names of all fields.
-const FIELDS: [&[u8]; 29] = [
+const FIELDS: [&[u8]; 30] = [
     b"text",
     b"client",
     b"server",
+    b"maker",
     b"input",
     b"input-fails",
     b"journal",

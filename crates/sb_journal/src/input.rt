@@ -36,7 +36,7 @@ fn without_return(line: &[u8]) -> &[u8]
 }
 
 /// The first line of a text that has some byte, without the LF or CR LF that ends it, and what stands after that.
-pub(crate) fn next_line(text: &[u8]) -> (&[u8], &[u8])
+pub fn next_line(text: &[u8]) -> (&[u8], &[u8])
     requires { 0 < length text.now }
     ensures lines { lines text.now ≡ result.0.now ∷ lines result.1.now }
     ensures shorter { length result.1.now < length text.now }

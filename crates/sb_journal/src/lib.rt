@@ -20,11 +20,12 @@
 pub use edits::{Edits, read_edits};
 pub use feed::{Feed, read_feed};
 pub use hash_line::HashLine;
-pub use input::read_urls;
+pub use input::{next_line, read_urls};
 pub use lasting::last_lines;
 pub use laws::synced_lists_have_what_is_wanted;
 pub use records::push_records;
 pub use sets::{leading_lines, put_in_order};
+pub use urls::push_refusal;
 
 mod edits;
 mod feed;

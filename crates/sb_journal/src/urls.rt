@@ -22,7 +22,7 @@ pub(crate) fn hash_of_url(alloc: Global, text: &[u8]) -> Result<[u8; 32], UrlFau
 }
 
 /// Appends that a URL is refused.
-pub(crate) fn push_refusal(page: &mut Bytes, fault: UrlFault) -> Result<(), OutOfMemory>
+pub fn push_refusal(page: &mut Bytes, fault: UrlFault) -> Result<(), OutOfMemory>
     ensures { OnOk result (page.new ≡ page.old ++ refusal fault) }
 {
     page.append(b"refused ")?;

@@ -71,7 +71,7 @@ asks_answer words line is = record { line = line; answer = is; asked = refl; tim
 -- a command is some command
 pub is_some_command : (words : List Text) (command : Command) → IsCommandOf words (Some command) → IsNoCommand words → ⊥
 is_some_command words (Answer sort settings) asks none = absurd (let h = asks.answer in let k = none.answer in cc)
-is_some_command words (Serve settings connections) asks none = absurd (let h = asks.serve in let k = none.serve in cc)
+is_some_command words (Serve plan) asks none = absurd (let h = asks.serve in let k = none.serve in cc)
 is_some_command words (Generate urls load) asks none = absurd (let k = none.generate in cc)
 is_some_command words (Exercise load) asks none = absurd (let k = none.exercise in cc)
 
@@ -82,24 +82,23 @@ by_answer words (Answer sort settings) line asks e =
     let asked = asks.asked in
     let times = asks.times in
     cc
-by_answer words (Serve settings connections) line asks e = absurd (answer_or_serve words line asks.line e asks.serve)
+by_answer words (Serve plan) line asks e = absurd (answer_or_serve words line asks.line e asks.serve)
 by_answer words (Generate urls load) line asks e = absurd (answer_or_generate words line _ e asks)
 by_answer words (Exercise load) line asks e = absurd (answer_or_exercise words line load e asks)
 
-by_serve : (words : List Text) (command : Command) (line : ServeWords) → IsCommandOf words (Some command) → serve_of words ≡ Some line → command ≡ Serve line.settings line.connections
+by_serve : (words : List Text) (command : Command) (line : ServeWords) → IsCommandOf words (Some command) → serve_of words ≡ Some line → command ≡ Serve line.plan
 by_serve words (Answer sort settings) line asks e = absurd (answer_or_serve words asks.line line asks.answer e)
-by_serve words (Serve settings connections) line asks e =
+by_serve words (Serve plan) line asks e =
     let same : Some asks.line ≡ Some line = sym asks.serve ∙ e in
     let is : asks.line ≡ line = cc in
-    let times = asks.times in
-    let count = asks.count in
+    let asked = asks.asked in
     cc
 by_serve words (Generate urls load) line asks e = absurd (serve_or_generate words line _ e asks)
 by_serve words (Exercise load) line asks e = absurd (serve_or_exercise words line load e asks)
 
 by_generate : (words : List Text) (command : Command) (line : GenerateLine) → IsCommandOf words (Some command) → generate_of words ≡ Some line → command ≡ Generate line.urls line.load
 by_generate words (Answer sort settings) line asks e = absurd (answer_or_generate words asks.line line asks.answer e)
-by_generate words (Serve settings connections) line asks e = absurd (serve_or_generate words asks.line line asks.serve e)
+by_generate words (Serve plan) line asks e = absurd (serve_or_generate words asks.line line asks.serve e)
 by_generate words (Generate urls load) line asks e =
     let said : GenerateLine = record { urls = urls; load = load } in
     let same : Some said ≡ Some line = sym asks ∙ e in
@@ -109,7 +108,7 @@ by_generate words (Exercise load) line asks e = absurd (generate_or_exercise wor
 
 by_exercise : (words : List Text) (command : Command) (load : Load) → IsCommandOf words (Some command) → exercise_of words ≡ Some load → command ≡ Exercise load
 by_exercise words (Answer sort settings) load asks e = absurd (answer_or_exercise words asks.line load asks.answer e)
-by_exercise words (Serve settings connections) load asks e = absurd (serve_or_exercise words asks.line load asks.serve e)
+by_exercise words (Serve plan) load asks e = absurd (serve_or_exercise words asks.line load asks.serve e)
 by_exercise words (Generate urls load') load asks e = absurd (generate_or_exercise words _ load asks e)
 by_exercise words (Exercise load') load asks e =
     let same : Some load' ≡ Some load = sym asks ∙ e in
@@ -123,7 +122,7 @@ pub is_answer : (words : List Text) (found : Option Command) (command : Command)
 is_answer words found command answer asks is e = by_answer words command answer (subst (IsCommandOf words) is asks) e
 
 pub is_serve : (words : List Text) (found : Option Command) (command : Command) (line : ServeWords) → IsCommandOf words found → found ≡ Some command → serve_of words ≡ Some line
-    → command ≡ Serve line.settings line.connections
+    → command ≡ Serve line.plan
 is_serve words found command line asks is e = by_serve words command line (subst (IsCommandOf words) is asks) e
 
 pub is_generate : (words : List Text) (found : Option Command) (command : Command) (line : GenerateLine) → IsCommandOf words found → found ≡ Some command → generate_of words ≡ Some line
@@ -142,7 +141,7 @@ made_exercise command load is = subst IsMade (sym is) tt
 
 by_no_serve : (words : List Text) (command : Command) → IsCommandOf words (Some command) → serve_of words ≡ None → IsNoService command
 by_no_serve words (Answer sort settings) asks none = tt
-by_no_serve words (Serve settings connections) asks none = absurd (let h = asks.serve in cc)
+by_no_serve words (Serve plan) asks none = absurd (let h = asks.serve in cc)
 by_no_serve words (Generate urls load) asks none = tt
 by_no_serve words (Exercise load) asks none = tt
 

@@ -1,5 +1,5 @@
 -- What the turns of a run come to, where the journal is told: each history is that of the journal's bytes so far.
-use Rattle.std.proofs.Common.{◌≡◌, ◌≢◌, ◌⊎◌, ◌+◌, inl, inr, ℕ, suc, zero, Bool, true, List, [], ◌∷◌, ◌++◌, length, take, drop, refl, sym, ap, ◌∙◌, subst, Option, Some, None, append_assoc}
+use Rattle.std.proofs.Common.{◌≡◌, ◌≢◌, ◌⊎◌, ◌+◌, inl, inr, ℕ, suc, zero, Bool, true, List, [], ◌∷◌, ◌++◌, length, take, drop, refl, sym, ap, ◌∙◌, subst, Option, Some, None, append_assoc, arith}
 use Rattle.std.specs.Prelude.{Result, Ok, Err}
 use Rattle.std.specs.List.{concat}
 use Rattle.std.proofs.lemmas.List.{append-nil}
@@ -10,7 +10,8 @@ use Rattle.list_versions.specs.declared.fault.JournalFault.{JournalFault}
 use Rattle.list_versions.specs.declared.fault.JournalFault.TheVariants as journal
 use Rattle.delta_server.specs.declared.answering.Settings.{Settings}
 use Rattle.sb_service.specs.Answer.{AfterFault, IsSilent}
-use Rattle.sb_service.specs.Serving.{Turn, Gains, Grows, gained_in, AreOfJournal, HasNoBadLine, HasNotGrown, HasRun, IsLined, IsRefusal, IsServeRun, IsTurn, Seen, Stops, HasBegun, AfterLoad}
+use Rattle.sb_service.specs.declared.serve.ServePlan.{ServePlan}
+use Rattle.sb_service.specs.Serving.{Turn, Gains, Grows, gained_in, AreOfJournal, HasHeld, HasNoBadLine, HasNotGrown, HasRun, IsLined, IsRefusal, IsServeRun, IsTurn, Seen, Stops, HasBegun, AfterLoad}
 use Rattle.http_serving.specs.declared.ends.ConnectionEnd.{ConnectionEnd}
 use Rattle.sb_service.proofs.Loads.{told_front, IsLoadedAs, loaded_as}
 use Rattle.sb_outside.specs.declared.doors.Connection.{Connection}
@@ -128,65 +129,84 @@ read_further law pieces n last none tells =
       law (concat (take (suc n) pieces)) (next_piece (drop (suc n) pieces)) last tells ∙ ap kept_of (sym (one_further (suc n) pieces)) ∙ further.1,
     )
 
-not_refused : CutsLaw → (pieces : List (List ℕ)) (n status : ℕ) (before after : Seen) → HasNoBadLine pieces → IsAfter pieces n before.left before.kept → IsOther status
-    → HasNotGrown status before after → ⊥
-not_refused law pieces n status before after none at other stop =
+not_refused : CutsLaw → (pieces : List (List ℕ)) (hold : Bool) (n status : ℕ) (before after : Seen) → HasNoBadLine pieces → IsAfter pieces n before.left before.kept → IsOther status
+    → HasNotGrown hold status before after → ⊥
+not_refused law pieces hold n status before after none at other stop =
     let front = front_of_told before.left (drop (suc n) pieces) stop.gained stop.ended after.left at.remains stop.gives in
     let further = read_further law pieces n before.kept none at.tells in
     faultless stop.fault status before.held after.held other
     (harmless before.kept further.0 stop.gained front.0 (next_piece (drop (suc n) pieces)) stop.fault stop.because front.1 further.1) stop.refusal
+
+no_cause : (fault : JournalFault) (held held' : Option (List ℕ)) → (fault ≡ journal.ReadFault) ⊎ (fault ≡ journal.OutOfMemory) → IsRefusal fault 7 held held' → ⊥
+no_cause fault held held' is (inl silent) = let ends = silent.ends in omega (arith, ends)
+no_cause fault held held' (inl is) (inr after) =
+    let silent : IsSilent 2 7 held held' = subst (λ (f : JournalFault). AfterFault f 7 held held') is after in
+    let ends = silent.ends in omega (arith, ends)
+no_cause fault held held' (inr is) (inr after) = subst (λ (f : JournalFault). AfterFault f 7 held held') is after
+
+not_held : CutsLaw → (pieces : List (List ℕ)) (n : ℕ) (times : Settings) (number status : ℕ) (before after : Seen) → HasNoBadLine pieces → IsAfter pieces n before.left before.kept
+    → HasHeld times number status before after → ⊥
+not_held law pieces n times number status before after none at held =
+    let front = front_of_told before.left (drop (suc n) pieces) held.gained held.ended after.left at.remains held.gives in
+    let further = read_further law pieces n before.kept none at.tells in
+    no_cause held.fault before.held held.between
+    (harmless before.kept further.0 held.gained front.0 (next_piece (drop (suc n) pieces)) held.fault held.because front.1 further.1) held.refusal
 
 not_lined : (number : ℕ) (how : ConnectionEnd) (status : ℕ) (held held' : Option (List ℕ)) → IsOther status → status ≢ 0 → IsLined number how status held held' → ⊥
 not_lined number how status held held' other some (inl line) = some line.0
 not_lined number how status held held' other some (inr (inl cut)) = other.no_write cut.0
 not_lined number how status held held' other some (inr (inr silent)) = other.no_memory silent.1.ends
 
-no_last_turn : CutsLaw → (pieces : List (List ℕ)) (n : ℕ) (times : Settings) (number status : ℕ) (before after : Seen) → HasNoBadLine pieces → IsAfter pieces n before.left before.kept → IsOther status → status ≢ 0
-    → IsTurn times number status before after → ⊥
-no_last_turn law pieces n times number status before after none at other some (inl grown) =
+no_last_turn : CutsLaw → (pieces : List (List ℕ)) (hold : Bool) (n : ℕ) (times : Settings) (number status : ℕ) (before after : Seen) → HasNoBadLine pieces → IsAfter pieces n before.left before.kept → IsOther status → status ≢ 0
+    → IsTurn hold times number status before after → ⊥
+no_last_turn law pieces hold n times number status before after none at other some (inl grown) =
     not_lined number grown.told.how status before.held after.held other some grown.told.lined
-no_last_turn law pieces n times number status before after none at other some (inr stop) = not_refused law pieces n status before after none at other stop
+no_last_turn law pieces hold n times number status before after none at other some (inr (inl stop)) = not_refused law pieces hold n status before after none at other stop
+no_last_turn law pieces hold n times number status before after none at other some (inr (inr held)) = not_held law pieces n times number status before after none at held.2
 
-ends_with_0 : CutsLaw → (pieces : List (List ℕ)) (n : ℕ) (times : Settings) (connections status : ℕ) (before after : Seen) → HasNoBadLine pieces → IsAfter pieces n before.left before.kept
-    → IsOther status → Stops times connections n status before after → status ≡ 0
-ends_with_0 law pieces n times connections status before after none at other (inl done) = done.1.ends
-ends_with_0 law pieces n times connections status before after none at other (inr (inl no_more)) = no_more.0.ends
-ends_with_0 law pieces n times connections status before after none at other (inr (inr (inl failed))) = absurd (other.no_door failed.ends)
-ends_with_0 law pieces n times connections status before after none at other (inr (inr (inr turn))) =
-    absurd (no_last_turn law pieces n times (n + 1) status before after none at other turn.0 turn.1)
+ends_with_0 : CutsLaw → (pieces : List (List ℕ)) (hold : Bool) (n : ℕ) (times : Settings) (connections status : ℕ) (before after : Seen) → HasNoBadLine pieces → IsAfter pieces n before.left before.kept
+    → IsOther status → Stops hold times connections n status before after → status ≡ 0
+ends_with_0 law pieces hold n times connections status before after none at other (inl done) = done.1.ends
+ends_with_0 law pieces hold n times connections status before after none at other (inr (inl (inl no_more))) = no_more.0.ends
+ends_with_0 law pieces hold n times connections status before after none at other (inr (inl (inr (inl failed)))) = absurd (other.no_door failed.ends)
+ends_with_0 law pieces hold n times connections status before after none at other (inr (inl (inr (inr turn)))) =
+    absurd (no_last_turn law pieces hold n times (n + 1) status before after none at other turn.0 turn.1)
+ends_with_0 law pieces hold n times connections status before after none at other (inr (inr holds)) =
+    let rest = holds.1 in
+    absurd (not_held law pieces n times (n + 1) 0 before rest.between none at rest.held)
 
-run_ends : CutsLaw → (pieces : List (List ℕ)) (times : Settings) (connections status : ℕ) (first after : Seen) → HasNoBadLine pieces → IsAfter pieces 0 first.left first.kept
-    → IsOther status → HasRun times connections status first after → status ≡ 0
-run_ends law pieces times connections status first after none at other run =
-    ends_with_0 law pieces (length run.turns) times connections status run.last after none
+run_ends : CutsLaw → (pieces : List (List ℕ)) (hold : Bool) (times : Settings) (connections status : ℕ) (first after : Seen) → HasNoBadLine pieces → IsAfter pieces 0 first.left first.kept
+    → IsOther status → HasRun hold times connections status first after → status ≡ 0
+run_ends law pieces hold times connections status first after none at other run =
+    ends_with_0 law pieces hold (length run.turns) times connections status run.last after none
     (after_turns law pieces run.turns first.left run.last.left first.kept run.last.kept at run.turned.gains run.turned.grows) other run.stops
 
-begun_ends : CutsLaw → (pieces : List (List ℕ)) (times : Settings) (connections status : ℕ) (bytes : List ℕ) (kept : Kept) (read left' : Option (List (List ℕ))) (held held' : Option (List ℕ)) (log log' : Option (List Connection))
-    (coming coming' : Option (List (List (List ℕ)))) → HasNoBadLine pieces → IsAfter pieces 0 read kept → IsOther status → HasBegun times connections status bytes kept read left' held held' log log' coming coming' → status ≡ 0
-begun_ends law pieces times connections status bytes kept read left' held held' log log' coming coming' none at other begun =
-    run_ends law pieces times connections status (record { left = read; kept = kept; held = held; log = log; coming = coming }) (record { left = left'; kept = begun.last; held = held'; log = log'; coming = coming' }) none at other begun.run
+begun_ends : CutsLaw → (pieces : List (List ℕ)) (plan : ServePlan) (status : ℕ) (bytes : List ℕ) (kept : Kept) (read left' : Option (List (List ℕ))) (held held' : Option (List ℕ)) (log log' : Option (List Connection))
+    (coming coming' : Option (List (List (List ℕ)))) → HasNoBadLine pieces → IsAfter pieces 0 read kept → IsOther status → HasBegun plan status bytes kept read left' held held' log log' coming coming' → status ≡ 0
+begun_ends law pieces plan status bytes kept read left' held held' log log' coming coming' none at other begun =
+    run_ends law pieces plan.hold plan.settings plan.connections status (record { left = read; kept = kept; held = held; log = log; coming = coming }) (record { left = left'; kept = begun.last; held = held'; log = log'; coming = coming' }) none at other begun.run
 
-load_ends : CutsLaw → (pieces : List (List ℕ)) (times : Settings) (connections status : ℕ) (bytes : List ℕ) (ended : Bool) (read left' : Option (List (List ℕ))) (held held' : Option (List ℕ)) (log log' : Option (List Connection))
+load_ends : CutsLaw → (pieces : List (List ℕ)) (plan : ServePlan) (status : ℕ) (bytes : List ℕ) (ended : Bool) (read left' : Option (List (List ℕ))) (held held' : Option (List ℕ)) (log log' : Option (List Connection))
     (coming coming' : Option (List (List (List ℕ)))) (kept : Kept) → HasNoBadLine pieces → kept_of (next_piece pieces) ≡ Ok kept → IsOther status → Gives bytes ended (Some pieces) read
-    → (loaded : Result Kept JournalFault) → JournalOutcome bytes ended loaded → IsLoadedAs kept loaded → AfterLoad times connections bytes loaded status read left' held held' log log' coming coming' → status ≡ 0
-load_ends law pieces times connections status bytes ended read left' held held' log log' coming coming' kept none told other gives (Ok found) outcome (inl is) begun =
+    → (loaded : Result Kept JournalFault) → JournalOutcome bytes ended loaded → IsLoadedAs kept loaded → AfterLoad plan bytes loaded status read left' held held' log log' coming coming' → status ≡ 0
+load_ends law pieces plan status bytes ended read left' held held' log log' coming coming' kept none told other gives (Ok found) outcome (inl is) begun =
     let whole : Gives bytes true (Some pieces) read = subst (λ (e : Bool). Gives bytes e (Some pieces) read) outcome.0 gives in
     let rest = some_left (Some pieces) pieces bytes read refl whole in
     let first : kept_of (next_piece pieces) ≡ Ok found = told ∙ sym is in
-    begun_ends law pieces times connections status bytes found read left' held held' log log' coming coming' none (begins pieces read found rest.1 first) other begun
-load_ends law pieces times connections status bytes ended read left' held held' log log' coming coming' kept none told other gives (Ok found) outcome (inr (inl is)) begun = absurd (cc)
-load_ends law pieces times connections status bytes ended read left' held held' log log' coming coming' kept none told other gives (Ok found) outcome (inr (inr is)) begun = absurd (cc)
-load_ends law pieces times connections status bytes ended read left' held held' log log' coming coming' kept none told other gives (Err fault) outcome (inl is) not = absurd (cc)
-load_ends law pieces times connections status bytes ended read left' held held' log log' coming coming' kept none told other gives (Err fault) outcome (inr (inl is)) not =
+    begun_ends law pieces plan status bytes found read left' held held' log log' coming coming' none (begins pieces read found rest.1 first) other begun
+load_ends law pieces plan status bytes ended read left' held held' log log' coming coming' kept none told other gives (Ok found) outcome (inr (inl is)) begun = absurd (cc)
+load_ends law pieces plan status bytes ended read left' held held' log log' coming coming' kept none told other gives (Ok found) outcome (inr (inr is)) begun = absurd (cc)
+load_ends law pieces plan status bytes ended read left' held held' log log' coming coming' kept none told other gives (Err fault) outcome (inl is) not = absurd (cc)
+load_ends law pieces plan status bytes ended read left' held held' log log' coming coming' kept none told other gives (Err fault) outcome (inr (inl is)) not =
     absurd (faultless fault status held held' other (inl (cc)) not.refusal)
-load_ends law pieces times connections status bytes ended read left' held held' log log' coming coming' kept none told other gives (Err fault) outcome (inr (inr is)) not =
+load_ends law pieces plan status bytes ended read left' held held' log log' coming coming' kept none told other gives (Err fault) outcome (inr (inr is)) not =
     absurd (faultless fault status held held' other (inr (cc)) not.refusal)
 
-pub served_to_the_end : CutsLaw → (times : Settings) (connections status : ℕ) (pieces : List (List ℕ)) (left left' : Option (List (List ℕ))) (held held' : Option (List ℕ)) (log log' : Option (List Connection))
-    (coming coming' : Option (List (List (List ℕ)))) → left ≡ Some pieces → HasNoBadLine pieces → IsServeRun times connections status left left' held held' log log' coming coming' → IsOther status → status ≡ 0
-served_to_the_end law times connections status pieces left left' held held' log log' coming coming' told none run other =
+pub served_to_the_end : CutsLaw → (plan : ServePlan) (status : ℕ) (pieces : List (List ℕ)) (left left' : Option (List (List ℕ))) (held held' : Option (List ℕ)) (log log' : Option (List Connection))
+    (coming coming' : Option (List (List (List ℕ)))) → left ≡ Some pieces → HasNoBadLine pieces → IsServeRun plan status left left' held held' log log' coming coming' → IsOther status → status ≡ 0
+served_to_the_end law plan status pieces left left' held held' log log' coming coming' told none run other =
     let first = none 0 in
     let begins : kept_of (next_piece pieces) ≡ Ok first.0 = ap kept_of (sym (one_further 0 pieces)) ∙ first.1 in
     let gives : Gives run.bytes run.ended (Some pieces) run.read = subst (λ (l : Option (List (List ℕ))). Gives run.bytes run.ended l run.read) told run.gives in
-    load_ends law pieces times connections status run.bytes run.ended run.read left' held held' log log' coming coming' first.0 none begins other gives run.loaded run.outcome
+    load_ends law pieces plan status run.bytes run.ended run.read left' held held' log log' coming coming' first.0 none begins other gives run.loaded run.outcome
     (loaded_as run.bytes run.ended pieces run.read first.0 run.loaded gives begins run.outcome) run.after

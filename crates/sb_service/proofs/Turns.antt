@@ -1,6 +1,6 @@
 -- One more turn, and the end of a run.
-use Rattle.std.proofs.Common.{◌≡◌, ◌+◌, ◌≤◌, inl, inr, ℕ, false, List, [], ◌∷◌, ◌++◌, length, refl, sym, ap, ◌∙◌, subst, Option, Some, None, append_assoc, arith}
-use Rattle.std.specs.Prelude.{IfSome, Err, option_map}
+use Rattle.std.proofs.Common.{◌≡◌, ◌≢◌, ◌⊎◌, ◌+◌, ◌≤◌, inl, inr, ℕ, suc, Bool, true, false, List, [], ◌∷◌, ◌++◌, length, refl, sym, ap, ◌∙◌, subst, Option, Some, None, append_assoc, arith}
+use Rattle.std.specs.Prelude.{IfErr, IfSome, Result, Ok, Err, option_map}
 use Rattle.std.proofs.lemmas.List.{append-nil}
 use Rattle.sb_outside.specs.Outside.{GivesFront, IfTold, appended, with_entry}
 use Rattle.sb_outside.specs.declared.doors.Connection.{Connection}
@@ -8,10 +8,17 @@ use Rattle.delta_server.specs.declared.answering.Settings.{Settings}
 use Rattle.http_serving.specs.Printed.{connection_line}
 use Rattle.http_serving.specs.Serving.{IsServed}
 use Rattle.sb_service.specs.Connection.{IsResponseTo}
-use Rattle.sb_service.specs.Serving.{IsTaken, pieces_of, AreServed, Turn, Seen, HasTurns, HasGrown, IsTurn, IsLined, IsRefusal, lines_of, with_entries, HasRun, IsServeRun, StopsAt}
+use Rattle.sb_service.specs.Serving.{IsTaken, pieces_of, AreServed, Turn, Seen, HasTurns, HasGrown, HasHeld, HasHeldOn, HasStayed, HeldEnds, Holds, IsLined, IsRefusal, IsTold, IsTurn, lines_of, with_entries, HasRun, IsServeRun, Stays, StopsAt}
+use Rattle.sb_service.specs.Stops.{status_of}
+use Rattle.sb_service.specs.declared.serve.ServePlan.{ServePlan}
+use Rattle.sb_service.specs.declared.stop.Stop.{Stop}
+use Rattle.sb_service.specs.declared.stop.Stop.TheVariants as stop
 use Rattle.http_serving.specs.declared.ends.ConnectionEnd.{ConnectionEnd}
+use Rattle.list_versions.specs.Journal.{Kept}
+use Rattle.list_versions.specs.Loaded.{FurtherFault, Gives}
 use Rattle.list_versions.specs.declared.fault.JournalFault.{JournalFault}
 use Rattle.list_versions.specs.declared.fault.JournalFault.TheVariants as journal
+use Rattle.sb_service.proofs.Stops.{one_stop}
 
 -- ---- no turn yet
 
@@ -71,23 +78,6 @@ not_ended number how held held' (inl is) = is.1
 not_ended number how held held' (inr (inl is)) = absurd (omega (arith, is.0))
 not_ended number how held held' (inr (inr is)) = absurd (omega (arith, is.1.ends))
 
-goes_on : (fault : JournalFault) (held held' : Option (List ℕ)) → IsRefusal fault 0 held held' → ⊥
-goes_on fault held held' (inl is) = omega (arith, is.ends)
-goes_on journal.ReadFault held held' (inr is) = omega (arith, is.ends)
-goes_on journal.Header held held' (inr (inl is)) = omega (arith, is.ends)
-goes_on journal.Header held held' (inr (inr is)) = omega (arith, is.ends)
-goes_on (journal.Line n) held held' (inr (inl is)) = omega (arith, is.ends)
-goes_on (journal.Line n) held held' (inr (inr is)) = omega (arith, is.ends)
-goes_on (journal.UnknownList n) held held' (inr (inl is)) = omega (arith, is.ends)
-goes_on (journal.UnknownList n) held held' (inr (inr is)) = omega (arith, is.ends)
-goes_on (journal.ListTwice n) held held' (inr (inl is)) = omega (arith, is.ends)
-goes_on (journal.ListTwice n) held held' (inr (inr is)) = omega (arith, is.ends)
-goes_on (journal.TooMany n) held held' (inr (inl is)) = omega (arith, is.ends)
-goes_on (journal.TooMany n) held held' (inr (inr is)) = omega (arith, is.ends)
-goes_on (journal.TooLarge n) held held' (inr (inl is)) = omega (arith, is.ends)
-goes_on (journal.TooLarge n) held held' (inr (inr is)) = omega (arith, is.ends)
-goes_on journal.OutOfMemory held held' (inr is) = is
-
 -- the turn that grew
 abbrev pub turn_of : (times : Settings) (number status : ℕ) (before after : Seen) → HasGrown times number status before after → Turn
 turn_of times number status before after grown =
@@ -107,17 +97,16 @@ grown_more times number turns first before after count so_far grown =
           grown.told.logged.logged so_far.served grown.told.logged.says;
     }
 
-pub one_more : (times : Settings) (number : ℕ) (turns : List Turn) (first before after : Seen) → length turns + 1 ≡ number → HasTurns times turns first before → IsTurn times number 0 before after
+pub one_more : (times : Settings) (number : ℕ) (turns : List Turn) (first before after : Seen) → length turns + 1 ≡ number → HasTurns times turns first before → HasGrown times number 0 before after
     → (more : List Turn) × (length more ≡ number) × HasTurns times more first after
-one_more times number turns first before after count so_far (inl grown) =
+one_more times number turns first before after count so_far grown =
     (turn_of times number 0 before after grown ∷ turns, omega (arith, count), grown_more times number turns first before after count so_far grown)
-one_more times number turns first before after count so_far (inr not) = absurd (goes_on not.fault before.held after.held not.refusal)
 
 -- ---- the end of a run
 
-pub all_done : (times : Settings) (connections : ℕ) (turns : List Turn) (first last : Seen) → length turns ≡ connections → HasTurns times turns first last
-    → HasRun times connections 0 first last
-all_done times connections turns first last count so_far = record {
+pub all_done : (hold : Bool) (times : Settings) (connections : ℕ) (turns : List Turn) (first last : Seen) → length turns ≡ connections → HasTurns times turns first last
+    → HasRun hold times connections 0 first last
+all_done hold times connections turns first last count so_far = record {
   turns = turns;
   last = last;
   few = omega (arith, count);
@@ -125,15 +114,104 @@ all_done times connections turns first last count so_far = record {
   stops = inl (count, record { ends = refl; left = refl; held = refl; log = refl; coming = refl });
 }
 
-pub stopped : (times : Settings) (connections number status : ℕ) (turns : List Turn) (first before after : Seen) → length turns + 1 ≡ number → number ≤ connections
-    → HasTurns times turns first before → StopsAt times number status before after → HasRun times connections status first after
-stopped times connections number status turns first before after count few so_far stops = record {
+pub stopped : (hold : Bool) (times : Settings) (connections number status : ℕ) (turns : List Turn) (first before after : Seen) → length turns + 1 ≡ number → number ≤ connections
+    → HasTurns times turns first before → StopsAt hold times number status before after → HasRun hold times connections status first after
+stopped hold times connections number status turns first before after count few so_far stops = record {
   turns = turns;
   last = before;
   few = omega (arith, count, few);
   turned = so_far;
-  stops = inr (subst (λ (n : ℕ). StopsAt times n status before after) (sym count) stops);
+  stops = inr (inl (subst (λ (n : ℕ). StopsAt hold times n status before after) (sym count) stops));
 }
+
+pub held : (hold : Bool) (times : Settings) (connections number status : ℕ) (turns : List Turn) (first before between after : Seen) → length turns + 1 ≡ number → number ≤ connections
+    → HasTurns times turns first before → hold ≡ true → HasHeld times number 0 before between → HasHeldOn times connections number status between after → HasRun hold times connections status first after
+held hold times connections number status turns first before between after count few so_far on turn rest = record {
+  turns = turns;
+  last = before;
+  few = omega (arith, count, few);
+  turned = so_far;
+  stops = inr (inr (on, subst (λ (n : ℕ). Holds times connections n status before after) (sym count) (record { between = between; held = turn; rest = rest })));
+}
+
+-- ---- connections once the lists are held
+
+pub one_more_held : (times : Settings) (number before count : ℕ) (first last after : Seen) → number + count ≡ before → Stays times number count first last → HasStayed times (before + 1) 0 last after
+    → (number + suc count ≡ before + 1) × Stays times number (suc count) first after
+one_more_held times number before count first last after same so_far more =
+    let next : number + suc count ≡ before + 1 = omega (arith, same) in
+    (next, (last, so_far, subst (λ (n : ℕ). HasStayed times n 0 last after) (sym next) more))
+
+pub held_to_the_end : (times : Settings) (connections number count : ℕ) (first last : Seen) → number + count ≡ connections → Stays times number count first last → HasHeldOn times connections number 7 first last
+held_to_the_end times connections number count first last all so_far = record {
+  count = count;
+  few = omega (arith, all);
+  last = last;
+  stays = so_far;
+  ends = inl (all, record { ends = refl; left = refl; held = refl; log = refl; coming = refl });
+}
+
+pub held_until : (times : Settings) (connections number before count status : ℕ) (first last after : Seen) → number + count ≡ before → before ≤ connections → Stays times number count first last
+    → HeldEnds times connections before status last after → HasHeldOn times connections number status first after
+held_until times connections number before count status first last after same few so_far ends = record {
+  count = count;
+  few = omega (arith, same, few);
+  last = last;
+  stays = so_far;
+  ends = subst (λ (n : ℕ). HeldEnds times connections n status last after) (sym same) ends;
+}
+
+pub stopped_held : (times : Settings) (connections before number status : ℕ) (last after : Seen) → before + 1 ≡ number → status ≢ 0 → HasStayed times number status last after → HeldEnds times connections before status last after
+stopped_held times connections before number status last after is some stayed =
+    inr (inr (inr (some, subst (λ (n : ℕ). HasStayed times n status last after) (sym is) stayed)))
+
+-- ---- a turn that ended the run
+
+pub not_both : (b : Bool) → b ≡ true → b ≡ false → ⊥
+not_both b e h = cc
+
+-- what holds of the one that ended it
+pub stops_as : {A : Type 0} (P : Stop → Type 0) (result : Result A Stop) (ending : Stop) → IfErr result (λ s. (s ≡ ending) × (ending ≢ stop.Done)) → (ending ≢ stop.Done → P ending) → IfErr result P
+stops_as P (Ok a) ending is holds = tt
+stops_as P (Err s) ending is holds = subst P (sym is.0) (holds is.1)
+
+pub some_status : (s : Stop) → s ≢ stop.Done → status_of s ≢ 0
+some_status s other e = other (one_stop s stop.Done e)
+
+pub grown_on : (times : Settings) (number : ℕ) (served : Stop) (before after : Seen) → HasGrown times number (status_of served) before after → served ≡ stop.Done → HasGrown times number 0 before after
+grown_on times number served before after grown is = subst (λ (s : Stop). HasGrown times number (status_of s) before after) is grown
+
+pub held_turn : (times : Settings) (number : ℕ) (served told : Stop) (fault : JournalFault) (before after : Seen) (between : Option (List ℕ)) (gained : List ℕ) (ended : Bool) (pieces : List (List ℕ))
+    → Gives gained ended before.left after.left → FurtherFault before.kept gained fault → IsRefusal fault (status_of told) before.held between → told ≡ stop.BadJournal
+    → after.kept ≡ before.kept → IsTaken pieces before.coming after.coming → IsTold after.kept.versions times number (status_of served) pieces before.log after.log between after.held
+    → HasHeld times number (status_of served) before after
+held_turn times number served told fault before after between gained ended pieces gives because refusal bad same taken line = record {
+  gained = gained;
+  ended = ended;
+  gives = gives;
+  fault = fault;
+  because = because;
+  between = between;
+  refusal = subst (λ (s : Stop). IsRefusal fault (status_of s) before.held between) bad refusal;
+  same = same;
+  pieces = pieces;
+  taken = taken;
+  told = subst (λ (k : Kept). IsTold k.versions times number (status_of served) pieces before.log after.log between after.held) same line;
+}
+
+pub held_on : (times : Settings) (number : ℕ) (served : Stop) (before after : Seen) → HasHeld times number (status_of served) before after → served ≡ stop.Done → HasHeld times number 0 before after
+held_on times number served before after turn is = subst (λ (s : Stop). HasHeld times number (status_of s) before after) is turn
+
+not_done : (s : Stop) → (s ≡ stop.ReadFault) ⊎ (s ≡ stop.WriteFault) ⊎ (s ≡ stop.BadJournal) ⊎ (s ≡ stop.OutOfMemory) → status_of s ≢ 0
+not_done s (inl e) h = let is : status_of s ≡ 2 = ap status_of e in omega (arith, is, h)
+not_done s (inr (inl e)) h = let is : status_of s ≡ 3 = ap status_of e in omega (arith, is, h)
+not_done s (inr (inr (inl e))) h = let is : status_of s ≡ 7 = ap status_of e in omega (arith, is, h)
+not_done s (inr (inr (inr e))) h = let is : status_of s ≡ 8 = ap status_of e in omega (arith, is, h)
+
+pub turn_stops : {A : Type 0} (hold : Bool) (times : Settings) (number : ℕ) (before after : Seen) (result : Result A Stop) → IfErr result (λ s. IsTurn hold times number (status_of s) before after)
+    → IfErr result (λ s. (s ≡ stop.ReadFault) ⊎ (s ≡ stop.WriteFault) ⊎ (s ≡ stop.BadJournal) ⊎ (s ≡ stop.OutOfMemory)) → IfErr result (λ s. StopsAt hold times number (status_of s) before after)
+turn_stops hold times number before after (Ok a) turn ends = tt
+turn_stops hold times number before after (Err s) turn ends = inr (inr (not_done s ends, turn))
 
 -- ---- a run that was refused memory before it read anything
 
@@ -141,8 +219,8 @@ gives_nothing : (left : Option (List (List ℕ))) → GivesFront [] left left
 gives_nothing None = record { front = refl; later = refl }
 gives_nothing (Some left) = record { front = refl; later = refl }
 
-pub nothing_done : (times : Settings) (connections : ℕ) (left : Option (List (List ℕ))) (held : Option (List ℕ)) (log : Option (List Connection)) (coming : Option (List (List (List ℕ)))) → IsServeRun times connections 8 left left held held log log coming coming
-nothing_done times connections left held log coming = record {
+pub nothing_done : (plan : ServePlan) (left : Option (List (List ℕ))) (held : Option (List ℕ)) (log : Option (List Connection)) (coming : Option (List (List (List ℕ)))) → IsServeRun plan 8 left left held held log log coming coming
+nothing_done plan left held log coming = record {
   bytes = [];
   ended = false;
   read = left;

@@ -11,6 +11,7 @@ use Rattle.sb_service.specs.declared.command.DoorRoom.{DoorRoom}
 use Rattle.sb_service.specs.declared.command.GenerateLine.{GenerateLine}
 use Rattle.sb_service.specs.declared.command.Load.{Load}
 use Rattle.sb_service.specs.declared.command.MessageKind.{MessageKind}
+use Rattle.sb_service.specs.declared.serve.ServePlan.{ServePlan}
 use Rattle.sb_service.specs.declared.command.MessageKind.TheVariants.{Fetch, Find, Lookup}
 
 abbrev pub needed : Text → CommandOption
@@ -31,12 +32,12 @@ answer_shape = record {
   takes_positionals = false;
 }
 
--- `serve` needs a journal and an address, and may have a number of connections, the room of its door and the same durations.
+-- `serve` needs a journal and an address, and may have a number of connections, the room of its door, a flag and the same durations.
 abbrev pub serve_shape : CommandShape
 serve_shape = record {
   options =
       needed (codes "journal") ∷ needed (codes "listen") ∷ optional (codes "connections")
-      ∷ optional (codes "peers") ∷ optional (codes "answers")
+      ∷ optional (codes "peers") ∷ optional (codes "answers") ∷ flag (codes "hold")
       ∷ optional (codes "wait") ∷ optional (codes "find-wait") ∷ optional (codes "cache") ∷ optional (codes "negative") ∷ [];
   takes_positionals = false;
 }
@@ -104,13 +105,13 @@ answer_given given =
 abbrev pub answer_of : List Text → Option AnswerWords
 answer_of words = option_and_then answer_given (given_to (codes "answer") answer_shape words)
 
--- What a command line of `serve` says: the path of the journal, the address, how many connections, the room of the door, and times.
+-- What a command line of `serve` says: the path of the journal, the address, the room of the door, and the plan: times, how many
+-- connections, and whether a bad line of the journal holds the lists as they are.
 pub record ServeWords : Type 0 where
   pub journal : Text
   pub listen : Text
-  pub connections : ℕ
   pub room : DoorRoom
-  pub settings : Settings
+  pub plan : ServePlan
 
 -- the address, where it is one
 abbrev pub listen_given : List (Text × Text) → Option Text
@@ -141,16 +142,21 @@ room_given named =
     (amount_given (codes "answers") 512 named))
     (amount_given (codes "peers") 1024 named)
 
-abbrev pub serve_with : Option Text → Option Text → Option ℕ → Option DoorRoom → Option Settings → Option ServeWords
-serve_with journal listen connections room settings =
-    option_and_then (λ path. option_and_then (λ address. option_and_then (λ count. option_and_then (λ most. option_map
-    (λ times. record { journal = path; listen = address; connections = count; room = most; settings = times })
-    settings) room) connections) listen) journal
+abbrev pub plan_given : List (Text × Text) → Option ServePlan
+plan_given named =
+    option_and_then (λ count. option_map
+    (λ times. record { settings = times; connections = count; hold = is_some (value_among (codes "hold") named) })
+    (settings_given named)) (connections_given named)
+
+abbrev pub serve_with : Option Text → Option Text → Option DoorRoom → Option ServePlan → Option ServeWords
+serve_with journal listen room plan =
+    option_and_then (λ path. option_and_then (λ address. option_and_then (λ most. option_map
+    (λ asked. record { journal = path; listen = address; room = most; plan = asked })
+    plan) room) listen) journal
 
 abbrev pub serve_given : Given → Option ServeWords
 serve_given given =
-    serve_with (value_among (codes "journal") given.named) (listen_given given.named) (connections_given given.named)
-    (room_given given.named) (settings_given given.named)
+    serve_with (value_among (codes "journal") given.named) (listen_given given.named) (room_given given.named) (plan_given given.named)
 
 -- what the words of `sblistd serve --journal PATH --listen ADDRESS ..` say, where they are such words
 abbrev pub serve_of : List Text → Option ServeWords
@@ -208,24 +214,23 @@ pub record AsksAnswer (words : List Text) (kind : MessageKind) (settings : Setti
   pub asked : line.kind ≡ kind
   pub times : line.settings ≡ settings
 
--- The words are those of `serve`, with these settings and so many connections.
-pub record AsksServe (words : List Text) (settings : Settings) (connections : ℕ) : Type 0 where
+-- The words are those of `serve`, with this plan.
+pub record AsksServe (words : List Text) (plan : ServePlan) : Type 0 where
   pub line : ServeWords
   pub serve : serve_of words ≡ Some line
-  pub times : line.settings ≡ settings
-  pub count : line.connections ≡ connections
+  pub asked : line.plan ≡ plan
 
 -- What the code makes of the words: the command that they are.
 abbrev pub IsCommandOf : List Text → Option Command → Type 0
 IsCommandOf words None = IsNoCommand words
 IsCommandOf words (Some (Answer kind settings)) = AsksAnswer words kind settings
-IsCommandOf words (Some (Serve settings connections)) = AsksServe words settings connections
+IsCommandOf words (Some (Serve plan)) = AsksServe words plan
 IsCommandOf words (Some (Generate urls load)) = generate_of words ≡ Some (record { urls = urls; load = load })
 IsCommandOf words (Some (Exercise load)) = exercise_of words ≡ Some load
 
 -- a command that serves no connection, and one that makes what it prints from its words alone
 abbrev pub IsNoService : Command → Type 0
-IsNoService (Serve settings connections) = ⊥
+IsNoService (Serve plan) = ⊥
 IsNoService command = ⊤
 
 abbrev pub IsMade : Command → Type 0

@@ -1,6 +1,6 @@
 -- A run of `serve`: what the journal gave before each connection, how each connection ended and what the door's log says of
 -- it, the lines that were printed, and how the run ended.
-use Rattle.std.specs.Prelude.{◌≡◌, ◌≢◌, ◌⊎◌, ◌+◌, ◌≤◌, ℕ, suc, Bool, true, List, [], ◌∷◌, ◌++◌, length, take, ⊤, Option, Some, Result, Ok, Err, IfSome, option_map}
+use Rattle.std.specs.Prelude.{◌≡◌, ◌≢◌, ◌⊎◌, ◌+◌, ◌≤◌, ℕ, zero, suc, Bool, true, List, [], ◌∷◌, ◌++◌, length, take, ⊤, Option, Some, Result, Ok, Err, IfSome, option_map}
 use Rattle.std.specs.List.{concat}
 use Rattle.sb_outside.specs.Outside.{IfTold, appended, with_entry}
 use Rattle.sb_outside.specs.Writing.{HasFront}
@@ -11,6 +11,7 @@ use Rattle.list_versions.specs.Journal.{Kept, kept_of, read_on}
 use Rattle.list_versions.specs.Loaded.{Gives, JournalOutcome, FurtherFault}
 use Rattle.list_versions.specs.declared.fault.JournalFault.{JournalFault}
 use Rattle.delta_server.specs.declared.answering.Settings.{Settings}
+use Rattle.sb_service.specs.declared.serve.ServePlan.{ServePlan}
 use Rattle.sb_service.specs.Answer.{AfterFault, IsSilent}
 use Rattle.http_serving.specs.Printed.{connection_line}
 use Rattle.http_serving.specs.Serving.{IsServed, IsUntouched}
@@ -137,21 +138,57 @@ pub record HasGrown (times : Settings) (number status : ℕ) (before after : See
 abbrev pub IsRefusal : JournalFault → ℕ → (held held' : Option (List ℕ)) → Type 0
 IsRefusal fault status held held' = IsSilent 8 status held held' ⊎ AfterFault fault status held held'
 
--- The history did not grow, and the connection went back as it came.
-pub record HasNotGrown (status : ℕ) (before after : Seen) : Type 0 where
+-- The history did not grow, and the connection went back as it came. A run that holds is ended so by no bad line of which the
+-- cause was told.
+pub record HasNotGrown (hold : Bool) (status : ℕ) (before after : Seen) : Type 0 where
   pub gained : List ℕ
   pub ended : Bool
   pub gives : Gives gained ended before.left after.left
   pub fault : JournalFault
   pub because : FurtherFault before.kept gained fault
   pub refusal : IsRefusal fault status before.held after.held
+  pub other : hold ≡ true → status ≢ 7
   pub pieces : List (List ℕ)
   pub taken : IsTaken pieces before.coming after.coming
   pub logged : IsLogged IsUntouched before.log after.log
 
--- a turn with a connection that the door gave
-abbrev pub IsTurn : Settings → ℕ → ℕ → Seen → Seen → Type 0
-IsTurn times number status before after = HasGrown times number status before after ⊎ HasNotGrown status before after
+-- The cause of a bad line was told, and the connection was served over the history as it was.
+pub record HasHeld (times : Settings) (number status : ℕ) (before after : Seen) : Type 0 where
+  pub gained : List ℕ
+  pub ended : Bool
+  pub gives : Gives gained ended before.left after.left
+  pub fault : JournalFault
+  pub because : FurtherFault before.kept gained fault
+  -- what the output held then
+  pub between : Option (List ℕ)
+  pub refusal : IsRefusal fault 7 before.held between
+  pub same : after.kept ≡ before.kept
+  pub pieces : List (List ℕ)
+  pub taken : IsTaken pieces before.coming after.coming
+  pub told : IsTold before.kept.versions times number status pieces before.log after.log between after.held
+
+-- a turn with a connection that the door gave, which ended the run or, with status 0, did not
+abbrev pub IsTurn : Bool → Settings → ℕ → ℕ → Seen → Seen → Type 0
+IsTurn hold times number status before after =
+    HasGrown times number status before after
+    ⊎ HasNotGrown hold status before after
+    ⊎ ((hold ≡ true) × (status ≢ 0) × HasHeld times number status before after)
+
+-- ---- connections once the lists are held
+
+-- The journal was not looked at, and the connection was served over the history as it was.
+pub record HasStayed (times : Settings) (number status : ℕ) (before after : Seen) : Type 0 where
+  pub unread : after.left ≡ before.left
+  pub same : after.kept ≡ before.kept
+  pub pieces : List (List ℕ)
+  pub taken : IsTaken pieces before.coming after.coming
+  pub told : IsTold before.kept.versions times number status pieces before.log after.log before.held after.held
+
+-- So many connections, behind the one with a number, were served so.
+abbrev pub Stays : Settings → ℕ → ℕ → Seen → Seen → Type 0
+Stays times number zero before after = after ≡ before
+Stays times number (suc count) before after =
+    (between : Seen) × Stays times number count before between × HasStayed times (number + suc count) 0 between after
 
 -- ---- a run
 
@@ -164,24 +201,49 @@ pub record EndsWith (wanted status : ℕ) (before after : Seen) : Type 0 where
   pub coming : after.coming ≡ before.coming
 
 -- How a run ended in place of a further turn: no connection was to come, the door failed, or the turn ended it.
-abbrev pub StopsAt : Settings → ℕ → ℕ → Seen → Seen → Type 0
-StopsAt times number status before after =
+abbrev pub StopsAt : Bool → Settings → ℕ → ℕ → Seen → Seen → Type 0
+StopsAt hold times number status before after =
     (EndsWith 0 status before after × IfTold after.coming (Some []))
     ⊎ EndsWith 9 status before after
-    ⊎ ((status ≢ 0) × IsTurn times number status before after)
+    ⊎ ((status ≢ 0) × IsTurn hold times number status before after)
 
--- The same after so many turns, or these were all.
-abbrev pub Stops : Settings → ℕ → ℕ → ℕ → Seen → Seen → Type 0
-Stops times connections turns status before after =
-    ((turns ≡ connections) × EndsWith 0 status before after) ⊎ StopsAt times (turns + 1) status before after
+-- How a run ended that held its lists, after the connection with a number: with 7 in place of 0, if these were all or no connection
+-- was to come; or the door failed, or a further connection ended it.
+abbrev pub HeldEnds : Settings → ℕ → ℕ → ℕ → Seen → Seen → Type 0
+HeldEnds times connections number status before after =
+    ((number ≡ connections) × EndsWith 7 status before after)
+    ⊎ (EndsWith 7 status before after × IfTold after.coming (Some []))
+    ⊎ EndsWith 9 status before after
+    ⊎ ((status ≢ 0) × HasStayed times (number + 1) status before after)
+
+-- Behind the connection with a number, some were served over the lists that are held, and then the run ended.
+pub record HasHeldOn (times : Settings) (connections number status : ℕ) (before after : Seen) : Type 0 where
+  pub count : ℕ
+  pub few : number + count ≤ connections
+  pub last : Seen
+  pub stays : Stays times number count before last
+  pub ends : HeldEnds times connections (number + count) status last after
+
+-- The connection with a number was the first that was served over lists that are held, and others followed.
+pub record Holds (times : Settings) (connections number status : ℕ) (before after : Seen) : Type 0 where
+  pub between : Seen
+  pub held : HasHeld times number 0 before between
+  pub rest : HasHeldOn times connections number status between after
+
+-- The same after so many turns, or these were all, or the next one held the lists.
+abbrev pub Stops : Bool → Settings → ℕ → ℕ → ℕ → Seen → Seen → Type 0
+Stops hold times connections turns status before after =
+    ((turns ≡ connections) × EndsWith 0 status before after)
+    ⊎ StopsAt hold times (turns + 1) status before after
+    ⊎ ((hold ≡ true) × Holds times connections (turns + 1) status before after)
 
 -- The turns with a journal that was loaded, and the end.
-pub record HasRun (times : Settings) (connections status : ℕ) (before after : Seen) : Type 0 where
+pub record HasRun (hold : Bool) (times : Settings) (connections status : ℕ) (before after : Seen) : Type 0 where
   pub turns : List Turn
   pub last : Seen
   pub few : length turns ≤ connections
   pub turned : HasTurns times turns before last
-  pub stops : Stops times connections (length turns) status last after
+  pub stops : Stops hold times connections (length turns) status last after
 
 -- A journal that was not loaded ends the run before any connection.
 pub record HasNotBegun (fault : JournalFault) (status : ℕ) (left left' : Option (List (List ℕ)))
@@ -192,24 +254,24 @@ pub record HasNotBegun (fault : JournalFault) (status : ℕ) (left left' : Optio
   pub untaken : coming' ≡ coming
 
 -- One that was loaded grew from turn to turn, and each history that was lent is the one of its bytes so far.
-pub record HasBegun (times : Settings) (connections status : ℕ) (bytes : List ℕ) (kept : Kept) (left left' : Option (List (List ℕ)))
+pub record HasBegun (plan : ServePlan) (status : ℕ) (bytes : List ℕ) (kept : Kept) (left left' : Option (List (List ℕ)))
     (held held' : Option (List ℕ)) (log log' : Option (List Connection)) (coming coming' : Option (List (List (List ℕ)))) : Type 0 where
   pub last : Kept
-  pub run : HasRun times connections status (record { left = left; kept = kept; held = held; log = log; coming = coming })
+  pub run : HasRun plan.hold plan.settings plan.connections status (record { left = left; kept = kept; held = held; log = log; coming = coming })
       (record { left = left'; kept = last; held = held'; log = log'; coming = coming' })
   pub journal : AreOfJournal bytes run.turns
 
 -- what the journal led to
-abbrev pub AfterLoad : Settings → ℕ → List ℕ → Result Kept JournalFault → ℕ → (left left' : Option (List (List ℕ)))
+abbrev pub AfterLoad : ServePlan → List ℕ → Result Kept JournalFault → ℕ → (left left' : Option (List (List ℕ)))
     → (held held' : Option (List ℕ)) → (log log' : Option (List Connection)) → (coming coming' : Option (List (List (List ℕ)))) → Type 0
-AfterLoad times connections bytes (Ok kept) status left left' held held' log log' coming coming' =
-    HasBegun times connections status bytes kept left left' held held' log log' coming coming'
-AfterLoad times connections bytes (Err fault) status left left' held held' log log' coming coming' =
+AfterLoad plan bytes (Ok kept) status left left' held held' log log' coming coming' =
+    HasBegun plan status bytes kept left left' held held' log log' coming coming'
+AfterLoad plan bytes (Err fault) status left left' held held' log log' coming coming' =
     HasNotBegun fault status left left' held held' log log' coming coming'
 
--- A run of `serve`, of a server with these times, for so many connections: the journal gave these bytes,
--- with its end or without, and what they come to decided what became of the rest.
-pub record IsServeRun (times : Settings) (connections status : ℕ) (left left' : Option (List (List ℕ)))
+-- A run of `serve`, by this plan: the journal gave these bytes, with its end or without, and what they come to decided what became
+-- of the rest.
+pub record IsServeRun (plan : ServePlan) (status : ℕ) (left left' : Option (List (List ℕ)))
     (held held' : Option (List ℕ)) (log log' : Option (List Connection)) (coming coming' : Option (List (List (List ℕ)))) : Type 0 where
   pub bytes : List ℕ
   pub ended : Bool
@@ -217,7 +279,7 @@ pub record IsServeRun (times : Settings) (connections status : ℕ) (left left' 
   pub gives : Gives bytes ended left read
   pub loaded : Result Kept JournalFault
   pub outcome : JournalOutcome bytes ended loaded
-  pub after : AfterLoad times connections bytes loaded status read left' held held' log log' coming coming'
+  pub after : AfterLoad plan bytes loaded status read left' held held' log log' coming coming'
 
 -- A journal that is told has no bad line up to any of its ends.
 abbrev pub HasNoBadLine : List (List ℕ) → Type 0

@@ -1,8 +1,9 @@
 ghost use Rattle.std.specs.Prelude.{◌≡◌, ◌≤◌, ◌&&◌, IfOk, IfSome, map, option_map, option_and_then, None, codes, string_bytes};
 ghost use Rattle.std.specs.Str.{bytes_eq};
 ghost use Rattle.sb_words.specs.CommandLine.{given_of};
-ghost use Rattle.sb_service.specs.Command.{amount_given, answer_given, answer_of, answer_shape, connections_given, exercise_given, exercise_of, exercise_shape, generate_given, generate_of, generate_shape, kind_given, kind_of, listen_given, load_given, room_given, seconds_given, serve_given, serve_of, serve_shape, settings_given, AnswerWords, IsCommandOf, ServeWords};
+ghost use Rattle.sb_service.specs.Command.{amount_given, answer_given, answer_of, answer_shape, connections_given, exercise_given, exercise_of, exercise_shape, generate_given, generate_of, generate_shape, kind_given, kind_of, listen_given, load_given, plan_given, room_given, seconds_given, serve_given, serve_of, serve_shape, settings_given, AnswerWords, IsCommandOf, ServeWords};
 
+use crate::serve::ServePlan;
 use delta_server::Settings;
 use sb_model::OutOfMemory;
 use sb_words::{OptionKind, OptionShape, Shape, Words, listen_address, number, read_words};
@@ -61,6 +62,10 @@ const SERVE: Shape = Shape {
         OptionShape {
             name: "answers",
             kind: OptionKind::Optional,
+        },
+        OptionShape {
+            name: "hold",
+            kind: OptionKind::Flag,
         },
         OptionShape {
             name: "wait",
@@ -148,11 +153,8 @@ pub(crate) enum Command {
         kind: MessageKind,
         settings: Settings,
     },
-    /// Updates to so many connections, by a server with these settings.
-    Serve {
-        settings: Settings,
-        connections: u32,
-    },
+    /// Answers to connections, by this plan.
+    Serve(ServePlan),
     /// The URLs of a load, or its journal.
     Generate {
         urls: bool,
@@ -178,9 +180,8 @@ pub(crate) struct ServeLine<'a> {
     pub journal: &'a str,
     /// The address at which connections come in.
     pub listen: &'a str,
-    pub connections: u32,
     pub room: DoorRoom,
-    pub settings: Settings,
+    pub plan: ServePlan,
 }
 
 /// The seconds that the words give an option, or its default.
@@ -336,22 +337,33 @@ fn room_in(given: &Words<'_>) -> Option<DoorRoom>
     Some(DoorRoom { peers, answers })
 }
 
+/// How to serve, as the words say.
+fn plan_in(given: &Words<'_>) -> Option<ServePlan>
+    ensures { result ≡ plan_given given.now.named }
+{
+    let connections = connections_in(given)?;
+    let settings = settings_in(given)?;
+    Some(ServePlan {
+        settings,
+        connections,
+        hold: given.has("hold"),
+    })
+}
+
 /// What the words after `serve` say, by what they give.
 fn serve_line_in<'a>(given: &Words<'a>) -> Option<ServeLine<'a>>
-    ensures { option_map (λ line. record { journal = line.journal.now; listen = line.listen.now; connections = line.connections; room = line.room; settings = line.settings }) result
+    ensures { option_map (λ line. record { journal = line.journal.now; listen = line.listen.now; room = line.room; plan = line.plan }) result
         ≡ serve_given given.now }
 {
     let journal = given.value("journal")?;
     let listen = listen_in(given)?;
-    let connections = connections_in(given)?;
     let room = room_in(given)?;
-    let settings = settings_in(given)?;
+    let plan = plan_in(given)?;
     Some(ServeLine {
         journal,
         listen,
-        connections,
         room,
-        settings,
+        plan,
     })
 }
 
@@ -360,7 +372,7 @@ fn serve_line_of<'a>(
     alloc: Global,
     words: &'a [String],
 ) -> Result<Option<ServeLine<'a>>, OutOfMemory>
-    ensures { IfOk result (λ line. option_map (λ line. record { journal = line.journal.now; listen = line.listen.now; connections = line.connections; room = line.room; settings = line.settings }) line
+    ensures { IfOk result (λ line. option_map (λ line. record { journal = line.journal.now; listen = line.listen.now; room = line.room; plan = line.plan }) line
         ≡ option_and_then serve_given (given_of serve_shape (map string_bytes words.entry.now))) }
 {
     match read_words(alloc, &SERVE, words) {
@@ -383,7 +395,7 @@ pub(crate) fn serve_line<'a>(
     alloc: Global,
     words: &'a [String],
 ) -> Result<Option<ServeLine<'a>>, OutOfMemory>
-    ensures { IfOk result (λ line. option_map (λ line. record { journal = line.journal.now; listen = line.listen.now; connections = line.connections; room = line.room; settings = line.settings }) line
+    ensures { IfOk result (λ line. option_map (λ line. record { journal = line.journal.now; listen = line.listen.now; room = line.room; plan = line.plan }) line
         ≡ serve_of (map string_bytes words.entry.now)) }
 {
     let [program, command, rest @ ..] = words else {
@@ -507,10 +519,7 @@ fn serve_command(alloc: Global, words: &[String]) -> Result<Option<Command>, Out
     ensures { IfOk result (λ command. IsCommandOf (map string_bytes words.now) command) }
 {
     match serve_line(alloc, words) {
-        Ok(Some(line)) => Ok(Some(Command::Serve {
-            settings: line.settings,
-            connections: line.connections,
-        })),
+        Ok(Some(line)) => Ok(Some(Command::Serve(line.plan))),
         Ok(None) => load_command(alloc, words),
         Err(OutOfMemory) => Err(OutOfMemory),
     }

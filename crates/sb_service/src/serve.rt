@@ -1,11 +1,12 @@
-ghost use Rattle.std.specs.Prelude.{◌≡◌, ◌≢◌, ◌⊎◌, ◌+◌, ℕ, List, Option, None, Some, IfNone, IfSome};
+ghost use Rattle.std.specs.Prelude.{◌≡◌, ◌≢◌, ◌⊎◌, ◌+◌, ◌≤◌, ℕ, List, Option, None, Some, Ok, Err, false, true, IfNone, IfSome, IfErr};
 ghost use Rattle.sb_outside.specs.Outside.{Rose};
 ghost use Rattle.sb_outside.specs.declared.doors.Connection.{Connection};
 ghost use Rattle.list_versions.specs.declared.fault.JournalFault.{JournalFault};
 ghost use Rattle.http_serving.specs.Returning.{IsFresh};
 ghost use Rattle.sb_service.specs.Kept.{AreKeptOf};
-ghost use Rattle.sb_service.specs.Serving.{HasRun, IsLined, IsOpened, IsRefusal, IsServeRun, IsTaken, IsTold, IsTurn, StopsAt};
+ghost use Rattle.sb_service.specs.Serving.{HasGrown, HasHeld, HasHeldOn, HasRun, HasStayed, HeldEnds, IsLined, IsOpened, IsRefusal, IsServeRun, IsTaken, IsTold, IsTurn, StopsAt};
 ghost use Rattle.sb_service.specs.Stops.{status_of};
+ghost use Rattle.sb_service.specs.declared.serve.Further.{Further as Goes};
 
 use crate::answer::answer_fault;
 use crate::connection::ListServer;
@@ -19,6 +20,25 @@ use sb_model::OutOfMemory;
 use sb_outside::{Door, Failed, Sink, Source};
 use std::alloc::Global;
 use std::mem;
+
+/// How to serve.
+#[derive(Clone, Copy, Debug)]
+pub(crate) struct ServePlan {
+    pub settings: Settings,
+    /// How many connections, at least one.
+    pub connections: u32,
+    /// Whether a bad line of the journal that is met later is told, and the lists served on as they are.
+    pub hold: bool,
+}
+
+/// How a run goes on after a connection.
+#[derive(Clone, Copy, Debug, PartialEq, Eq)]
+enum Further {
+    /// The journal is looked at before the next one.
+    Looking,
+    /// A bad line was told. The lists are held as they are.
+    Holding,
+}
 
 /// Prints the line of a connection that ended. Answers `Done`, or what ends the run.
 fn print_end<O: Sink>(alloc: Global, number: u32, end: &ConnectionEnd, out: &mut O) -> Stop
@@ -82,101 +102,208 @@ fn refuse<O: Sink>(alloc: Global, fault: JournalFault, out: &mut O) -> Stop
     }
 }
 
+/// Whether the journal has a bad line, of which the cause was told.
+fn is_bad_journal(stop: Stop) -> bool
+    ensures bad { result ≡ true → stop ≡ Stop.BadJournal }
+    ensures other { result ≡ false → stop ≢ Stop.BadJournal }
+{
+    match stop {
+        Stop::BadJournal => true,
+        _ => false,
+    }
+}
+
+/// How a run goes on, unless this ends it.
+fn goes_on(stop: Stop, further: Further) -> Result<Further, Stop>
+    ensures ok { (other : Goes) → result ≡ Ok other → (other ≡ further) × (stop ≡ Stop.Done) }
+    ensures err { IfErr result (λ other. (other ≡ stop) × (stop ≢ Stop.Done)) }
+{
+    match stop {
+        Stop::Done => Ok(further),
+        stop => Err(stop),
+    }
+}
+
 /// Lets the history grow from the journal, and serves a connection that the door gave. If the journal told a change or
 /// declared a list, nothing is kept any more: a list that it declares now was left out of what was kept. A record that has
-/// only begun changes no answer. Answers `Done`, or what ends the run.
+/// only begun changes no answer. A bad line is told; if the plan says so, the connection is served over the history as it
+/// was, and else it goes back. Answers how the run goes on, or what ends it.
 fn take_turn<J: Source, O: Sink, D: Door>(
     alloc: Global,
     history: &mut History,
-    settings: &Settings,
+    plan: &ServePlan,
     kept: &mut KeptAnswers,
     number: u32,
     journal: &mut J,
     out: &mut O,
     door: &mut D,
     wire: D::Wire,
-) -> Stop
-    requires { AreKeptOf history.old.versions settings.now kept.old }
-    ensures turn { (before : Option (List Connection)) (coming : Option (List (List (List ℕ)))) (pieces : List (List ℕ))
+) -> Result<Further, Stop>
+    requires { AreKeptOf history.old.versions plan.now.settings kept.old }
+    ensures looking { (before : Option (List Connection)) (coming : Option (List (List (List ℕ)))) (pieces : List (List ℕ))
         → IsOpened before (D.log door.old) (D.Wire.number wire) → IsTaken pieces coming (D.coming door.old)
         → IsFresh pieces (D.Wire.start wire) (D.Wire.left wire) (D.Wire.contents wire) (D.Wire.Source.faults wire) (D.Wire.Sink.faults wire)
-        → IsTurn settings.now number (status_of result)
+        → result ≡ Ok Further.Looking → HasGrown plan.now.settings number 0
         (record { left = J.left journal.old; kept = history.old; held = O.contents out.old; log = before; coming = coming })
         (record { left = J.left journal.new; kept = history.new; held = O.contents out.new; log = D.log door.new; coming = D.coming door.new }) }
-    ensures ends { (result ≡ Stop.Done) ⊎ (result ≡ Stop.ReadFault) ⊎ (result ≡ Stop.WriteFault) ⊎ (result ≡ Stop.BadJournal) ⊎ (result ≡ Stop.OutOfMemory) }
-    ensures read_failed { result ≡ Stop.ReadFault → Rose (J.faults journal.old) (J.faults journal.new) }
-    ensures read_kept { result ≢ Stop.ReadFault → J.faults journal.new ≡ J.faults journal.old }
-    ensures failed { result ≡ Stop.WriteFault → Rose (O.faults out.old) (O.faults out.new) }
-    ensures kept { result ≢ Stop.WriteFault → O.faults out.new ≡ O.faults out.old }
+    ensures holding { (before : Option (List Connection)) (coming : Option (List (List (List ℕ)))) (pieces : List (List ℕ))
+        → IsOpened before (D.log door.old) (D.Wire.number wire) → IsTaken pieces coming (D.coming door.old)
+        → IsFresh pieces (D.Wire.start wire) (D.Wire.left wire) (D.Wire.contents wire) (D.Wire.Source.faults wire) (D.Wire.Sink.faults wire)
+        → result ≡ Ok Further.Holding → (plan.now.hold ≡ true) × HasHeld plan.now.settings number 0
+        (record { left = J.left journal.old; kept = history.old; held = O.contents out.old; log = before; coming = coming })
+        (record { left = J.left journal.new; kept = history.new; held = O.contents out.new; log = D.log door.new; coming = D.coming door.new }) }
+    ensures stops { (before : Option (List Connection)) (coming : Option (List (List (List ℕ)))) (pieces : List (List ℕ))
+        → IsOpened before (D.log door.old) (D.Wire.number wire) → IsTaken pieces coming (D.coming door.old)
+        → IsFresh pieces (D.Wire.start wire) (D.Wire.left wire) (D.Wire.contents wire) (D.Wire.Source.faults wire) (D.Wire.Sink.faults wire)
+        → IfErr result (λ stop. IsTurn plan.now.hold plan.now.settings number (status_of stop)
+        (record { left = J.left journal.old; kept = history.old; held = O.contents out.old; log = before; coming = coming })
+        (record { left = J.left journal.new; kept = history.new; held = O.contents out.new; log = D.log door.new; coming = D.coming door.new })) }
+    ensures ends { IfErr result (λ stop. (stop ≡ Stop.ReadFault) ⊎ (stop ≡ Stop.WriteFault) ⊎ (stop ≡ Stop.BadJournal) ⊎ (stop ≡ Stop.OutOfMemory)) }
+    ensures read_failed { result ≡ Err Stop.ReadFault → Rose (J.faults journal.old) (J.faults journal.new) }
+    ensures read_kept { result ≢ Err Stop.ReadFault → J.faults journal.new ≡ J.faults journal.old }
+    ensures failed { result ≡ Err Stop.WriteFault → Rose (O.faults out.old) (O.faults out.new) }
+    ensures kept { result ≢ Err Stop.WriteFault → O.faults out.new ≡ O.faults out.old }
     ensures door_kept { D.faults door.new ≡ D.faults door.old }
     ensures coming { D.coming door.new ≡ D.coming door.old }
-    ensures answers { AreKeptOf history.new.versions settings.now kept.new }
+    ensures answers { AreKeptOf history.new.versions plan.now.settings kept.new }
 {
+    let settings = &plan.settings;
     match history.grow_if_more(alloc, journal) {
         Ok(grown) => {
             kept.forget_if(grown);
-            serve_taken(alloc, history, settings, kept, number, out, door, wire)
+            let stop = serve_taken(alloc, history, settings, kept, number, out, door, wire);
+            goes_on(stop, Further::Looking)
         }
         Err(fault) => {
+            let stop = refuse(alloc, fault, out);
+            if plan.hold && is_bad_journal(stop) {
+                let stop = serve_taken(alloc, history, settings, kept, number, out, door, wire);
+                return goes_on(stop, Further::Holding);
+            }
             give_back(door, wire);
-            refuse(alloc, fault, out)
+            Err(stop)
         }
     }
 }
 
-/// Takes the next connection, and what follows on it. Answers what ends the run, or `None` where it goes on.
+/// Takes the next connection, and what follows on it. Answers how the run goes on, or what ends it.
 fn take_next<J: Source, O: Sink, D: Door>(
     alloc: Global,
     history: &mut History,
-    settings: &Settings,
+    plan: &ServePlan,
     kept: &mut KeptAnswers,
     number: u32,
     journal: &mut J,
     out: &mut O,
     door: &mut D,
-) -> Option<Stop>
-    requires { AreKeptOf history.old.versions settings.now kept.old }
-    ensures goes_on { IfNone result (IsTurn settings.now number 0
+) -> Result<Further, Stop>
+    requires { AreKeptOf history.old.versions plan.now.settings kept.old }
+    ensures looking { result ≡ Ok Further.Looking → HasGrown plan.now.settings number 0
+        (record { left = J.left journal.old; kept = history.old; held = O.contents out.old; log = D.log door.old; coming = D.coming door.old })
+        (record { left = J.left journal.new; kept = history.new; held = O.contents out.new; log = D.log door.new; coming = D.coming door.new }) }
+    ensures holding { result ≡ Ok Further.Holding → (plan.now.hold ≡ true) × HasHeld plan.now.settings number 0
+        (record { left = J.left journal.old; kept = history.old; held = O.contents out.old; log = D.log door.old; coming = D.coming door.old })
+        (record { left = J.left journal.new; kept = history.new; held = O.contents out.new; log = D.log door.new; coming = D.coming door.new }) }
+    ensures stops { IfErr result (λ stop. StopsAt plan.now.hold plan.now.settings number (status_of stop)
         (record { left = J.left journal.old; kept = history.old; held = O.contents out.old; log = D.log door.old; coming = D.coming door.old })
         (record { left = J.left journal.new; kept = history.new; held = O.contents out.new; log = D.log door.new; coming = D.coming door.new })) }
-    ensures stops { IfSome result (λ stop. StopsAt settings.now number (status_of stop)
-        (record { left = J.left journal.old; kept = history.old; held = O.contents out.old; log = D.log door.old; coming = D.coming door.old })
-        (record { left = J.left journal.new; kept = history.new; held = O.contents out.new; log = D.log door.new; coming = D.coming door.new })) }
-    ensures ends { IfSome result (λ stop.
+    ensures ends { IfErr result (λ stop.
         (stop ≡ Stop.Done) ⊎ (stop ≡ Stop.ReadFault) ⊎ (stop ≡ Stop.WriteFault) ⊎ (stop ≡ Stop.BadJournal) ⊎ (stop ≡ Stop.OutOfMemory) ⊎ (stop ≡ Stop.DoorFault)) }
-    ensures read_failed { result ≡ Some Stop.ReadFault → Rose (J.faults journal.old) (J.faults journal.new) }
-    ensures read_kept { result ≢ Some Stop.ReadFault → J.faults journal.new ≡ J.faults journal.old }
+    ensures read_failed { result ≡ Err Stop.ReadFault → Rose (J.faults journal.old) (J.faults journal.new) }
+    ensures read_kept { result ≢ Err Stop.ReadFault → J.faults journal.new ≡ J.faults journal.old }
+    ensures failed { result ≡ Err Stop.WriteFault → Rose (O.faults out.old) (O.faults out.new) }
+    ensures kept { result ≢ Err Stop.WriteFault → O.faults out.new ≡ O.faults out.old }
+    ensures door_failed { result ≡ Err Stop.DoorFault → Rose (D.faults door.old) (D.faults door.new) }
+    ensures door_kept { result ≢ Err Stop.DoorFault → D.faults door.new ≡ D.faults door.old }
+    ensures answers { AreKeptOf history.new.versions plan.now.settings kept.new }
+{
+    match door.next() {
+        Ok(Some(wire)) => take_turn(alloc, history, plan, kept, number, journal, out, door, wire),
+        Ok(None) => Err(Stop::Done),
+        Err(Failed) => Err(Stop::DoorFault),
+    }
+}
+
+/// Takes the next connection, and serves it over lists that are held. The journal is not looked at. Answers what ends the
+/// run, or `None` if it goes on.
+fn serve_one_held<O: Sink, D: Door>(
+    alloc: Global,
+    history: &History,
+    settings: &Settings,
+    kept: &mut KeptAnswers,
+    number: u32,
+    out: &mut O,
+    door: &mut D,
+) -> Option<Stop>
+    requires { AreKeptOf history.now.versions settings.now kept.old }
+    ensures goes_on { (left : Option (List (List ℕ))) → IfNone result (HasStayed settings.now number 0
+        (record { left = left; kept = history.now; held = O.contents out.old; log = D.log door.old; coming = D.coming door.old })
+        (record { left = left; kept = history.now; held = O.contents out.new; log = D.log door.new; coming = D.coming door.new })) }
+    ensures stops { (left : Option (List (List ℕ))) (connections before : ℕ) → before + 1 ≡ number → IfSome result (λ stop.
+        HeldEnds settings.now connections before (status_of stop)
+        (record { left = left; kept = history.now; held = O.contents out.old; log = D.log door.old; coming = D.coming door.old })
+        (record { left = left; kept = history.now; held = O.contents out.new; log = D.log door.new; coming = D.coming door.new })) }
+    ensures ends { IfSome result (λ stop.
+        (stop ≡ Stop.WriteFault) ⊎ (stop ≡ Stop.BadJournal) ⊎ (stop ≡ Stop.OutOfMemory) ⊎ (stop ≡ Stop.DoorFault)) }
     ensures failed { result ≡ Some Stop.WriteFault → Rose (O.faults out.old) (O.faults out.new) }
     ensures kept { result ≢ Some Stop.WriteFault → O.faults out.new ≡ O.faults out.old }
     ensures door_failed { result ≡ Some Stop.DoorFault → Rose (D.faults door.old) (D.faults door.new) }
     ensures door_kept { result ≢ Some Stop.DoorFault → D.faults door.new ≡ D.faults door.old }
-    ensures answers { AreKeptOf history.new.versions settings.now kept.new }
+    ensures answers { AreKeptOf history.now.versions settings.now kept.new }
 {
     match door.next() {
         Ok(Some(wire)) => {
-            match take_turn(
-                alloc, history, settings, kept, number, journal, out, door, wire,
-            ) {
+            match serve_taken(alloc, history, settings, kept, number, out, door, wire) {
                 Stop::Done => None,
                 stop => Some(stop),
             }
         }
-        Ok(None) => Some(Stop::Done),
+        Ok(None) => Some(Stop::BadJournal),
         Err(Failed) => Some(Stop::DoorFault),
     }
 }
 
-/// Serves so many connections, and answers what ends the run.
+/// Serves connections over lists that are held, after so many of those that the plan says. Answers what ends the run:
+/// `BadJournal`, unless an object fails or memory is refused.
+fn serve_held<O: Sink, D: Door>(
+    alloc: Global,
+    history: &History,
+    plan: &ServePlan,
+    kept: &mut KeptAnswers,
+    taken: u32,
+    out: &mut O,
+    door: &mut D,
+) -> Stop
+    requires answers { AreKeptOf history.now.versions plan.now.settings kept.old }
+    requires few { taken ≤ plan.now.connections }
+    ensures run { (left : Option (List (List ℕ))) → HasHeldOn plan.now.settings plan.now.connections taken (status_of result)
+        (record { left = left; kept = history.now; held = O.contents out.old; log = D.log door.old; coming = D.coming door.old })
+        (record { left = left; kept = history.now; held = O.contents out.new; log = D.log door.new; coming = D.coming door.new }) }
+    ensures ends { (result ≡ Stop.WriteFault) ⊎ (result ≡ Stop.BadJournal) ⊎ (result ≡ Stop.OutOfMemory) ⊎ (result ≡ Stop.DoorFault) }
+    ensures failed { result ≡ Stop.WriteFault → Rose (O.faults out.old) (O.faults out.new) }
+    ensures kept { result ≢ Stop.WriteFault → O.faults out.new ≡ O.faults out.old }
+    ensures door_failed { result ≡ Stop.DoorFault → Rose (D.faults door.old) (D.faults door.new) }
+    ensures door_kept { result ≢ Stop.DoorFault → D.faults door.new ≡ D.faults door.old }
+{
+    let settings = &plan.settings;
+    for before in taken..plan.connections {
+        if let Some(stop) = serve_one_held(alloc, history, settings, kept, before + 1, out, door) {
+            return stop;
+        }
+    }
+    Stop::BadJournal
+}
+
+/// Serves the connections that the plan says, and answers what ends the run.
 fn serve_connections<J: Source, O: Sink, D: Door>(
     alloc: Global,
     history: &mut History,
-    settings: &Settings,
-    connections: u32,
+    plan: &ServePlan,
     journal: &mut J,
     out: &mut O,
     door: &mut D,
 ) -> Stop
-    ensures run { HasRun settings.now connections (status_of result)
+    ensures run { HasRun plan.now.hold plan.now.settings plan.now.connections (status_of result)
         (record { left = J.left journal.old; kept = history.old; held = O.contents out.old; log = D.log door.old; coming = D.coming door.old })
         (record { left = J.left journal.new; kept = history.new; held = O.contents out.new; log = D.log door.new; coming = D.coming door.new }) }
     ensures ends { (result ≡ Stop.Done) ⊎ (result ≡ Stop.ReadFault) ⊎ (result ≡ Stop.WriteFault) ⊎ (result ≡ Stop.BadJournal) ⊎ (result ≡ Stop.OutOfMemory) ⊎ (result ≡ Stop.DoorFault) }
@@ -188,33 +315,36 @@ fn serve_connections<J: Source, O: Sink, D: Door>(
     ensures door_kept { result ≢ Stop.DoorFault → D.faults door.new ≡ D.faults door.old }
 {
     let mut kept = KeptAnswers::new(alloc);
-    for taken in 0..connections {
-        if let Some(stop) = take_next(
+    for taken in 0..plan.connections {
+        match take_next(
             alloc,
             history,
-            settings,
+            plan,
             &mut kept,
             taken + 1,
             journal,
             out,
             door,
         ) {
-            return stop;
+            Ok(Further::Looking) => {}
+            Ok(Further::Holding) => {
+                return serve_held(alloc, history, plan, &mut kept, taken + 1, out, door);
+            }
+            Err(stop) => return stop,
         }
     }
     Stop::Done
 }
 
-/// Loads the journal, and serves so many connections. Answers what ends the run.
+/// Loads the journal, and serves connections by the plan. Answers what ends the run.
 pub(crate) fn serve<J: Source, O: Sink, D: Door>(
     alloc: Global,
-    settings: &Settings,
-    connections: u32,
+    plan: &ServePlan,
     journal: &mut J,
     out: &mut O,
     door: &mut D,
 ) -> Stop
-    ensures run { IsServeRun settings.now connections (status_of result) (J.left journal.old) (J.left journal.new)
+    ensures run { IsServeRun plan.now (status_of result) (J.left journal.old) (J.left journal.new)
         (O.contents out.old) (O.contents out.new) (D.log door.old) (D.log door.new) (D.coming door.old) (D.coming door.new) }
     ensures ends { (result ≡ Stop.Done) ⊎ (result ≡ Stop.ReadFault) ⊎ (result ≡ Stop.WriteFault) ⊎ (result ≡ Stop.BadJournal) ⊎ (result ≡ Stop.OutOfMemory) ⊎ (result ≡ Stop.DoorFault) }
     ensures read_failed { result ≡ Stop.ReadFault → Rose (J.faults journal.old) (J.faults journal.new) }
@@ -226,15 +356,7 @@ pub(crate) fn serve<J: Source, O: Sink, D: Door>(
 {
     cuts_make_no_difference();
     match History::load(alloc, journal) {
-        Ok(mut history) => serve_connections(
-            alloc,
-            &mut history,
-            settings,
-            connections,
-            journal,
-            out,
-            door,
-        ),
+        Ok(mut history) => serve_connections(alloc, &mut history, plan, journal, out, door),
         Err(fault) => refuse(alloc, fault, out),
     }
 }

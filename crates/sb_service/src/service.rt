@@ -7,6 +7,7 @@ ghost use Rattle.sb_service.specs.declared.command.GenerateLine.{GenerateLine};
 ghost use Rattle.sb_service.specs.declared.command.Load.{Load};
 ghost use Rattle.sb_service.specs.declared.command.MessageKind.{MessageKind};
 ghost use Rattle.sb_service.specs.Command.{AnswerWords, IsMade, IsNoCommand, IsNoService, ServeWords, answer_of, exercise_of, generate_of, serve_of};
+ghost use Rattle.sb_service.specs.declared.serve.ServePlan.{ServePlan};
 ghost use Rattle.sb_service.specs.Made.{generated_text, printed_whole};
 ghost use Rattle.sb_service.specs.Printed.{answer_line};
 ghost use Rattle.sb_service.specs.Answer.{AreCounted, HasNoFault, IsAnswerOf, IsAnswerRun, IsStatus, IsWritten, TellsUsage, most_body};
@@ -29,7 +30,7 @@ use update_messages::{values_read_one_way, values_read_or_have_a_fault};
 pub const USAGE: &str = "usage: sblistd COMMAND\n\n  \
     sblistd answer --journal PATH --kind fetch|find|lookup [--wait S] [--find-wait S] [--cache S] [--negative S]\n      \
     reads a request for updates, for full hashes or to look URLs up, and writes the answer from the lists of a journal\n  \
-    sblistd serve --journal PATH --listen HOST:PORT [--connections N] [--peers N] [--answers MIB] [--wait S] [--find-wait S] [--cache S] [--negative S]\n      \
+    sblistd serve --journal PATH --listen HOST:PORT [--connections N] [--peers N] [--answers MIB] [--hold] [--wait S] [--find-wait S] [--cache S] [--negative S]\n      \
     serves the lists of a journal over HTTP; without --wait and --find-wait, fetches are to wait 1800 seconds and finds none\n  \
     sblistd generate [--urls] N SEED\n      \
     writes the journal of N changes that a seed makes, or N URLs\n  \
@@ -63,12 +64,12 @@ fn run_command<J: Source, S: Source, O: Sink, D: Door>(
         (S.left input.old) (S.left input.new) (O.contents out.old) (O.contents out.new) }
     ensures memory { IsNoService command → result ≡ 8 → out.new ≡ out.old }
     ensures untouched { IsNoService command → door.new ≡ door.old }
-    ensures serves { (settings : Settings) (connections : ℕ) → command ≡ Command.Serve settings connections
-        → IsServeRun settings connections result (J.left journal.old) (J.left journal.new)
+    ensures serves { (plan : ServePlan) → command ≡ Command.Serve plan
+        → IsServeRun plan result (J.left journal.old) (J.left journal.new)
         (O.contents out.old) (O.contents out.new) (D.log door.old) (D.log door.new) (D.coming door.old) (D.coming door.new) }
-    ensures unread { (settings : Settings) (connections : ℕ) → command ≡ Command.Serve settings connections
+    ensures unread { (plan : ServePlan) → command ≡ Command.Serve plan
         → input.new ≡ input.old }
-    ensures journal_failed { (settings : Settings) (connections : ℕ) → command ≡ Command.Serve settings connections
+    ensures journal_failed { (plan : ServePlan) → command ≡ Command.Serve plan
         → result ≡ 2 → Rose (J.faults journal.old) (J.faults journal.new) }
     ensures generates { (urls : Bool) (load : Load) → command ≡ Command.Generate urls load → result ≢ 8
         → IsWritten (printed_whole (generated_text (record { urls = urls; load = load }))) result (O.contents out.old) (O.contents out.new) }
@@ -85,10 +86,7 @@ fn run_command<J: Source, S: Source, O: Sink, D: Door>(
             Ok(stop) => status_of(stop),
             Err(OutOfMemory) => status_of(Stop::OutOfMemory),
         },
-        Command::Serve {
-            settings,
-            connections,
-        } => status_of(serve(alloc, &settings, connections, journal, out, door)),
+        Command::Serve(plan) => status_of(serve(alloc, &plan, journal, out, door)),
         Command::Generate { urls, load } => {
             status_of(generate(alloc, GenerateLine { urls, load }, out))
         }
@@ -105,6 +103,9 @@ fn run_command<J: Source, S: Source, O: Sink, D: Door>(
 /// `serve` loads the journal and takes connections from the door. Before each it reads the journal to its next end; each
 /// is answered as `serve_connection` says and given back to the door in every case, and then its line is written:
 /// `connection I answered S`, `connection I read-fault` or `connection I write-fault`, with I from 1. The input is not read.
+/// With `--hold` a bad line that is met before a connection does not end the run: `journal CAUSE` is written, this connection
+/// and all later ones are served over the last good history, the journal is not looked at again, and the status is 7 in place
+/// of 0.
 ///
 /// `generate` writes the journal of a seed, or with `--urls` URLs of it. `exercise` makes such a journal in memory, loads
 /// it, answers two requests for its list, and writes how many entries these answers have. Nothing is read, and the door is
@@ -118,7 +119,7 @@ fn run_command<J: Source, S: Source, O: Sink, D: Door>(
 /// | 3 | only where the output's count of faults rose |
 /// | 5 | exactly where the body has no reading: `request CAUSE` is written |
 /// | 6 | exactly where the input passes 1,048,576 bytes |
-/// | 7 | exactly where the journal has a bad line: `journal CAUSE` is written. Of `exercise`, only where the made journal passes a limit: nothing is written |
+/// | 7 | exactly where the journal has a bad line: `journal CAUSE` is written, by `--hold` at once and the status later. Of `exercise`, only where the made journal passes a limit: nothing is written |
 /// | 8 | where memory was refused, by a connection too |
 /// | 9 | only where the door's count of faults rose |
 ///
@@ -149,7 +150,7 @@ pub fn run_server<J: Source, S: Source, O: Sink, D: Door>(
 
     // `serve`: what became of the journal, the connections and the output.
     ensures serves { (line : ServeWords) → serve_of (map string_bytes words.now) ≡ Some line
-        → IsServeRun line.settings line.connections result (J.left journal.old) (J.left journal.new)
+        → IsServeRun line.plan result (J.left journal.old) (J.left journal.new)
         (O.contents out.old) (O.contents out.new) (D.log door.old) (D.log door.new) (D.coming door.old) (D.coming door.new) }
     ensures no_input { (line : ServeWords) → serve_of (map string_bytes words.now) ≡ Some line → input.new ≡ input.old }
 

@@ -2,6 +2,7 @@
 use crate::case_link::CaseLink;
 use crate::linking::link_of;
 use case_texts::{Left, Objects, Place, Reader, Scripts, lasting_field, objects_of, words_of};
+use journal_run::run_journal;
 use sb_client::run_client;
 use sb_model::{Bytes, Row};
 use sb_outside::OpenGate;
@@ -10,11 +11,22 @@ use std::alloc::Global;
 use std::sync::Wait;
 use std::thread::Threads;
 
-/// The words of a command line, and whether they are the client's.
+/// Whose words a command line has.
+#[derive(Clone, Copy)]
+enum Program {
+    /// The client.
+    Client,
+    /// The list server.
+    Server,
+    /// What makes journals.
+    Maker,
+}
+
+/// The words of a command line, and whose they are.
 #[derive(Drop)]
 struct Command {
     words: Row<String>,
-    is_client: bool,
+    program: Program,
 }
 
 /// Makes a run, if memory lasts for its objects. This is what the keeper kept at the end of the run before, if it kept anything.
@@ -58,7 +70,7 @@ fn sent_over(reader: &mut Reader, link: &mut CaseLink) -> Row<Bytes> {
     link.take_sent()
 }
 
-/// Has the client or the server run its words, and says with which status it ends.
+/// Has a program run its words, and says with which status it ends.
 fn run_words<R: Threads + Wait + Sync>(
     rt: &R,
     reader: &mut Reader,
@@ -74,37 +86,46 @@ fn run_words<R: Threads + Wait + Sync>(
     }
 }
 
-/// The words that the client or the server is given: those of the last line that has any.
+/// The words that a program is given: those of the last line that has any.
 fn command_of(reader: &mut Reader, place: &Place<'_>) -> Command {
     let sheet = &place.book.sheet;
-    let client = lasting_field(sheet, &place.scope, b"client");
-    let server = lasting_field(sheet, &place.scope, b"server");
-    match later(client, server) {
-        Some((line, is_client)) => Command {
+    let client = words_at(place, b"client", Program::Client);
+    let server = words_at(place, b"server", Program::Server);
+    let maker = words_at(place, b"maker", Program::Maker);
+    match later(later(client, server), maker) {
+        Some((line, program)) => Command {
             words: words_of(reader, sheet.rest(line), line),
-            is_client,
+            program,
         },
         None => {
             reader.faults.line(place.scope.own.from);
             Command {
                 words: Row::new(reader.alloc),
-                is_client: false,
+                program: Program::Server,
             }
         }
     }
 }
 
-/// The later of two lines, and whether it is the first of them.
-fn later(client: Option<usize>, server: Option<usize>) -> Option<(usize, bool)> {
-    match (client, server) {
-        (Some(client), Some(server)) => Some((client.max(server), client > server)),
-        (Some(client), None) => Some((client, true)),
-        (None, Some(server)) => Some((server, false)),
-        (None, None) => None,
+/// The line with the words of a program.
+fn words_at(place: &Place<'_>, name: &[u8], program: Program) -> Option<(usize, Program)> {
+    let line = lasting_field(&place.book.sheet, &place.scope, name)?;
+    Some((line, program))
+}
+
+/// The later of two lines.
+fn later(
+    first: Option<(usize, Program)>,
+    second: Option<(usize, Program)>,
+) -> Option<(usize, Program)> {
+    match (first, second) {
+        (Some(first), Some(second)) if first.0 > second.0 => Some(first),
+        (first, None) => first,
+        (_, second) => second,
     }
 }
 
-/// The status with which the client or the server ends that is given these words.
+/// The status with which a program ends that is given these words.
 fn status_of<R: Threads + Wait + Sync>(
     rt: &R,
     alloc: Global,
@@ -113,10 +134,10 @@ fn status_of<R: Threads + Wait + Sync>(
     link: &mut CaseLink,
 ) -> u8 {
     let words = command.words.as_slice();
-    if command.is_client {
-        client_status(rt, alloc, words, objects, link)
-    } else {
-        server_status(alloc, words, objects)
+    match command.program {
+        Program::Client => client_status(rt, alloc, words, objects, link),
+        Program::Server => server_status(alloc, words, objects),
+        Program::Maker => maker_status(alloc, words, objects),
     }
 }
 
@@ -149,4 +170,15 @@ fn server_status(alloc: Global, words: &[String], objects: &mut Objects) -> u8 {
         ..
     } = objects;
     run_server(alloc, words, journal, input, out, &mut scripts.door)
+}
+
+fn maker_status(alloc: Global, words: &[String], objects: &mut Objects) -> u8 {
+    let Objects {
+        journal,
+        input,
+        out,
+        scripts,
+        ..
+    } = objects;
+    run_journal(alloc, words, journal, input, out, &mut scripts.dice)
 }

@@ -46,11 +46,11 @@ returns-in-Ok-Some-clause-door g c none =
 
 pub returns-in-Ok-Some-clause-serves : goal.returns-in-Ok-Some-clause-serves
 returns-in-Ok-Some-clause-serves g c line words =
-    c.run_command.ensures.serves line.settings line.connections (is_serve _ _ _ line c.in-Ok-Some.ensures c.in-Ok-Some.field-0-is words)
+    c.run_command.ensures.serves line.plan (is_serve _ _ _ line c.in-Ok-Some.ensures c.in-Ok-Some.field-0-is words)
 
 pub returns-in-Ok-Some-clause-no_input : goal.returns-in-Ok-Some-clause-no_input
 returns-in-Ok-Some-clause-no_input g c line words =
-    c.run_command.ensures.unread line.settings line.connections (is_serve _ _ _ line c.in-Ok-Some.ensures c.in-Ok-Some.field-0-is words)
+    c.run_command.ensures.unread line.plan (is_serve _ _ _ line c.in-Ok-Some.ensures c.in-Ok-Some.field-0-is words)
 
 pub returns-in-Err-clause-serves : goal.returns-in-Err-clause-serves
 returns-in-Err-clause-serves g c line words =
@@ -58,18 +58,18 @@ returns-in-Err-clause-serves g c line words =
     let held = g.O.Sink.contents c.args.out.now in
     let log = g.D.Door.log c.args.door.now in
     let coming = g.D.Door.coming c.args.door.now in
-    subst (λ (status : ℕ). IsServeRun line.settings line.connections status journal journal held held log log coming coming) (sym c.status_of.ensures)
-    (nothing_done line.settings line.connections journal held log coming)
+    subst (λ (status : ℕ). IsServeRun line.plan status journal journal held held log log coming coming) (sym c.status_of.ensures)
+    (nothing_done line.plan journal held log coming)
 
 pub returns-in-Ok-Some-clause-serves_all : goal.returns-in-Ok-Some-clause-serves_all
 returns-in-Ok-Some-clause-serves_all g c line pieces words told none journal out door =
     let is = is_serve _ _ _ line c.in-Ok-Some.ensures c.in-Ok-Some.field-0-is words in
     let counts = c.run_command.ensures.counts in
     zero_or_memory c.run_command.result c.run_command.ensures.statuses (λ other.
-    served_to_the_end c.cuts_make_no_difference.ensures line.settings line.connections c.run_command.result pieces _ _ _ _ _ _ _ _ told none
-    (c.run_command.ensures.serves line.settings line.connections is) (record {
+    served_to_the_end c.cuts_make_no_difference.ensures line.plan c.run_command.result pieces _ _ _ _ _ _ _ _ told none
+    (c.run_command.ensures.serves line.plan is) (record {
       no_memory = other;
-      no_read = λ two. not_risen _ _ journal (c.run_command.ensures.journal_failed line.settings line.connections is two);
+      no_read = λ two. not_risen _ _ journal (c.run_command.ensures.journal_failed line.plan is two);
       no_write = λ three. not_risen _ _ out (counts.written three);
       no_door = λ nine. not_risen _ _ door (counts.door_failed nine);
     }))

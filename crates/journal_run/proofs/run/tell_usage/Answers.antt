@@ -1,0 +1,9 @@
+use Rattle.std.proofs.Common.{inr}
+use Rattle.journal_run.specs.declared.run.TheConstants.{USAGE}
+use Rattle.journal_run.proofs.Fronts.{front_of}
+use Rattle.journal_run.proofs.run.tell_usage.Goals as goal
+
+pub returns-in-Err-clause-usage : goal.returns-in-Err-clause-usage
+returns-in-Err-clause-usage g c =
+    let cut = c.in-Err.ensures.err in
+    inr (c.in-Err.ensures.failed, front_of _ _ cut.0 _ USAGE.now c.as_bytes.ensures.value cut.1 cut.2)

@@ -1,0 +1,22 @@
+-- What `change` prints: records that put in and take out what the lines of an input say.
+use Rattle.std.specs.Prelude.{ℕ, Bool, ◌&&◌, not, is_some, if◌then◌else◌, List, Option, unwrap_or}
+use Rattle.sb_journal.specs.Changes.{edits_in}
+use Rattle.sb_journal.specs.Records.{last_lines, records_of}
+use Rattle.sb_journal.specs.Refusals.{has_refused, refusals, refused_edits_in}
+use Rattle.sb_journal.specs.Texts.{records_text}
+use Rattle.journal_run.specs.declared.command.ChangeLine.{ChangeLine}
+use Rattle.journal_run.specs.Printed.{done_with, refused_with}
+use Rattle.journal_run.specs.Written.{Reply}
+
+-- The records of an input: of several lines of one hash the last counts, at its place. With a size each line that puts in
+-- names it, and without one none does.
+abbrev pub change_text : ChangeLine → List ℕ → List ℕ
+change_text line input =
+    records_text (is_some line.size) (records_of line.list (last_lines (edits_in (unwrap_or line.size 4) input)))
+
+-- the records, or a line for each URL that is refused, unless these are skipped
+abbrev pub change_reply : ChangeLine → List ℕ → Reply
+change_reply line input =
+    if has_refused (refused_edits_in input) && not line.skip
+    then refused_with (refusals (refused_edits_in input))
+    else done_with (change_text line input)

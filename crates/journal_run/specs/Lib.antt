@@ -1,0 +1,10 @@
+pub mod Command
+pub mod Stops
+pub mod Written
+pub mod Printed
+pub mod Runs
+pub mod Fresh
+pub mod Checked
+pub mod Changed
+pub mod Found
+pub mod Synced
