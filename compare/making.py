@@ -72,13 +72,19 @@ def bad(fault):
     return f"journal {fault}\n".encode(), 7
 
 
+def journal_with(data, name):
+    """A journal that declares a list."""
+    journal = server.read_journal(data)
+    if name not in journal.declared:
+        raise server.BadJournal("unknown-list")
+    return journal
+
+
 def sync(data, name, text, flags):
     try:
-        journal = server.read_journal(data)
+        journal = journal_with(data, name)
     except server.BadJournal as fault:
         return bad(fault)
-    if name not in journal.declared:
-        return bad("unknown-list")
     said, refused = taken(lines_of(text), own_hash)
     if refused and "--skip" not in flags:
         return refused, 21
@@ -140,11 +146,9 @@ def unended(data):
 
 def has(data, name, text):
     try:
-        journal = server.read_journal(data)
+        journal = journal_with(data, name)
     except server.BadJournal as fault:
         return bad(fault)
-    if name not in journal.declared:
-        return bad("unknown-list")
     printed, status = [], 0
     for number, line in enumerate(lines_of(text), 1):
         try:
