@@ -3,7 +3,9 @@
 
 It fails where a test stands outside the two crates of tests, where there is another crate of tests, where a main has too many
 lines, where the spelling of a message is no `unfoldable` definition, and where a function takes more parameters than it may and is
-not among those of tools/wide_functions.txt; also where one of those takes no more than it may, so that the list only shrinks.
+not among those of tools/wide_functions.txt. It fails where a crate cites a lemma of another crate of the repository, and where a
+name of a definition stands in more than one file of specs/ and is not among those of tools/names_twice.txt. Both lists only shrink:
+it fails too where one of them has what need not stand there.
 
     check_crates.py
 """
@@ -15,9 +17,18 @@ import sys
 REPOSITORY = os.path.dirname(os.path.dirname(os.path.abspath(__file__)))
 CRATES = os.path.join(REPOSITORY, "crates")
 WIDE = os.path.join(REPOSITORY, "tools", "wide_functions.txt")
+TWICE = os.path.join(REPOSITORY, "tools", "names_twice.txt")
 OF_TESTS = ("low_tests", "call_tests")
 MOST_LINES = 130
 MOST_PARAMETERS = 8
+
+# A crate, and the crates below it whose lemmas it cites still. `prefix_set` is frozen: what `list_versions` needs of the order of
+# sets and of their places becomes laws there when that crate is opened next.
+CITES_LEMMAS = {"list_versions": {"prefix_set"}}
+
+# as a file of proofs or a `ghost use` names one, and as a tactic of a function does
+LEMMAS = re.compile(r"\bRattle\.(?=\w+\.proofs\b)(\w+)|\b(?=\w+::proofs::)(\w+)")
+DEFINITION = re.compile(r"(?m)^(?:(?:abbrev|unfoldable|infix[lr]? \d+) )*pub (?:record |data )?(?!mod\b|use\b)([^\s:({]+)")
 
 
 def lines_of(path):
@@ -36,6 +47,51 @@ def sources(name):
                 path = os.path.join(at, file)
                 with open(path, encoding="utf-8") as text:
                     yield os.path.relpath(path, CRATES), text.read()
+
+
+def texts(name, folders=("src", "specs", "proofs")):
+    """The files of a crate with their texts: code, definitions and proofs."""
+    for folder in folders:
+        for at, _, files in os.walk(os.path.join(CRATES, name, folder)):
+            for file in sorted(files):
+                if file.endswith((".rt", ".antt")):
+                    path = os.path.join(at, file)
+                    with open(path, encoding="utf-8") as text:
+                        yield os.path.relpath(path, CRATES), text.read()
+
+
+def faults_of_lemmas(crates):
+    """Where a crate cites lemmas of another, of which it is to cite the clauses and definitions alone."""
+    cited = set()
+    for name in crates:
+        for path, text in texts(name):
+            for other in dict.fromkeys(first or second for first, second in LEMMAS.findall(text)):
+                if other == name or other not in crates:
+                    continue
+                cited.add((name, other))
+                if other not in CITES_LEMMAS.get(name, ()):
+                    yield f"{path} cites lemmas of {other}: what is missing becomes a clause or a law there"
+    for name, others in CITES_LEMMAS.items():
+        for other in sorted(others):
+            if (name, other) not in cited:
+                yield f"tools/check_crates.py lets {name} cite lemmas of {other}, and it cites none"
+
+
+def names_twice(crates):
+    """The names of definitions that stand in more than one file of specs/, each with these files."""
+    found = {}
+    for name in crates:
+        for path, text in texts(name, ("specs",)):
+            for definition in set(DEFINITION.findall(text)):
+                found.setdefault(definition, []).append(path)
+    return {definition: paths for definition, paths in found.items() if len(paths) > 1}
+
+
+def faults_of_names(twice, known):
+    for definition in sorted(set(twice) - known):
+        yield f"{definition} is defined in {' and '.join(sorted(twice[definition]))}: one thing has one name"
+    for definition in sorted(known - set(twice)):
+        yield f"tools/names_twice.txt has {definition}, which is defined in one file at most"
 
 
 def open_spellings(name):
@@ -87,12 +143,14 @@ def faults_of(name, wide, seen):
 
 
 def main():
-    wide, seen = set(lines_of(WIDE)), set()
-    faults = [fault for name in names() for fault in faults_of(name, wide, seen)]
+    wide, seen, crates = set(lines_of(WIDE)), set(), names()
+    faults = [fault for name in crates for fault in faults_of(name, wide, seen)]
     faults += [f"tools/wide_functions.txt has {it}, which takes no more than it may" for it in sorted(wide - seen)]
+    twice = names_twice(crates)
+    faults += [*faults_of_lemmas(crates), *faults_of_names(twice, set(lines_of(TWICE)))]
     for fault in faults:
         print(f"crates: {fault}")
-    print(f"crates: {len(seen)} functions take more than {MOST_PARAMETERS} parameters, as listed")
+    print(f"crates: {len(seen)} functions take more than {MOST_PARAMETERS} parameters, and {len(twice)} names are defined twice, as listed")
     return 1 if faults else 0
 
 

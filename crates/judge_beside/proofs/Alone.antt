@@ -1,16 +1,17 @@
 -- A run that looks each URL up itself, as one beside no updates.
-use Rattle.std.proofs.Common.{◌≡◌, ◌+◌, ◌*◌, ◌<◌, ◌≤◌, ℕ, zero, suc, List, [], ◌∷◌, ◌++◌, false, length, map, refl, sym, ap, ◌∙◌, subst, inl, inr, append-nil, Some, Ok, Err, arith}
+use Rattle.std.proofs.Common.{◌≡◌, ◌+◌, ◌*◌, ◌<◌, ◌≤◌, ℕ, zero, suc, List, [], ◌∷◌, ◌++◌, false, length, map, refl, sym, ap, ◌∙◌, subst, inl, inr, append-nil, Option, Some, None, Ok, Err, arith}
 use Rattle.std.specs.Prelude.{slice_get}
+use Rattle.std.proofs.lemmas.List.Elements.{All-nil}
+use Rattle.sb_outside.specs.Outside.{IfTold}
 use Rattle.sb_round.specs.Rounds.{BeginsRounds}
 use Rattle.snapshot_publish.specs.Publications.{Publications}
 use Rattle.parallel_checks.specs.Checks.{of_seat}
-use Rattle.timed_sessions.specs.Told.{Outside}
+use Rattle.timed_sessions.specs.Told.{Outside, with_more}
 use Rattle.input_lines.specs.Lines.{lines_of}
 use Rattle.update_run.specs.Opening.{first_lists}
 use Rattle.update_run.specs.Printed.{ignored_text}
 use Rattle.update_run.specs.Run.{Seen, seen}
-use Rattle.update_run.specs.Saved.{HasSaved}
-use Rattle.update_run.proofs.Saves.{saved_nothing}
+use Rattle.update_run.specs.Saved.{HasSaved, Keeping, ReadsAgain}
 use Rattle.url_checker.specs.declared.findings.Finding.{Finding}
 use Rattle.url_checker.specs.declared.findings.Checked.TheVariants.{Found}
 use Rattle.judge_run.specs.Judging.{Case, FindState, AreCases, check_of, finds_after}
@@ -23,6 +24,19 @@ use Rattle.judge_beside.specs.Plans.{finds_of}
 use Rattle.judge_beside.specs.Run.{Ending, EndsBeside, EndsOpened, EndsUpdating, JudgesUpdated, Opened, StopsAfterRounds, Updated, client_at}
 use Rattle.judge_beside.specs.declared.plan.BesidePlan.{BesidePlan}
 use Rattle.judge_beside.proofs.Endings.{with_rounds}
+
+-- ---- a keeper that was handed nothing
+
+told_itself : {A : Type 0} (known : Option A) → IfTold known known
+told_itself None = tt
+told_itself (Some told) = refl
+
+told_nothing : {A : Type 0} (known : Option (List A)) → IfTold known (with_more known [])
+told_nothing None = tt
+told_nothing (Some items) = ap (λ all. Some all) (append-nil items)
+
+saved_nothing : (keeper : Keeping) → HasSaved [] keeper keeper
+saved_nothing keeper = record { handed = told_nothing keeper.handed; keeps = told_itself keeper.kept; reads = All-nil ReadsAgain }
 
 -- ---- the numbers of checks
 

@@ -1,8 +1,10 @@
 -- How the judging of checked URLs ends a run.
-use Rattle.std.proofs.Common.{◌≡◌, ◌≤◌, ℕ, List, [], ◌∷◌, ◌++◌, Bool, length, map, refl, sym, ap, ◌∙◌, subst, inl, inr, Option, Some, Ok, Err, arith}
+use Rattle.std.proofs.Common.{◌≡◌, ◌≤◌, ℕ, List, [], ◌∷◌, ◌++◌, Bool, length, map, refl, sym, ap, ◌∙◌, subst, append-nil, inl, inr, Option, Some, Ok, Err, arith}
 use Rattle.sb_outside.specs.Outside.{appended}
-use Rattle.sb_outside.specs.Writing.{IsOnItsWay}
+use Rattle.sb_outside.specs.Writing.{IsOnItsWay, HasFront}
+use Rattle.input_lines.specs.Ways.{appended-twice, way_end, way_front, way_longer, way_lost}
 use Rattle.snapshot_publish.specs.Publications.{Publications}
+use Rattle.verdict_report.specs.declared.verdicts.Judged.{Judged}
 use Rattle.wait_rules.specs.declared.waits.WaitState.{WaitState}
 use Rattle.timed_sessions.specs.Told.{Outside}
 use Rattle.update_run.specs.Rounding.{text_so_far}
@@ -12,10 +14,11 @@ use Rattle.update_run.specs.declared.client.Client.{Client}
 use Rattle.update_run.specs.declared.plan.Plan.{Plan}
 use Rattle.update_run.specs.declared.stop.RunStop.{RunStop}
 use Rattle.update_run.specs.declared.stop.RunStop.TheVariants as run
-use Rattle.update_run.proofs.Ways.{appended_twice, way_ends, way_longer, front_after, front_of_way}
 use Rattle.published_rounds.specs.Rounds.{PublishesAllRounds}
+use Rattle.judge_run.specs.Judging.{HasJudged}
 use Rattle.judge_run.specs.Printed.{judgement_of, report_text}
 use Rattle.judge_run.specs.Run.{Ending as JudgeEnding, EndsFrom}
+use Rattle.judge_run.specs.Stops.{IsStopped}
 use Rattle.judge_run.specs.declared.judgement.Judgement.{Judgement}
 use Rattle.judge_run.specs.declared.plan.JudgePlan.{JudgePlan}
 use Rattle.judge_run.specs.declared.report.Report.{Report}
@@ -29,6 +32,24 @@ use Rattle.judge_beside.specs.Stops.{stop_of_rounds}
 use Rattle.judge_beside.specs.declared.outcome.Outcome.{Outcome}
 use Rattle.judge_beside.specs.declared.plan.BesidePlan.{BesidePlan}
 
+-- ---- a report behind what was written before it
+
+pub front_behind : (a b c : Option (List ℕ)) (page text : List ℕ) → b ≡ appended a page → HasFront b c text → HasFront a c (page ++ text)
+front_behind a b c page text h front = way_front [] page text (record { taken = page; has = h; rest = append-nil page }) front
+
+-- the report stopped
+module _ (plan : JudgePlan) (published : Publications) (waits : WaitState) (waiting : List ℕ) (lines : List (List ℕ)) (before after : Outside) (f f' a b : ℕ) (held held' : Option (List ℕ)) (all : List Judged) where
+  pub stops_at_report : (why : JudgeStop) → IsStopped why a b → HasJudged plan published waits before after f f' lines all → HasFront held held' (waiting ++ report_text all)
+      → EndsFrom plan (Err why) published waits waiting lines before after f f' held held'
+  stops_at_report stop.WriteFault is judged front = inr (record { all = all; judged = judged; front = front })
+  stops_at_report stop.OutOfMemory is judged front = inr (record { all = all; judged = judged; front = front })
+  stops_at_report stop.ReadFault (inl h) judged front = absurd (let other = h.0 in cc)
+  stops_at_report stop.ReadFault (inr h) judged front = absurd (let other = h.0 in cc)
+  stops_at_report stop.PastLimits (inl h) judged front = absurd (let other = h.0 in cc)
+  stops_at_report stop.PastLimits (inr h) judged front = absurd (let other = h.0 in cc)
+  stops_at_report stop.KeepFault (inl h) judged front = absurd (let other = h.0 in cc)
+  stops_at_report stop.KeepFault (inr h) judged front = absurd (let other = h.0 in cc)
+
 -- ---- what waited is on its way to the output, and then the judging ends
 
 on_way : (ending : JudgeEnding) (plan : JudgePlan) (workers : ℕ) (published : Publications) (finds : WaitState) (waiting done : List ℕ) (lines : List (List ℕ)) (o o' : Outside) (f f' : ℕ) (a b c : Option (List ℕ))
@@ -39,19 +60,19 @@ on_way (Ok judgement) plan workers published finds waiting done lines o o' f f' 
       record {
         all = judges.all;
         judged = judges.judged;
-        text = way_ends (waiting ++ report) (done ++ report) (way_longer waiting done report way) judges.text;
+        text = way_end (waiting ++ report) (done ++ report) (way_longer waiting done report way) judges.text;
         is = judges.is;
       },
       never,
     )
 on_way (Err stop.WriteFault) plan workers published finds waiting done lines o o' f f' a b c way (inl at) =
-    inl (record { outside = at.outside; link = at.link; front = front_of_way waiting done way at.front })
+    inl (record { outside = at.outside; link = at.link; front = way_lost waiting done way at.front })
 on_way (Err stop.WriteFault) plan workers published finds waiting done lines o o' f f' a b c way (inr at) =
-    inr (record { all = at.all; judged = at.judged; front = front_after waiting done (report_text at.all) way at.front })
+    inr (record { all = at.all; judged = at.judged; front = way_front waiting done (report_text at.all) way at.front })
 on_way (Err stop.OutOfMemory) plan workers published finds waiting done lines o o' f f' a b c way (inl at) =
-    inl (record { stops = at.stops; text = way_ends waiting done way at.text })
+    inl (record { stops = at.stops; text = way_end waiting done way at.text })
 on_way (Err stop.OutOfMemory) plan workers published finds waiting done lines o o' f f' a b c way (inr at) =
-    inr (record { all = at.all; judged = at.judged; front = front_after waiting done (report_text at.all) way at.front })
+    inr (record { all = at.all; judged = at.judged; front = way_front waiting done (report_text at.all) way at.front })
 on_way (Err stop.ReadFault) plan workers published finds waiting done lines o o' f f' a b c way none = none
 on_way (Err stop.PastLimits) plan workers published finds waiting done lines o o' f f' a b c way none = none
 on_way (Err stop.KeepFault) plan workers published finds waiting done lines o o' f f' a b c way none = none
@@ -124,7 +145,7 @@ judged_all plan workers judgement published waits page lines o o' f f' a b c rep
       record {
         all = reports.all;
         judged = record { finds = reported.finds; judges = reports.judges.judges };
-        text = text ∙ ap (λ (known : Option (List ℕ)). appended known (report_text reports.all)) waited ∙ appended_twice a page (report_text reports.all);
+        text = text ∙ ap (λ (known : Option (List ℕ)). appended known (report_text reports.all)) waited ∙ appended-twice a page (report_text reports.all);
         is = is;
       },
       subst (NumbersNeverFall workers) (sym reports.judges.by_checks) reported.never_fall,

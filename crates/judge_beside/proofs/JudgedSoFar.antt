@@ -4,16 +4,16 @@ use Rattle.std.specs.Prelude.{Some, slice_get}
 use Rattle.std.proofs.lemmas.List.{take-append-drop}
 use Rattle.std.proofs.lemmas.Option.{slice_get_within}
 use Rattle.timed_sessions.specs.Told.{Outside}
-use Rattle.timed_sessions.specs.Law.{GoesOnWithTrace}
 use Rattle.snapshot_publish.specs.Publications.{Publications}
 use Rattle.url_checker.specs.declared.findings.Checked.{Checked}
 use Rattle.verdict_report.specs.declared.verdicts.Judged.{Judged}
-use Rattle.parallel_checks.proofs.ListFacts.{get_end, get_more, get_there}
 use Rattle.parallel_checks.specs.Checks.{IsCheckOf}
+use Rattle.judge_run.specs.Cases.{BeginsCases, GoesOnWithCases}
 use Rattle.judge_run.specs.Judging.{Case, FindState, AreCases, JudgesLines, JudgesLine, BreaksOff, StopsJudging, check_of, JudgesCheck}
 use Rattle.judge_run.specs.declared.plan.JudgePlan.{JudgePlan}
-use Rattle.judge_run.proofs.Cases.{none_judged, one_more_judged, stops_after, stops_within}
 use Rattle.judge_beside.specs.Checked.{AreChecksOf, JudgesChecks, StopsAtNext}
+use Rattle.judge_beside.proofs.Places.{get_end, get_more, get_there}
+use Rattle.judge_beside.proofs.Stops.{stops_after, stops_within}
 
 -- ---- lists
 
@@ -61,13 +61,13 @@ module _ (plan : JudgePlan) (published : Publications) (finds : FindState) (befo
   JudgedSoFar checks now between b done all = (lines : List (List ℕ)) → AreChecksOf published lines checks
       → JudgesChecks plan published finds now before between a b (take (length done) lines) done all
 
-  pub none_so_far : (checks : List Checked) → JudgedSoFar checks finds before a [] []
-  none_so_far checks lines are =
-      let none = none_judged plan published finds before a in
+  pub none_so_far : BeginsCases → (checks : List Checked) → JudgedSoFar checks finds before a [] []
+  none_so_far begins checks lines are =
+      let none = begins plan published finds before a in
       record { judges = none.0; by_checks = ap (map check_of) none.1 }
 
   pub one_more_check : (checks done rest : List Checked) (check : Checked) (now later : FindState) (between after : Outside) (b c : ℕ) (all : List Judged) (one : Judged)
-      → GoesOnWithTrace → a ≤ b → b ≤ c → done ++ check ∷ rest ≡ checks → JudgedSoFar checks now between b done all
+      → GoesOnWithCases → a ≤ b → b ≤ c → done ++ check ∷ rest ≡ checks → JudgedSoFar checks now between b done all
       → ((line : List ℕ) → IsCheckOf published line check → JudgesCheck plan published now later between after b c line check one)
       → JudgedSoFar checks later after c (done ++ check ∷ []) (all ++ one ∷ [])
   one_more_check checks done rest check now later between after b c all one go ab bc split so_far more lines are =
@@ -78,7 +78,7 @@ module _ (plan : JudgePlan) (published : Publications) (finds : FindState) (befo
       let longer : take (length (done ++ check ∷ [])) lines ≡ take (length done) lines ++ line.0 ∷ [] =
       ap (λ (n : ℕ). take n lines) count ∙ take_next lines (length done) line.0 line.1
       in
-      let made = one_more_judged plan published finds now later before between after a b c (take (length done) lines) all line.0 one go ab bc earlier.judges judged.judges in
+      let made = go plan published finds now later before between after a b c (take (length done) lines) all line.0 one ab bc earlier.judges judged.judges in
       let by_checks : map check_of made.0.cases ≡ done ++ check ∷ [] =
       ap (map check_of) made.1
       ∙ map_end check_of earlier.judges.cases judged.judges.case
@@ -112,7 +112,7 @@ module _ (plan : JudgePlan) (published : Publications) (finds : FindState) (befo
       (drop_next lines (length done) line.0 line.1) (take-append-drop (length done) lines) same (so_far lines are).judges (breaks line.0 more line.2)
 
   pub stops_at_next : (checks done rest : List Checked) (check : Checked) (now later : FindState) (between after : Outside) (b c : ℕ) (all : List Judged)
-      → GoesOnWithTrace → a ≤ b → b ≤ c → done ++ check ∷ rest ≡ checks → JudgedSoFar checks now between b done all → StopsAtNext plan published check now later between after b c
+      → GoesOnWithCases → a ≤ b → b ≤ c → done ++ check ∷ rest ≡ checks → JudgedSoFar checks now between b done all → StopsAtNext plan published check now later between after b c
       → (lines : List (List ℕ)) → AreChecksOf published lines checks → StopsJudging plan published finds before after a c lines
   stops_at_next checks done rest check now later between after b c all go ab bc split so_far (inl report) =
       stops_between checks (done ++ check ∷ []) later after c (all ++ report.one ∷ [])

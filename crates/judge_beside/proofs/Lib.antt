@@ -1,4 +1,6 @@
 pub mod OneCheck
+pub mod Places
+pub mod Stops
 pub mod JudgedSoFar
 pub mod SettledFacts
 pub mod Endings

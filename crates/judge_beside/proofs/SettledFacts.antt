@@ -9,8 +9,8 @@ use Rattle.url_checker.specs.declared.findings.Checked.TheVariants.{Found, Refus
 use Rattle.parallel_checks.specs.Checks.{IsCheckOf, NeverFall, of_seat}
 use Rattle.parallel_checks.specs.Settled.{HasKept, AreSettled, IsSettledRun}
 use Rattle.parallel_checks.specs.declared.running.CheckRun.{CheckRun}
-use Rattle.parallel_checks.proofs.ListFacts.{get_there, as_long}
 use Rattle.judge_beside.specs.Checked.{MayBeJudged, MayAllBeJudged, AreChecksOf, NumbersNeverFall}
+use Rattle.judge_beside.proofs.Places.{get_there, as_long}
 
 -- a line is one of a seat, at a turn
 line_at : (index seats : ℕ) → index ≡ index % seats + index / seats * seats

@@ -1,7 +1,6 @@
 ghost use Rattle.std.specs.Prelude.{◌≡◌, ◌≢◌, ◌≤◌, ◌<◌, ◌^◌, [], ◌∷◌, length, IfOk, OnErr, IsErrOf, Err};
 ghost use Rattle.http_edge.specs.Exchanges.{IsTarget};
 ghost use Rattle.sb_outside.specs.Outside.{Rose};
-ghost use Rattle.timed_sessions.specs.Told.{outside};
 ghost use Rattle.input_lines.specs.Lines.{lines_of};
 ghost use Rattle.update_client.specs.Held.{most_lists};
 ghost use Rattle.update_run.specs.Run.{seen};
@@ -20,14 +19,15 @@ use crate::plan::{finds_of, updates_of};
 use crate::resolving::judge_checks;
 use crate::settled::settle_checks;
 use crate::{BesidePlan, Outcome};
+use client_line::Line;
 use full_hash_cache::FullHashCache;
 use judge_run::{
-    Begun, JudgePlan, JudgeStop, Judgement, Report, begin, judge as judge_alone, judgement_of,
-    print_report,
+    Begun, JudgePlan, JudgeStop, Judgement, Report, begin, cases_go_on, judge as judge_alone,
+    judgement_of, print_report,
 };
 use parallel_checks::{CheckRun, seats_remain};
 use sb_model::{Bytes, OutOfMemory, Row};
-use sb_outside::{Clock, Dice, Gate, Keeper, Link, Sink, Source, flush};
+use sb_outside::{Gate, Keeper, Sink, Source, flush};
 use sb_round::rounds_go_on;
 use snapshot_publish::{Publisher, Seat, start};
 use std::alloc::Global;
@@ -49,16 +49,14 @@ fn stop_of_rounds(stop: RunStop) -> JudgeStop
 }
 
 // Settles checks, and judges their URLs, from no kept answer.
-fn judge_settled<L: Link, C: Clock, D: Dice>(
+fn judge_settled<N: Line>(
     alloc: Global,
     plan: &JudgePlan,
     publisher: &mut Publisher,
     run: CheckRun,
     urls: &[Bytes],
     waits: &mut WaitState,
-    link: &mut L,
-    clock: &mut C,
-    dice: &mut D,
+    line: &mut N,
 ) -> Result<Report, OutOfMemory>
     requires some { 0 < length run.seats }
     requires ours { AreOf publisher.old.boxes run.seats }
@@ -66,24 +64,22 @@ fn judge_settled<L: Link, C: Clock, D: Dice>(
     requires few { length urls.now < 2 ^ 32 }
     requires target { IsTarget plan.now.target }
     ensures judged { IfOk result (λ report. HasReportedChecks plan.now (length run.seats) publisher.old.list waits.old
-        (outside (L.log link.old) (C.answers clock.old) (C.waits clock.old) (D.given dice.old))
-        (outside (L.log link.new) (C.answers clock.new) (C.waits clock.new) (D.given dice.new))
-        (L.faults link.old) (L.faults link.new) urls.now report) }
+        (N.view line.old).told (N.view line.new).told (N.view line.old).faults (N.view line.new).faults
+        urls.now report) }
     ensures stopped { OnErr result (StopsJudging plan.now publisher.old.list (first_finds waits.old)
-        (outside (L.log link.old) (C.answers clock.old) (C.waits clock.old) (D.given dice.old))
-        (outside (L.log link.new) (C.answers clock.new) (C.waits clock.new) (D.given dice.new))
-        (L.faults link.old) (L.faults link.new) urls.now) }
+        (N.view line.old).told (N.view line.new).told (N.view line.old).faults (N.view line.new).faults
+        urls.now) }
+    ensures same { (N.view line.new).objects ≡ (N.view line.old).objects }
 {
+    cases_go_on();
     let checks = settle_checks(alloc, publisher, run, urls)?;
     let mut cache = FullHashCache::new(alloc)?;
-    let report = judge_checks(
-        alloc, plan, publisher, checks, &mut cache, waits, link, clock, dice,
-    )?;
+    let report = judge_checks(alloc, plan, publisher, checks, &mut cache, waits, line)?;
     Ok(report)
 }
 
 // Writes what waits, judges URLs that were checked, and prints the report.
-fn judge_checked<O: Sink, L: Link, C: Clock, D: Dice>(
+fn judge_checked<O: Sink, N: Line>(
     alloc: Global,
     plan: &JudgePlan,
     publisher: &mut Publisher,
@@ -92,9 +88,7 @@ fn judge_checked<O: Sink, L: Link, C: Clock, D: Dice>(
     waits: &mut WaitState,
     page: &mut Bytes,
     out: &mut O,
-    link: &mut L,
-    clock: &mut C,
-    dice: &mut D,
+    line: &mut N,
 ) -> Result<Judgement, JudgeStop>
     requires some { 0 < length run.seats }
     requires ours { AreOf publisher.old.boxes run.seats }
@@ -102,15 +96,15 @@ fn judge_checked<O: Sink, L: Link, C: Clock, D: Dice>(
     requires few { length urls.now < 2 ^ 32 }
     requires target { IsTarget plan.now.target }
     ensures ends { EndsChecked plan.now (length run.seats) result publisher.old.list waits.old page.old urls.now
-        (outside (L.log link.old) (C.answers clock.old) (C.waits clock.old) (D.given dice.old))
-        (outside (L.log link.new) (C.answers clock.new) (C.waits clock.new) (D.given dice.new))
-        (L.faults link.old) (L.faults link.new) (O.contents out.old) (O.contents out.new) }
+        (N.view line.old).told (N.view line.new).told (N.view line.old).faults (N.view line.new).faults
+        (O.contents out.old) (O.contents out.new) }
     ensures output_failed { IsErrOf result JudgeStop.WriteFault → Rose (O.faults out.old) (O.faults out.new) }
     ensures output_kept { result ≢ Err JudgeStop.WriteFault → O.faults out.new ≡ O.faults out.old }
     ensures no_keeper { result ≢ Err JudgeStop.KeepFault }
+    ensures same { (N.view line.new).objects ≡ (N.view line.old).objects }
 {
     flush(out, page)?;
-    match judge_settled(alloc, plan, publisher, run, urls, waits, link, clock, dice) {
+    match judge_settled(alloc, plan, publisher, run, urls, waits, line) {
         Ok(mut report) => match print_report(&mut report, out) {
             Ok(()) => Ok(judgement_of(&report.counts)),
             Err(stop) => Err(stop),
@@ -136,15 +130,7 @@ fn start_with<R: Wait>(
 }
 
 // Makes the rounds of a plan while URLs are checked, and judges these.
-fn judge_from<
-    R: Threads + Wait + Sync,
-    O: Sink,
-    K: Keeper,
-    L: Link,
-    C: Clock,
-    D: Dice,
-    G: Gate + Sync,
->(
+fn judge_from<R: Threads + Wait + Sync, O: Sink, K: Keeper, N: Line, G: Gate + Sync>(
     rt: &R,
     alloc: Global,
     plan: &BesidePlan,
@@ -155,9 +141,7 @@ fn judge_from<
     urls: &[Bytes],
     out: &mut O,
     keep: &mut K,
-    link: &mut L,
-    clock: &mut C,
-    dice: &mut D,
+    line: &mut N,
     gate: &G,
 ) -> Result<Outcome, JudgeStop>
     requires updates { updates.now ≡ updates_of plan.now }
@@ -165,15 +149,14 @@ fn judge_from<
     requires workers { (1 ≤ plan.now.workers) × (plan.now.workers ≤ 16) }
     requires few { length urls.now < 2 ^ 32 }
     requires target { IsTarget plan.now.target }
-    ensures ends { EndsUpdating plan.now result client.old waits.old urls.now (L.faults link.old) (L.faults link.new)
-        (seen (outside (L.log link.old) (C.answers clock.old) (C.waits clock.old) (D.given dice.old))
-        (keeping (K.handed keep.old) (K.kept keep.old)) (O.contents out.old))
-        (seen (outside (L.log link.new) (C.answers clock.new) (C.waits clock.new) (D.given dice.new))
-        (keeping (K.handed keep.new) (K.kept keep.new)) (O.contents out.new)) }
+    ensures ends { EndsUpdating plan.now result client.old waits.old urls.now (N.view line.old).faults (N.view line.new).faults
+        (seen (N.view line.old).told (keeping (K.handed keep.old) (K.kept keep.old)) (O.contents out.old))
+        (seen (N.view line.new).told (keeping (K.handed keep.new) (K.kept keep.new)) (O.contents out.new)) }
     ensures output_failed { IsErrOf result JudgeStop.WriteFault → Rose (O.faults out.old) (O.faults out.new) }
     ensures output_kept { result ≢ Err JudgeStop.WriteFault → O.faults out.new ≡ O.faults out.old }
     ensures keeper_failed { IsErrOf result JudgeStop.KeepFault → Rose (K.faults keep.old) (K.faults keep.new) }
     ensures keeper_kept { result ≢ Err JudgeStop.KeepFault → K.faults keep.new ≡ K.faults keep.old }
+    ensures same { (N.view line.new).objects ≡ (N.view line.old).objects }
 {
     // looked at for the prover: how many rounds there can be
     let _rounds = updates.rounds;
@@ -189,9 +172,7 @@ fn judge_from<
         &mut publisher,
         out,
         keep,
-        link,
-        clock,
-        dice,
+        line,
         seats,
         urls,
         gate,
@@ -205,9 +186,7 @@ fn judge_from<
             waits,
             &mut client.page,
             out,
-            link,
-            clock,
-            dice,
+            line,
         ) {
             Ok(judgement) => Ok(Outcome { judgement, refused }),
             Err(stop) => Err(stop),
@@ -217,15 +196,7 @@ fn judge_from<
 }
 
 // Makes the rounds of a plan while the lines of a text are checked, and judges these.
-fn judge_text<
-    R: Threads + Wait + Sync,
-    O: Sink,
-    K: Keeper,
-    L: Link,
-    C: Clock,
-    D: Dice,
-    G: Gate + Sync,
->(
+fn judge_text<R: Threads + Wait + Sync, O: Sink, K: Keeper, N: Line, G: Gate + Sync>(
     rt: &R,
     alloc: Global,
     plan: &BesidePlan,
@@ -234,9 +205,7 @@ fn judge_text<
     begun: Begun,
     out: &mut O,
     keep: &mut K,
-    link: &mut L,
-    clock: &mut C,
-    dice: &mut D,
+    line: &mut N,
     gate: &G,
 ) -> Result<Outcome, JudgeStop>
     requires updates { updates.now ≡ updates_of plan.now }
@@ -245,15 +214,14 @@ fn judge_text<
     requires few { length (lines_of begun.text) < 2 ^ 32 }
     requires target { IsTarget plan.now.target }
     ensures ends { EndsUpdating plan.now result (record { lists = begun.lists; waits = begun.updates; page = begun.page }) begun.waits
-        (lines_of begun.text) (L.faults link.old) (L.faults link.new)
-        (seen (outside (L.log link.old) (C.answers clock.old) (C.waits clock.old) (D.given dice.old))
-        (keeping (K.handed keep.old) (K.kept keep.old)) (O.contents out.old))
-        (seen (outside (L.log link.new) (C.answers clock.new) (C.waits clock.new) (D.given dice.new))
-        (keeping (K.handed keep.new) (K.kept keep.new)) (O.contents out.new)) }
+        (lines_of begun.text) (N.view line.old).faults (N.view line.new).faults
+        (seen (N.view line.old).told (keeping (K.handed keep.old) (K.kept keep.old)) (O.contents out.old))
+        (seen (N.view line.new).told (keeping (K.handed keep.new) (K.kept keep.new)) (O.contents out.new)) }
     ensures output_failed { IsErrOf result JudgeStop.WriteFault → Rose (O.faults out.old) (O.faults out.new) }
     ensures output_kept { result ≢ Err JudgeStop.WriteFault → O.faults out.new ≡ O.faults out.old }
     ensures keeper_failed { IsErrOf result JudgeStop.KeepFault → Rose (K.faults keep.old) (K.faults keep.new) }
     ensures keeper_kept { result ≢ Err JudgeStop.KeepFault → K.faults keep.new ≡ K.faults keep.old }
+    ensures same { (N.view line.new).objects ≡ (N.view line.old).objects }
 {
     let Begun {
         text,
@@ -281,24 +249,13 @@ fn judge_text<
         urls.as_slice(),
         out,
         keep,
-        link,
-        clock,
-        dice,
+        line,
         gate,
     )
 }
 
 // Judges URLs on threads of their own, beside the rounds of a plan.
-fn judge_together<
-    R: Threads + Wait + Sync,
-    S: Source,
-    O: Sink,
-    K: Keeper,
-    L: Link,
-    C: Clock,
-    D: Dice,
-    G: Gate + Sync,
->(
+fn judge_together<R: Threads + Wait + Sync, S: Source, O: Sink, K: Keeper, N: Line, G: Gate + Sync>(
     rt: &R,
     alloc: Global,
     plan: &BesidePlan,
@@ -307,9 +264,7 @@ fn judge_together<
     input: &mut S,
     out: &mut O,
     keep: &mut K,
-    link: &mut L,
-    clock: &mut C,
-    dice: &mut D,
+    line: &mut N,
     gate: &G,
 ) -> Result<Outcome, JudgeStop>
     requires updates { updates.now ≡ updates_of plan.now }
@@ -318,10 +273,8 @@ fn judge_together<
     requires few { length plan.now.names ≤ most_lists }
     requires target { IsTarget plan.now.target }
     ensures ends { EndsBeside plan.now result
-        (judging (S.left input.old) (outside (L.log link.old) (C.answers clock.old) (C.waits clock.old) (D.given dice.old))
-        (L.faults link.old) (keeping (K.handed keep.old) (K.kept keep.old)) (O.contents out.old))
-        (judging (S.left input.new) (outside (L.log link.new) (C.answers clock.new) (C.waits clock.new) (D.given dice.new))
-        (L.faults link.new) (keeping (K.handed keep.new) (K.kept keep.new)) (O.contents out.new)) }
+        (judging (S.left input.old) (N.view line.old).told (N.view line.old).faults (keeping (K.handed keep.old) (K.kept keep.old)) (O.contents out.old))
+        (judging (S.left input.new) (N.view line.new).told (N.view line.new).faults (keeping (K.handed keep.new) (K.kept keep.new)) (O.contents out.new)) }
     ensures input_failed { IsErrOf result JudgeStop.ReadFault → Rose (S.faults input.old) (S.faults input.new) }
     ensures input_kept { result ≢ Err JudgeStop.ReadFault → S.faults input.new ≡ S.faults input.old }
     ensures output_failed { IsErrOf result JudgeStop.WriteFault → Rose (O.faults out.old) (O.faults out.new) }
@@ -330,26 +283,25 @@ fn judge_together<
     ensures keeper_kept { result ≢ Err JudgeStop.KeepFault → K.faults keep.new ≡ K.faults keep.old }
     ensures read_unwritten { IsErrOf result JudgeStop.ReadFault → out.new ≡ out.old }
     ensures past_unwritten { IsErrOf result JudgeStop.PastLimits → out.new ≡ out.old }
+    ensures same { (N.view line.new).objects ≡ (N.view line.old).objects }
 {
-    match begin(alloc, plan.names.as_slice(), input, keep, clock, dice) {
+    match begin(alloc, plan.names.as_slice(), input, keep, line) {
         Ok(begun) => judge_text(
-            rt, alloc, plan, updates, finds, begun, out, keep, link, clock, dice, gate,
+            rt, alloc, plan, updates, finds, begun, out, keep, line, gate,
         ),
         Err(stop) => Err(stop),
     }
 }
 
 // Judges URLs on this thread, beside no update.
-fn judge_here<S: Source, O: Sink, K: Keeper, L: Link, C: Clock, D: Dice>(
+fn judge_here<S: Source, O: Sink, K: Keeper, N: Line>(
     alloc: Global,
     plan: &BesidePlan,
     finds: &JudgePlan,
     input: &mut S,
     out: &mut O,
     keep: &mut K,
-    link: &mut L,
-    clock: &mut C,
-    dice: &mut D,
+    line: &mut N,
 ) -> Result<Outcome, JudgeStop>
     requires finds { finds.now ≡ finds_of plan.now }
     requires none { plan.now.rounds ≡ 0 }
@@ -357,10 +309,8 @@ fn judge_here<S: Source, O: Sink, K: Keeper, L: Link, C: Clock, D: Dice>(
     requires few { length plan.now.names ≤ most_lists }
     requires target { IsTarget plan.now.target }
     ensures ends { EndsBeside plan.now result
-        (judging (S.left input.old) (outside (L.log link.old) (C.answers clock.old) (C.waits clock.old) (D.given dice.old))
-        (L.faults link.old) (keeping (K.handed keep.old) (K.kept keep.old)) (O.contents out.old))
-        (judging (S.left input.new) (outside (L.log link.new) (C.answers clock.new) (C.waits clock.new) (D.given dice.new))
-        (L.faults link.new) (keeping (K.handed keep.new) (K.kept keep.new)) (O.contents out.new)) }
+        (judging (S.left input.old) (N.view line.old).told (N.view line.old).faults (keeping (K.handed keep.old) (K.kept keep.old)) (O.contents out.old))
+        (judging (S.left input.new) (N.view line.new).told (N.view line.new).faults (keeping (K.handed keep.new) (K.kept keep.new)) (O.contents out.new)) }
     ensures input_failed { IsErrOf result JudgeStop.ReadFault → Rose (S.faults input.old) (S.faults input.new) }
     ensures input_kept { result ≢ Err JudgeStop.ReadFault → S.faults input.new ≡ S.faults input.old }
     ensures output_failed { IsErrOf result JudgeStop.WriteFault → Rose (O.faults out.old) (O.faults out.new) }
@@ -369,9 +319,10 @@ fn judge_here<S: Source, O: Sink, K: Keeper, L: Link, C: Clock, D: Dice>(
     ensures keeper_kept { result ≢ Err JudgeStop.KeepFault → K.faults keep.new ≡ K.faults keep.old }
     ensures read_unwritten { IsErrOf result JudgeStop.ReadFault → out.new ≡ out.old }
     ensures past_unwritten { IsErrOf result JudgeStop.PastLimits → out.new ≡ out.old }
+    ensures same { (N.view line.new).objects ≡ (N.view line.old).objects }
 {
     rounds_go_on();
-    match judge_alone(alloc, finds, input, out, keep, link, clock, dice) {
+    match judge_alone(alloc, finds, input, out, keep, line) {
         Ok(judgement) => Ok(Outcome {
             judgement,
             refused: false,
@@ -394,25 +345,14 @@ fn judge_here<S: Source, O: Sink, K: Keeper, L: Link, C: Clock, D: Dice>(
 ///
 /// `ReadFault` and `PastLimits` where the input is not read to its end, `KeepFault` where the keeper fails, `WriteFault` where the output
 /// does, and `OutOfMemory`. The threads have ended then.
-pub fn judge<
-    R: Threads + Wait + Sync,
-    S: Source,
-    O: Sink,
-    K: Keeper,
-    L: Link,
-    C: Clock,
-    D: Dice,
-    G: Gate + Sync,
->(
+pub fn judge<R: Threads + Wait + Sync, S: Source, O: Sink, K: Keeper, N: Line, G: Gate + Sync>(
     rt: &R,
     alloc: Global,
     plan: &BesidePlan,
     input: &mut S,
     out: &mut O,
     keep: &mut K,
-    link: &mut L,
-    clock: &mut C,
-    dice: &mut D,
+    line: &mut N,
     gate: &G,
 ) -> Result<Outcome, JudgeStop>
     requires workers { (1 ≤ plan.now.workers) × (plan.now.workers ≤ 16) }
@@ -421,10 +361,8 @@ pub fn judge<
 
     // It came to its end, or stopped for its reason.
     ensures ends { EndsBeside plan.now result
-        (judging (S.left input.old) (outside (L.log link.old) (C.answers clock.old) (C.waits clock.old) (D.given dice.old))
-        (L.faults link.old) (keeping (K.handed keep.old) (K.kept keep.old)) (O.contents out.old))
-        (judging (S.left input.new) (outside (L.log link.new) (C.answers clock.new) (C.waits clock.new) (D.given dice.new))
-        (L.faults link.new) (keeping (K.handed keep.new) (K.kept keep.new)) (O.contents out.new)) }
+        (judging (S.left input.old) (N.view line.old).told (N.view line.old).faults (keeping (K.handed keep.old) (K.kept keep.old)) (O.contents out.old))
+        (judging (S.left input.new) (N.view line.new).told (N.view line.new).faults (keeping (K.handed keep.new) (K.kept keep.new)) (O.contents out.new)) }
 
     // A fault is counted, and nothing else is.
     ensures input_failed { IsErrOf result JudgeStop.ReadFault → Rose (S.faults input.old) (S.faults input.new) }
@@ -437,17 +375,20 @@ pub fn judge<
     // Where the input was not read, the output is as it was.
     ensures read_unwritten { IsErrOf result JudgeStop.ReadFault → out.new ≡ out.old }
     ensures past_unwritten { IsErrOf result JudgeStop.PastLimits → out.new ≡ out.old }
+
+    // The line's objects are the same.
+    ensures same { (N.view line.new).objects ≡ (N.view line.old).objects }
 {
     let Ok(finds) = finds_of(plan) else {
         return Err(JudgeStop::OutOfMemory);
     };
     if plan.rounds == 0 && plan.workers == 1 {
-        return judge_here(alloc, plan, &finds, input, out, keep, link, clock, dice);
+        return judge_here(alloc, plan, &finds, input, out, keep, line);
     }
     let Ok(updates) = updates_of(plan) else {
         return Err(JudgeStop::OutOfMemory);
     };
     judge_together(
-        rt, alloc, plan, &updates, &finds, input, out, keep, link, clock, dice, gate,
+        rt, alloc, plan, &updates, &finds, input, out, keep, line, gate,
     )
 }

@@ -110,6 +110,19 @@ pub told_nothing : {A : Type 0} (known : Option (List A)) → IfTold known (with
 told_nothing None = tt
 told_nothing (Some items) = ap (λ all. Some all) (append-nil items)
 
+pub told_same : {A : Type 0} (a b : Option (List A)) → b ≡ a → IfTold b (with_more a [])
+told_same a b same = rw same (told_nothing a)
+
+-- lists that are told one after the other
+pub told_both : {A : Type 0} (a b c : Option (List A)) (more next : List A) → IfTold b (with_more a more) → IfTold c (with_more b next) → IfTold c (with_more a (more ++ next))
+told_both a b None more next h k = tt
+told_both a None (Some told) more next h k = cc
+told_both None (Some known) (Some told) more next h k = cc
+told_both (Some items) (Some known) (Some told) more next h k =
+    let grown : items ++ more ≡ known = cc in
+    let told_is : known ++ next ≡ told = cc in
+    ap (λ all. Some all) (sym (append_assoc items more next) ∙ ap (λ all. all ++ next) grown ∙ told_is)
+
 grows_by_nothing : (before : Outside) → Grows before before no_trace
 grows_by_nothing before = record {
   log = told_nothing before.log;

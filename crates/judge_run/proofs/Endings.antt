@@ -1,14 +1,15 @@
 -- How a run ends.
-use Rattle.std.proofs.Common.{◌≡◌, ℕ, List, [], ◌∷◌, ◌++◌, sym, ap, ◌∙◌, subst, inl, inr, append-nil, Option, None, Ok, Err}
+use Rattle.std.proofs.Common.{◌≡◌, ℕ, List, [], ◌∷◌, ◌++◌, sym, ap, ◌∙◌, subst, inl, inr, append-nil, Option, Ok, Err}
 use Rattle.sb_model.specs.declared.names.ListName.{ListName}
 use Rattle.sb_model.specs.declared.time.Moment.{Moment}
-use Rattle.sb_outside.specs.Outside.{appended}
+use Rattle.sb_outside.specs.Outside.{IfTold, appended}
 use Rattle.sb_outside.specs.Writing.{HasFront}
-use Rattle.sb_outside.specs.declared.links.Session.{Session}
 use Rattle.update_client.specs.Held.{Held}
 use Rattle.snapshot_publish.specs.Publications.{Publications}
+use Rattle.wait_rules.specs.Waits.{first_state}
 use Rattle.wait_rules.specs.declared.waits.WaitState.{WaitState}
-use Rattle.timed_sessions.specs.Told.{Outside, outside}
+use Rattle.client_line.specs.Lines.{LineView, ReadsClock, Draws}
+use Rattle.timed_sessions.specs.Told.{Outside, with_more}
 use Rattle.input_lines.specs.Lines.{lines_of}
 use Rattle.input_lines.specs.Ways.{way_front}
 use Rattle.update_run.specs.Opening.{first_lists}
@@ -23,7 +24,7 @@ use Rattle.judge_run.specs.declared.beginning.Begun.{Begun}
 use Rattle.judge_run.specs.declared.plan.JudgePlan.{JudgePlan}
 use Rattle.judge_run.specs.declared.stop.JudgeStop.{JudgeStop}
 use Rattle.judge_run.specs.declared.stop.JudgeStop.TheVariants as stop
-use Rattle.judge_run.proofs.Cases.{told_nothing}
+use Rattle.judge_run.proofs.Cases.{told_same, told_both}
 
 -- ---- a report behind what was written before it
 
@@ -48,16 +49,23 @@ module _ (plan : JudgePlan) (published : Publications) (waits : WaitState) (wait
 pub same_keeping : (handed handed' : Option (List (List ℕ))) (kept kept' : Option (Option (List ℕ))) → handed' ≡ handed → kept' ≡ kept → keeping handed' kept' ≡ keeping handed kept
 same_keeping handed handed' kept kept' h k = ap (λ x. keeping x kept') h ∙ ap (λ x. keeping handed x) k
 
--- what a link tells that was not asked
-pub opened_with : (updates waits : WaitState) (log : Option (List Session)) (answers answers' bidden bidden' : Option (List Moment)) (words words' : Option (List ℕ))
-    → OpensFinds updates waits (outside None answers bidden words) (outside None answers' bidden' words') → OpensFinds updates waits (outside log answers bidden words) (outside log answers' bidden' words')
-opened_with updates waits log answers answers' bidden bidden' words words' opens = record {
-  start = opens.start;
-  update_word = opens.update_word;
-  find_word = opens.find_word;
-  first_update = opens.first_update;
-  first = opens.first;
-  told = record { log = told_nothing log; answers = opens.told.answers; waits = opens.told.waits; words = opens.told.words };
+-- the clock is read, and two words are drawn
+pub opens : (start : Moment) (first second : ℕ) (updates waits : WaitState) (before read between after : LineView)
+    → ReadsClock start before read → Draws (first ∷ []) read between → Draws (second ∷ []) between after
+    → updates ≡ first_state start first → waits ≡ first_state start second → OpensFinds updates waits before.told after.told
+opens start first second updates waits before read between after reads draws again first_update first_find = record {
+  start = start;
+  update_word = first;
+  find_word = second;
+  first_update = first_update;
+  first = first_find;
+  told = record {
+    log = told_same before.told.log after.told.log (again.log ∙ draws.log ∙ reads.others.log);
+    answers = rw again.answers (rw draws.answers reads.read);
+    waits = told_same before.told.waits after.told.waits (again.waits ∙ draws.waits ∙ reads.waits);
+    words = told_both before.told.words between.told.words after.told.words (first ∷ []) (second ∷ [])
+        (subst (λ words. IfTold between.told.words (with_more words (first ∷ []))) reads.others.words draws.drawn) again.drawn;
+  };
 }
 
 -- a run that began ends as its judging did
@@ -69,14 +77,15 @@ any_ending (Err stop.KeepFault) plan before after ends = absurd ends.ends
 any_ending (Err stop.WriteFault) plan before after ends = ends
 any_ending (Err stop.OutOfMemory) plan before after ends = inr ends
 
-pub begun_ends : (ending : Ending) (plan : JudgePlan) (names : List ListName) (begun : Begun) (input : List ℕ) (opened unlinked unlinked' : Outside) (before after : Seen)
-    → names ≡ plan.names → input ≡ begun.text → Begins names begun before.left after.left before.keeper.kept unlinked unlinked' → OpensFinds begun.updates begun.waits before.outside opened → after.keeper ≡ before.keeper
-    → EndsFrom plan ending (begun.lists ∷ []) begun.waits begun.page (lines_of input) opened after.outside before.faults after.faults before.held after.held
+pub begun_ends : (ending : Ending) (plan : JudgePlan) (names : List ListName) (begun : Begun) (input : List ℕ) (opened : Outside) (faults : ℕ) (before after : Seen)
+    → names ≡ plan.names → input ≡ begun.text → Begins names begun before.left after.left before.keeper.kept before.outside opened → faults ≡ before.faults → after.keeper ≡ before.keeper
+    → EndsFrom plan ending (begun.lists ∷ []) begun.waits begun.page (lines_of input) opened after.outside faults after.faults before.held after.held
     → EndsJudging plan ending before after
-begun_ends ending plan names begun input opened unlinked unlinked' before after same text begins opens keeper ends =
+begun_ends ending plan names begun input opened faults before after same text begins uncounted keeper ends =
     let kept = begins.loaded.kept in
     let are = begins.loaded.are ∙ ap (λ (ns : List ListName). first_lists ns kept) same in
     let from = λ (ls : List Held) (page : List ℕ). EndsFrom plan ending (ls ∷ []) begun.waits page (lines_of input) opened after.outside before.faults after.faults before.held after.held in
+    let here = subst (λ (count : ℕ). EndsFrom plan ending (begun.lists ∷ []) begun.waits begun.page (lines_of input) opened after.outside count after.faults before.held after.held) uncounted ends in
     any_ending ending plan before after (record {
       begins = record {
         input = input;
@@ -87,7 +96,7 @@ begun_ends ending plan names begun input opened unlinked unlinked' before after 
         updates = begun.updates;
         waits = begun.waits;
         opened = opened;
-        opens = opens;
+        opens = begins.opens;
       };
-      ends = subst (λ (page : List ℕ). from (first_lists plan.names kept) page) begins.loaded.told (subst (λ (ls : List Held). from ls begun.page) are ends);
+      ends = subst (λ (page : List ℕ). from (first_lists plan.names kept) page) begins.loaded.told (subst (λ (ls : List Held). from ls begun.page) are here);
     })

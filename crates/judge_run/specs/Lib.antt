@@ -1,4 +1,5 @@
 pub mod Judging
+pub mod Cases
 pub mod Opening
 pub mod Printed
 pub mod Run

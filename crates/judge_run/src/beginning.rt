@@ -1,14 +1,14 @@
 ghost use Rattle.std.specs.Prelude.{◌≡◌, ◌≢◌, ◌≤◌, length, None, IfOk, IfErr, OnErr, IsErrOf, Err};
 ghost use Rattle.sb_outside.specs.Outside.{Rose};
-ghost use Rattle.timed_sessions.specs.Told.{outside};
 ghost use Rattle.update_client.specs.Held.{most_lists};
 ghost use Rattle.judge_run.specs.Opening.{OpensFinds, Begins, StopsBeginning};
 
 use crate::JudgeStop;
 use crate::loading::load_lists;
+use client_line::Line;
 use input_lines::read_input;
 use sb_model::{Bytes, ListName};
-use sb_outside::{Clock, Dice, Keeper, Source};
+use sb_outside::{Keeper, Source};
 use std::alloc::Global;
 use update_client::ClientLists;
 use wait_rules::WaitState;
@@ -28,15 +28,16 @@ pub struct Begun {
 }
 
 // Reads the clock, and draws the word of the updates' first wait and then that of the finds'.
-fn open_waits<C: Clock, D: Dice>(clock: &mut C, dice: &mut D) -> (WaitState, WaitState)
-    ensures opened { OpensFinds result.0 result.1
-        (outside None (C.answers clock.old) (C.waits clock.old) (D.given dice.old))
-        (outside None (C.answers clock.new) (C.waits clock.new) (D.given dice.new)) }
-    ensures no_wait { C.waits clock.new ≡ C.waits clock.old }
+fn open_waits<N: Line>(line: &mut N) -> (WaitState, WaitState)
+    ensures opened { OpensFinds result.0 result.1 (N.view line.old).told (N.view line.new).told }
+    ensures no_wait { (N.view line.new).told.waits ≡ (N.view line.old).told.waits }
+    ensures unasked { (N.view line.new).told.log ≡ (N.view line.old).told.log }
+    ensures faults { (N.view line.new).faults ≡ (N.view line.old).faults }
+    ensures same { (N.view line.new).objects ≡ (N.view line.old).objects }
 {
-    let start = clock.now();
-    let updates = WaitState::first(start, dice.word());
-    let finds = WaitState::first(start, dice.word());
+    let start = line.now();
+    let updates = WaitState::first(start, line.word());
+    let finds = WaitState::first(start, line.word());
     (updates, finds)
 }
 
@@ -46,24 +47,25 @@ fn open_waits<C: Clock, D: Dice>(clock: &mut C, dice: &mut D) -> (WaitState, Wai
 /// # Errors
 ///
 /// `ReadFault`, `PastLimits` and `KeepFault` as `judge`, and `OutOfMemory`.
-pub fn begin<S: Source, K: Keeper, C: Clock, D: Dice>(
+pub fn begin<S: Source, K: Keeper, N: Line>(
     alloc: Global,
     names: &[ListName],
     input: &mut S,
     keep: &mut K,
-    clock: &mut C,
-    dice: &mut D,
+    line: &mut N,
 ) -> Result<Begun, JudgeStop>
     requires { length names.now ≤ most_lists }
 
-    // No link is asked, so that none tells of it.
     ensures begun { IfOk result (λ begun. Begins names.now begun (S.left input.old) (S.left input.new) (K.kept keep.old)
-        (outside None (C.answers clock.old) (C.waits clock.old) (D.given dice.old))
-        (outside None (C.answers clock.new) (C.waits clock.new) (D.given dice.new))) }
+        (N.view line.old).told (N.view line.new).told) }
     ensures stopped { IfErr result (λ stop. StopsBeginning stop (S.left input.old) (S.left input.new)) }
-    ensures unread { OnErr result (C.answers clock.new ≡ C.answers clock.old) }
-    ensures no_wait { C.waits clock.new ≡ C.waits clock.old }
-    ensures undrawn { OnErr result (D.given dice.new ≡ D.given dice.old) }
+    ensures untouched { OnErr result (N.view line.new ≡ N.view line.old) }
+    ensures no_wait { (N.view line.new).told.waits ≡ (N.view line.old).told.waits }
+
+    // No link is asked.
+    ensures unasked { (N.view line.new).told.log ≡ (N.view line.old).told.log }
+    ensures faults { (N.view line.new).faults ≡ (N.view line.old).faults }
+    ensures same { (N.view line.new).objects ≡ (N.view line.old).objects }
     ensures kept { K.kept keep.new ≡ K.kept keep.old }
     ensures handed { K.handed keep.new ≡ K.handed keep.old }
     ensures input_failed { IsErrOf result JudgeStop.ReadFault → Rose (S.faults input.old) (S.faults input.new) }
@@ -77,7 +79,7 @@ pub fn begin<S: Source, K: Keeper, C: Clock, D: Dice>(
         Ok(lists) => lists,
         Err(stop) => return Err(stop),
     };
-    let (updates, waits) = open_waits(clock, dice);
+    let (updates, waits) = open_waits(line);
     Ok(Begun {
         text,
         lists,

@@ -2,7 +2,6 @@ ghost use Rattle.std.specs.Prelude.{◌≡◌, ◌≢◌, ◌≤◌, [], ◌∷�
 ghost use Rattle.http_edge.specs.Exchanges.{IsTarget};
 ghost use Rattle.input_lines.specs.Lines.{lines_of};
 ghost use Rattle.sb_outside.specs.Outside.{Rose};
-ghost use Rattle.timed_sessions.specs.Told.{outside};
 ghost use Rattle.update_client.specs.Held.{most_lists};
 ghost use Rattle.update_run.specs.Saved.{keeping};
 ghost use Rattle.judge_run.specs.Run.{seen, EndsFrom, EndsJudging};
@@ -12,14 +11,15 @@ use crate::judgement::judgement_of;
 use crate::judging::judge_all;
 use crate::reporting::print_report;
 use crate::{JudgePlan, JudgeStop, Judgement};
+use client_line::Line;
 use sb_model::{Bytes, OutOfMemory};
-use sb_outside::{Clock, Dice, Keeper, Link, Sink, Source, flush};
+use sb_outside::{Keeper, Sink, Source, flush};
 use std::alloc::Global;
 use update_client::ClientLists;
 use wait_rules::WaitState;
 
 // Writes what waits, judges the lines of an input, and prints the report.
-fn judge_input<O: Sink, L: Link, C: Clock, D: Dice>(
+fn judge_input<O: Sink, N: Line>(
     alloc: Global,
     plan: &JudgePlan,
     lists: &ClientLists,
@@ -27,20 +27,18 @@ fn judge_input<O: Sink, L: Link, C: Clock, D: Dice>(
     waits: &mut WaitState,
     page: &mut Bytes,
     out: &mut O,
-    link: &mut L,
-    clock: &mut C,
-    dice: &mut D,
+    line: &mut N,
 ) -> Result<Judgement, JudgeStop>
     requires { IsTarget plan.now.target }
     ensures ends { EndsFrom plan.now result (lists.now ∷ []) waits.old page.old (lines_of input.now)
-        (outside (L.log link.old) (C.answers clock.old) (C.waits clock.old) (D.given dice.old))
-        (outside (L.log link.new) (C.answers clock.new) (C.waits clock.new) (D.given dice.new))
-        (L.faults link.old) (L.faults link.new) (O.contents out.old) (O.contents out.new) }
+        (N.view line.old).told (N.view line.new).told (N.view line.old).faults (N.view line.new).faults
+        (O.contents out.old) (O.contents out.new) }
     ensures output_failed { IsErrOf result JudgeStop.WriteFault → Rose (O.faults out.old) (O.faults out.new) }
     ensures output_kept { result ≢ Err JudgeStop.WriteFault → O.faults out.new ≡ O.faults out.old }
+    ensures same { (N.view line.new).objects ≡ (N.view line.old).objects }
 {
     flush(out, page)?;
-    match judge_all(alloc, plan, lists, input, waits, link, clock, dice) {
+    match judge_all(alloc, plan, lists, input, waits, line) {
         Ok(mut report) => match print_report(&mut report, out) {
             Ok(()) => Ok(judgement_of(&report.counts)),
             Err(stop) => Err(stop),
@@ -59,25 +57,21 @@ fn judge_input<O: Sink, L: Link, C: Clock, D: Dice>(
 ///
 /// `ReadFault` and `PastLimits` where the input is not read to its end, and `KeepFault` where the keeper fails: then nothing is written, and
 /// neither the clock nor the dice are asked. `WriteFault` where the output fails, and `OutOfMemory`.
-pub fn judge<S: Source, O: Sink, K: Keeper, L: Link, C: Clock, D: Dice>(
+pub fn judge<S: Source, O: Sink, K: Keeper, N: Line>(
     alloc: Global,
     plan: &JudgePlan,
     input: &mut S,
     out: &mut O,
     keep: &mut K,
-    link: &mut L,
-    clock: &mut C,
-    dice: &mut D,
+    line: &mut N,
 ) -> Result<Judgement, JudgeStop>
     requires few { length plan.now.names ≤ most_lists }
     requires target { IsTarget plan.now.target }
 
     // It came to its end, or stopped for its reason.
     ensures ends { EndsJudging plan.now result
-        (seen (S.left input.old) (outside (L.log link.old) (C.answers clock.old) (C.waits clock.old) (D.given dice.old))
-        (L.faults link.old) (keeping (K.handed keep.old) (K.kept keep.old)) (O.contents out.old))
-        (seen (S.left input.new) (outside (L.log link.new) (C.answers clock.new) (C.waits clock.new) (D.given dice.new))
-        (L.faults link.new) (keeping (K.handed keep.new) (K.kept keep.new)) (O.contents out.new)) }
+        (seen (S.left input.old) (N.view line.old).told (N.view line.old).faults (keeping (K.handed keep.old) (K.kept keep.old)) (O.contents out.old))
+        (seen (S.left input.new) (N.view line.new).told (N.view line.new).faults (keeping (K.handed keep.new) (K.kept keep.new)) (O.contents out.new)) }
 
     // A fault is counted, and nothing else is.
     ensures input_failed { IsErrOf result JudgeStop.ReadFault → Rose (S.faults input.old) (S.faults input.new) }
@@ -91,6 +85,9 @@ pub fn judge<S: Source, O: Sink, K: Keeper, L: Link, C: Clock, D: Dice>(
     ensures read_unwritten { IsErrOf result JudgeStop.ReadFault → out.new ≡ out.old }
     ensures past_unwritten { IsErrOf result JudgeStop.PastLimits → out.new ≡ out.old }
     ensures keeper_unwritten { IsErrOf result JudgeStop.KeepFault → out.new ≡ out.old }
+
+    // The line's objects are the same.
+    ensures same { (N.view line.new).objects ≡ (N.view line.old).objects }
 {
     let Begun {
         text,
@@ -98,7 +95,7 @@ pub fn judge<S: Source, O: Sink, K: Keeper, L: Link, C: Clock, D: Dice>(
         updates: _,
         mut waits,
         mut page,
-    } = match begin(alloc, plan.names.as_slice(), input, keep, clock, dice) {
+    } = match begin(alloc, plan.names.as_slice(), input, keep, line) {
         Ok(begun) => begun,
         Err(stop) => return Err(stop),
     };
@@ -110,8 +107,6 @@ pub fn judge<S: Source, O: Sink, K: Keeper, L: Link, C: Clock, D: Dice>(
         &mut waits,
         &mut page,
         out,
-        link,
-        clock,
-        dice,
+        line,
     )
 }

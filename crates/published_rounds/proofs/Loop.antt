@@ -4,21 +4,33 @@ use Rattle.std.specs.Prelude.{◌||◌, if◌then◌else◌}
 use Rattle.std.proofs.lemmas.List.{length-append}
 use Rattle.update_client.specs.Held.{Held}
 use Rattle.sb_round.specs.Round.{Round, lists_after_round, taken_from}
-use Rattle.sb_round.specs.Rounds.{GoesOnWithRounds}
 use Rattle.sb_round.specs.declared.rounds.RoundFault.{RoundFault}
 use Rattle.sb_round.specs.declared.rounds.Taken.{Taken}
 use Rattle.std.specs.Prelude.{Result}
 use Rattle.snapshot_publish.specs.Publications.{Publications, IsPrefixOf}
 use Rattle.update_run.specs.Run.{Seen}
 use Rattle.update_run.specs.Saved.{has_installed, saved_after, saved_in, saved_lists}
-use Rattle.update_run.specs.Steps.{TakesRounds}
+use Rattle.update_run.specs.Stepping.{GoesOnSaving, StopsAfterSteps}
+use Rattle.update_run.specs.Rounding.{StopsOneRound}
+use Rattle.update_run.specs.Steps.{TakesRounds, GoesOnWriting, GoesOnTaking}
 use Rattle.update_run.specs.declared.client.Client.{Client}
 use Rattle.update_run.specs.declared.plan.Plan.{Plan}
 use Rattle.update_run.specs.declared.rounding.RoundTold.{RoundTold}
 use Rattle.update_run.specs.declared.stop.RunStop.{RunStop}
-use Rattle.update_run.proofs.OneByOne.{goes_on_writing, goes_on_taking, one_longer, saved_all}
-use Rattle.update_run.proofs.Stopping.{stopped}
 use Rattle.published_rounds.specs.Rounds.{WritesAndTells, PublishesRound, PublishesRounds, StopsOneRoundOrAfter, StopsPublishing}
+
+-- the laws of rounds that are taken one by one
+pub record StepLaws : Type 0 where
+  pub writing : GoesOnWriting
+  pub taking : GoesOnTaking
+  pub saving : GoesOnSaving
+  pub stopping : StopsAfterSteps
+
+abbrev pub step_laws : GoesOnWriting → GoesOnTaking → GoesOnSaving → StopsAfterSteps → StepLaws
+step_laws writing taking saving stopping = record { writing = writing; taking = taking; saving = saving; stopping = stopping }
+
+one_longer : (rounds : List Round) (round : Round) → length (rounds ++ round ∷ []) ≡ length rounds + 1
+one_longer rounds round = length-append rounds (round ∷ [])
 
 -- at most one set of lists is saved in a round
 one_at_most : (b : Bool) (lists : List Held) → length (if b then lists ∷ [] else []) ≤ 1
@@ -36,7 +48,7 @@ few_saved lists (round ∷ rounds) =
       few_saved after rounds,
     )
 
-module _ (plan : Plan) (rounds : List Round) (client between client' : Client) (first mid after : Seen) (refused : Bool) (go : GoesOnWithRounds) where
+module _ (plan : Plan) (rounds : List Round) (client between client' : Client) (first mid after : Seen) (refused : Bool) (laws : StepLaws) where
   -- with a round that was made the rounds are one more
   record OneMore (told : RoundTold) : Type 0 where
     round : Round
@@ -46,13 +58,13 @@ module _ (plan : Plan) (rounds : List Round) (client between client' : Client) (
   one_more : (told : RoundTold) → TakesRounds plan 1 rounds client between first mid refused → WritesAndTells plan (1 + length rounds) between client' mid after told → OneMore told
   one_more told so_far both =
       let between' = record mid { held = both.held } in
-      let written = goes_on_writing plan 1 rounds client between both.between first mid both.held refused so_far both.writes in
+      let written = laws.writing plan 1 rounds client between both.between first mid both.held refused so_far both.writes in
       let takes = both.tells.takes in
       record {
         round = takes.made.round;
-        takes = goes_on_taking go plan 1 rounds client both.between client' first between' after refused told.refused written takes;
+        takes = laws.taking plan 1 rounds client both.between client' first between' after refused told.refused written takes;
         saved =
-            saved_all plan 1 rounds client both.between first between' after client'.lists client'.waits takes.end go written.made takes.made
+            laws.saving plan 1 rounds client both.between client' first between' after refused told.refused written takes
             ∙ ap (λ (b : Bool). saved_lists client.lists rounds ++ (if b then client'.lists ∷ [] else [])) (sym both.tells.installed);
       }
 
@@ -75,21 +87,21 @@ module _ (plan : Plan) (rounds : List Round) (client between client' : Client) (
       )
 
 pub next_round : (plan : Plan) (number : ℕ) (rounds : List Round) (client between client' : Client) (first mid after : Seen) (published now later : Publications) (refused more : Bool)
-    → GoesOnWithRounds → 1 + length rounds ≡ number → PublishesRounds plan rounds client between published now first mid refused → PublishesRound plan number between client' now later mid after more
+    → StepLaws → 1 + length rounds ≡ number → PublishesRounds plan rounds client between published now first mid refused → PublishesRound plan number between client' now later mid after more
     → (all : List Round) × (length all ≡ number) × PublishesRounds plan all client client' published later first after (refused || more)
-next_round plan number rounds client between client' first mid after published now later refused more go count so_far step =
+next_round plan number rounds client between client' first mid after published now later refused more laws count so_far step =
     let at = subst (λ (n : ℕ). PublishesRound plan n between client' now later mid after more) (sym count) step in
-    let made = next_at plan rounds client between client' first mid after refused go published now later more so_far at in
+    let made = next_at plan rounds client between client' first mid after refused laws published now later more so_far at in
     (made.0, made.1 ∙ count, made.2)
 
 pub stops_there : (why : RunStop) (plan : Plan) (number : ℕ) (rounds : List Round) (client between : Client) (first mid after : Seen) (published now : Publications) (refused : Bool)
-    → GoesOnWithRounds → 1 + length rounds ≡ number → number ≤ plan.rounds → PublishesRounds plan rounds client between published now first mid refused → StopsOneRoundOrAfter why plan number between mid after
+    → StepLaws → 1 + length rounds ≡ number → number ≤ plan.rounds → PublishesRounds plan rounds client between published now first mid refused → StopsOneRoundOrAfter why plan number between mid after
     → StopsPublishing why plan client first after
-stops_there why plan number rounds client between first mid after published now refused go count few so_far (inl stops) =
-    inl (stopped why plan number rounds client between first mid after refused go count few so_far.takes stops)
-stops_there why plan number rounds client between first mid after published now refused go count few so_far (inr stop) =
+stops_there why plan number rounds client between first mid after published now refused laws count few so_far (inl stops) =
+    inl (laws.stopping why plan rounds client between first mid after refused (omega (arith, count, few)) so_far.takes (subst (λ (n : ℕ). StopsOneRound why plan n between mid after) (sym count) stops))
+stops_there why plan number rounds client between first mid after published now refused laws count few so_far (inr stop) =
     let made = subst (λ (n : ℕ). WritesAndTells plan n between stop.client' mid after stop.told) (sym count) stop.made in
-    let one = one_more plan rounds client between stop.client' first mid after refused go stop.told so_far.takes made in
+    let one = one_more plan rounds client between stop.client' first mid after refused laws stop.told so_far.takes made in
     inr (
       stop.memory,
       record {

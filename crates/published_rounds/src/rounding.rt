@@ -2,58 +2,54 @@ ghost use Rattle.std.specs.Prelude.{◌≡◌, ◌≢◌, ◌≤◌, ◌+◌, �
 ghost use Rattle.http_edge.specs.Exchanges.{IsTarget};
 ghost use Rattle.sb_outside.specs.Outside.{Rose};
 ghost use Rattle.snapshot_publish.specs.Publications.{IsPrefixOf};
-ghost use Rattle.timed_sessions.specs.Told.{outside};
 ghost use Rattle.update_run.specs.Rounding.{StopsOneRound};
 ghost use Rattle.update_run.specs.Run.{seen};
 ghost use Rattle.update_run.specs.Saved.{keeping};
 ghost use Rattle.published_rounds.specs.Rounds.{WritesAndTells, PublishesRound, StopsOneRoundOrAfter, PublishesAllRounds, StopsPublishing};
 
 use crate::publishing::publish_installed;
+use client_line::Line;
 use sb_model::OutOfMemory;
-use sb_outside::{Clock, Dice, Gate, Keeper, Link, Point, Sink};
-use sb_round::rounds_go_on;
+use sb_outside::{Gate, Keeper, Point, Sink};
 use snapshot_publish::Publisher;
 use std::alloc::Global;
 use std::sync::Wait;
-use update_run::{Client, Plan, RoundTold, RunStop, make_round, write_page};
+use update_run::{
+    Client, Plan, RoundTold, RunStop, make_round, steps_go_on, steps_save_and_stop, write_page,
+};
 
 // Writes what waits, and makes the round of this number.
-fn one_round<O: Sink, K: Keeper, L: Link, C: Clock, D: Dice, G: Gate>(
+fn one_round<O: Sink, K: Keeper, N: Line, G: Gate>(
     alloc: Global,
     plan: &Plan,
     number: u32,
     client: &mut Client,
     out: &mut O,
     keep: &mut K,
-    link: &mut L,
-    clock: &mut C,
-    dice: &mut D,
+    line: &mut N,
     gate: &G,
 ) -> Result<RoundTold, RunStop>
     requires { IsTarget plan.now.target }
     ensures told { IfOk result (λ told. WritesAndTells plan.now number client.old client.new
-        (seen (outside (L.log link.old) (C.answers clock.old) (C.waits clock.old) (D.given dice.old))
-        (keeping (K.handed keep.old) (K.kept keep.old)) (O.contents out.old))
-        (seen (outside (L.log link.new) (C.answers clock.new) (C.waits clock.new) (D.given dice.new))
-        (keeping (K.handed keep.new) (K.kept keep.new)) (O.contents out.new)) told) }
+        (seen (N.view line.old).told (keeping (K.handed keep.old) (K.kept keep.old)) (O.contents out.old))
+        (seen (N.view line.new).told (keeping (K.handed keep.new) (K.kept keep.new)) (O.contents out.new)) told) }
     ensures stopped { IfErr result (λ stop. StopsOneRound stop plan.now number client.old
-        (seen (outside (L.log link.old) (C.answers clock.old) (C.waits clock.old) (D.given dice.old))
-        (keeping (K.handed keep.old) (K.kept keep.old)) (O.contents out.old))
-        (seen (outside (L.log link.new) (C.answers clock.new) (C.waits clock.new) (D.given dice.new))
-        (keeping (K.handed keep.new) (K.kept keep.new)) (O.contents out.new))) }
+        (seen (N.view line.old).told (keeping (K.handed keep.old) (K.kept keep.old)) (O.contents out.old))
+        (seen (N.view line.new).told (keeping (K.handed keep.new) (K.kept keep.new)) (O.contents out.new))) }
     ensures output_failed { IsErrOf result RunStop.WriteFault → Rose (O.faults out.old) (O.faults out.new) }
     ensures output_kept { result ≢ Err RunStop.WriteFault → O.faults out.new ≡ O.faults out.old }
     ensures keeper_failed { IsErrOf result RunStop.KeepFault → Rose (K.faults keep.old) (K.faults keep.new) }
     ensures keeper_kept { result ≢ Err RunStop.KeepFault → K.faults keep.new ≡ K.faults keep.old }
-    ensures link_counted { L.faults link.old ≤ L.faults link.new }
+    ensures link_counted { (N.view line.old).faults ≤ (N.view line.new).faults }
+    ensures same { (N.view line.new).objects ≡ (N.view line.old).objects }
 {
     write_page(client, out)?;
     gate.pass(Point::Round(number));
-    make_round(alloc, plan, number, client, out, keep, link, clock, dice)
+    make_round(alloc, plan, number, client, out, keep, line)
 }
 
 // Makes the round of this number, and publishes what it installed.
-fn publish_round<R: Wait, O: Sink, K: Keeper, L: Link, C: Clock, D: Dice, G: Gate>(
+fn publish_round<R: Wait, O: Sink, K: Keeper, N: Line, G: Gate>(
     rt: &R,
     alloc: Global,
     plan: &Plan,
@@ -62,34 +58,27 @@ fn publish_round<R: Wait, O: Sink, K: Keeper, L: Link, C: Clock, D: Dice, G: Gat
     publisher: &mut Publisher,
     out: &mut O,
     keep: &mut K,
-    link: &mut L,
-    clock: &mut C,
-    dice: &mut D,
+    line: &mut N,
     gate: &G,
 ) -> Result<bool, RunStop>
     requires target { IsTarget plan.now.target }
     requires room { length publisher.old.list < 2 ^ 64 }
     ensures made { IfOk result (λ refused. PublishesRound plan.now number client.old client.new publisher.old.list publisher.new.list
-        (seen (outside (L.log link.old) (C.answers clock.old) (C.waits clock.old) (D.given dice.old))
-        (keeping (K.handed keep.old) (K.kept keep.old)) (O.contents out.old))
-        (seen (outside (L.log link.new) (C.answers clock.new) (C.waits clock.new) (D.given dice.new))
-        (keeping (K.handed keep.new) (K.kept keep.new)) (O.contents out.new)) refused) }
+        (seen (N.view line.old).told (keeping (K.handed keep.old) (K.kept keep.old)) (O.contents out.old))
+        (seen (N.view line.new).told (keeping (K.handed keep.new) (K.kept keep.new)) (O.contents out.new)) refused) }
     ensures stopped { IfErr result (λ stop. StopsOneRoundOrAfter stop plan.now number client.old
-        (seen (outside (L.log link.old) (C.answers clock.old) (C.waits clock.old) (D.given dice.old))
-        (keeping (K.handed keep.old) (K.kept keep.old)) (O.contents out.old))
-        (seen (outside (L.log link.new) (C.answers clock.new) (C.waits clock.new) (D.given dice.new))
-        (keeping (K.handed keep.new) (K.kept keep.new)) (O.contents out.new))) }
+        (seen (N.view line.old).told (keeping (K.handed keep.old) (K.kept keep.old)) (O.contents out.old))
+        (seen (N.view line.new).told (keeping (K.handed keep.new) (K.kept keep.new)) (O.contents out.new))) }
     ensures unpublished { OnErr result (publisher.new.list ≡ publisher.old.list) }
     ensures boxes { publisher.new.boxes ≡ publisher.old.boxes }
     ensures output_failed { IsErrOf result RunStop.WriteFault → Rose (O.faults out.old) (O.faults out.new) }
     ensures output_kept { result ≢ Err RunStop.WriteFault → O.faults out.new ≡ O.faults out.old }
     ensures keeper_failed { IsErrOf result RunStop.KeepFault → Rose (K.faults keep.old) (K.faults keep.new) }
     ensures keeper_kept { result ≢ Err RunStop.KeepFault → K.faults keep.new ≡ K.faults keep.old }
-    ensures link_counted { L.faults link.old ≤ L.faults link.new }
+    ensures link_counted { (N.view line.old).faults ≤ (N.view line.new).faults }
+    ensures same { (N.view line.new).objects ≡ (N.view line.old).objects }
 {
-    match one_round(
-        alloc, plan, number, client, out, keep, link, clock, dice, gate,
-    ) {
+    match one_round(alloc, plan, number, client, out, keep, line, gate) {
         Ok(told) => match publish_installed(
             rt,
             alloc,
@@ -113,7 +102,7 @@ fn publish_round<R: Wait, O: Sink, K: Keeper, L: Link, C: Clock, D: Dice, G: Gat
 /// # Errors
 ///
 /// `WriteFault` and `KeepFault` where the output or the keeper fails, and `OutOfMemory`. What was published before stays so.
-pub fn publish_rounds<R: Wait, O: Sink, K: Keeper, L: Link, C: Clock, D: Dice, G: Gate>(
+pub fn publish_rounds<R: Wait, O: Sink, K: Keeper, N: Line, G: Gate>(
     rt: &R,
     alloc: Global,
     plan: &Plan,
@@ -121,23 +110,17 @@ pub fn publish_rounds<R: Wait, O: Sink, K: Keeper, L: Link, C: Clock, D: Dice, G
     publisher: &mut Publisher,
     out: &mut O,
     keep: &mut K,
-    link: &mut L,
-    clock: &mut C,
-    dice: &mut D,
+    line: &mut N,
     gate: &G,
 ) -> Result<bool, RunStop>
     requires target { IsTarget plan.now.target }
     requires room { length publisher.old.list + plan.now.rounds < 2 ^ 64 }
     ensures made { IfOk result (λ refused. PublishesAllRounds plan.now client.old client.new publisher.old.list publisher.new.list
-        (seen (outside (L.log link.old) (C.answers clock.old) (C.waits clock.old) (D.given dice.old))
-        (keeping (K.handed keep.old) (K.kept keep.old)) (O.contents out.old))
-        (seen (outside (L.log link.new) (C.answers clock.new) (C.waits clock.new) (D.given dice.new))
-        (keeping (K.handed keep.new) (K.kept keep.new)) (O.contents out.new)) refused) }
+        (seen (N.view line.old).told (keeping (K.handed keep.old) (K.kept keep.old)) (O.contents out.old))
+        (seen (N.view line.new).told (keeping (K.handed keep.new) (K.kept keep.new)) (O.contents out.new)) refused) }
     ensures stopped { IfErr result (λ stop. StopsPublishing stop plan.now client.old
-        (seen (outside (L.log link.old) (C.answers clock.old) (C.waits clock.old) (D.given dice.old))
-        (keeping (K.handed keep.old) (K.kept keep.old)) (O.contents out.old))
-        (seen (outside (L.log link.new) (C.answers clock.new) (C.waits clock.new) (D.given dice.new))
-        (keeping (K.handed keep.new) (K.kept keep.new)) (O.contents out.new))) }
+        (seen (N.view line.old).told (keeping (K.handed keep.old) (K.kept keep.old)) (O.contents out.old))
+        (seen (N.view line.new).told (keeping (K.handed keep.new) (K.kept keep.new)) (O.contents out.new))) }
 
     // After an `Err` too.
     ensures published { IsPrefixOf publisher.old.list publisher.new.list }
@@ -148,15 +131,19 @@ pub fn publish_rounds<R: Wait, O: Sink, K: Keeper, L: Link, C: Clock, D: Dice, G
     ensures output_kept { result ≢ Err RunStop.WriteFault → O.faults out.new ≡ O.faults out.old }
     ensures keeper_failed { IsErrOf result RunStop.KeepFault → Rose (K.faults keep.old) (K.faults keep.new) }
     ensures keeper_kept { result ≢ Err RunStop.KeepFault → K.faults keep.new ≡ K.faults keep.old }
-    ensures link_counted { L.faults link.old ≤ L.faults link.new }
-    ensures link_idle { plan.now.rounds ≡ 0 → L.faults link.new ≡ L.faults link.old }
+    ensures link_counted { (N.view line.old).faults ≤ (N.view line.new).faults }
+    ensures link_idle { plan.now.rounds ≡ 0 → (N.view line.new).faults ≡ (N.view line.old).faults }
+
+    // The line's objects are the same.
+    ensures same { (N.view line.new).objects ≡ (N.view line.old).objects }
 {
-    rounds_go_on();
+    steps_go_on();
+    steps_save_and_stop();
     let mut refused = false;
     for made in 0..plan.rounds {
         let number = made + 1;
         match publish_round(
-            rt, alloc, plan, number, client, publisher, out, keep, link, clock, dice, gate,
+            rt, alloc, plan, number, client, publisher, out, keep, line, gate,
         ) {
             Ok(is_refused) => refused |= is_refused,
             Err(stop) => return Err(stop),

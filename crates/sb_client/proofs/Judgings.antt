@@ -15,8 +15,8 @@ use Rattle.judge_beside.specs.declared.outcome.Outcome.{Outcome}
 use Rattle.judge_beside.specs.declared.plan.BesidePlan.{BesidePlan}
 use Rattle.judge_run.specs.declared.stop.JudgeStop.{JudgeStop}
 use Rattle.judge_run.specs.declared.stop.JudgeStop.TheVariants.{ReadFault, PastLimits, WriteFault, KeepFault, OutOfMemory}
-use Rattle.judged_runs.specs.Law.{JudgedAreComplete, RunsOfVerdictsHold}
-use Rattle.judged_runs.specs.Saving.{JudgingsSaveReplicas, UpdatesHold}
+use Rattle.client_laws.specs.Reports.{JudgedAreComplete, RunsOfVerdictsHold}
+use Rattle.client_laws.specs.Saving.{JudgingsSaveReplicas, UpdatesHold}
 use Rattle.sb_round.specs.Rounds.{RoundsKeepToWaits}
 use Rattle.sb_client.specs.Ending.{judge_status_after, judge_status_of, judgement_status}
 use Rattle.sb_client.specs.Judged.{ReportsRightly}

@@ -7,10 +7,10 @@ use Rattle.update_run.specs.declared.plan.Plan.{Plan}
 use Rattle.update_run.specs.Run.{Seen, RunEnding, EndsRun, IsRun}
 use Rattle.sb_model.specs.History.{History}
 use Rattle.sb_model.specs.Naming.{Naming}
-use Rattle.honest_runs.specs.Law.{HoldsOfRuns}
-use Rattle.honest_runs.specs.Met.{HasTaken}
-use Rattle.honest_runs.specs.Replicas.{HandsReplicas, TellsReplicas}
-use Rattle.honest_runs.specs.Rows.{IsHeadline, TellsAtEnd, lacks_memory}
+use Rattle.client_laws.specs.Runs.{HoldsOfRuns}
+use Rattle.client_laws.specs.Met.{HasTakenBodies}
+use Rattle.client_laws.specs.Replicas.{HandsReplicas, TellsReplicas}
+use Rattle.client_laws.specs.Rows.{IsHeadline, TellsAtEnd, lacks_memory}
 use Rattle.update_run.specs.declared.stop.RunStop.{RunStop}
 use Rattle.update_run.specs.declared.stop.RunStop.TheVariants as stop
 use Rattle.sb_client.specs.declared.command.Command.{Command}
@@ -63,8 +63,8 @@ module _ (law : HoldsOfRuns) (plan : Plan) (status : ℕ) (before after : Seen) 
   headline : IsHeadline plan run.ending before after
   headline = law plan run.ending before after run.done
 
-  taken_then : HasTaken (status == 8) before.outside.log after.outside.log headline.taken
-  taken_then = subst (λ (lacks : Bool). HasTaken lacks before.outside.log after.outside.log headline.taken) (lacks_by run.ending status run.told) headline.some
+  taken_then : HasTakenBodies (status == 8) before.outside.log after.outside.log headline.taken
+  taken_then = subst (λ (lacks : Bool). HasTakenBodies lacks before.outside.log after.outside.log headline.taken) (lacks_by run.ending status run.told) headline.some
 
   pub run_hands : HoldsWhereHonest plan status before after HandsReplicas
   run_hands = record { taken = headline.taken; some = taken_then; holds = λ history token_at meets. (headline.holds history token_at meets).hands }
@@ -88,7 +88,7 @@ run_tells law plan status before after run end =
     let headline = law plan run.ending before after run.done in
     record {
       taken = headline.taken;
-      some = subst (λ (lacks : Bool). HasTaken lacks before.outside.log after.outside.log headline.taken) (lacks_by run.ending status run.told) headline.some;
+      some = subst (λ (lacks : Bool). HasTakenBodies lacks before.outside.log after.outside.log headline.taken) (lacks_by run.ending status run.told) headline.some;
       holds = λ history token_at meets. tells_by run.ending status run.told end (headline.holds history token_at meets).tells;
     }
 

@@ -8,9 +8,9 @@ use Rattle.sb_outside.specs.declared.links.Session.{Session}
 use Rattle.timed_sessions.specs.Told.{Outside, with_more}
 use Rattle.sb_round.specs.Round.{Round}
 use Rattle.sb_round.specs.Rounds.{RoundsAreTheirSessions, entry_of}
-use Rattle.honest_runs.specs.Met.{IsLogged}
-use Rattle.served_runs.specs.Answered.{IsAnsweredIn}
-use Rattle.served_runs.specs.Complete.{AnsweredRunsAreComplete, AnsweredRunsKeepVersions}
+use Rattle.client_laws.specs.Met.{IsLogged}
+use Rattle.both_ends_laws.specs.Answered.{IsAnsweredIn}
+use Rattle.both_ends_laws.specs.Complete.{AnsweredRunsAreComplete, AnsweredRunsKeepVersions}
 use Rattle.update_run.specs.Opening.{first_lists}
 use Rattle.update_run.specs.Printed.{run_text, has_refusals}
 use Rattle.update_run.specs.Run.{Seen, HasMade, IsLoaded, IsRun, RunEnding, EndsRun}

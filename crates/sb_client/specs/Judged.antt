@@ -3,8 +3,8 @@ use Rattle.std.specs.Prelude.{◌≡◌, ℕ, map, Ok}
 use Rattle.sb_model.specs.History.{History}
 use Rattle.sb_model.specs.Naming.{Naming}
 use Rattle.update_run.specs.Opening.{first_lists}
-use Rattle.honest_runs.specs.Met.{AreHonestRounds}
-use Rattle.honest_runs.specs.Replicas.{IsKeptSafely}
+use Rattle.client_laws.specs.Met.{AreHonestRounds}
+use Rattle.client_laws.specs.Replicas.{IsKeptSafely}
 use Rattle.timed_sessions.specs.Waiting.{KeepToWaits}
 use Rattle.sb_round.specs.Round.{closed_of}
 use Rattle.judge_run.specs.Judging.{first_finds}
@@ -14,8 +14,8 @@ use Rattle.judge_beside.specs.Plans.{finds_of}
 use Rattle.judge_beside.specs.Run.{EndsOpened}
 use Rattle.judge_beside.specs.declared.outcome.Outcome.{Outcome}
 use Rattle.judge_beside.specs.declared.plan.BesidePlan.{BesidePlan}
-use Rattle.judged_runs.specs.Complete.{AreComplete}
-use Rattle.judged_runs.specs.Law.{ReportHolds, publications_in}
+use Rattle.client_laws.specs.Complete.{AreComplete}
+use Rattle.client_laws.specs.Reports.{ReportHolds, publications_in}
 use Rattle.sb_client.specs.Ending.{judge_status_of}
 
 -- A run came to its end with this status. Its updates kept to their waits, and what the log of its link has more than their sessions are its

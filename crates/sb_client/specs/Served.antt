@@ -7,10 +7,10 @@ use Rattle.sb_outside.specs.declared.links.Session.{Session}
 use Rattle.sb_round.specs.Round.{Round}
 use Rattle.sb_round.specs.Rounds.{entry_of, body_of}
 use Rattle.sb_round.specs.Run.{lists_after}
-use Rattle.honest_runs.specs.Met.{IsLogged}
-use Rattle.served_runs.specs.Answered.{AreAnsweredOrLost, AreAnsweredInOrder}
-use Rattle.served_runs.specs.Complete.{AsksServer, AsksWithoutLimits, IsComplete}
-use Rattle.served_runs.specs.Versions.{GoOn}
+use Rattle.client_laws.specs.Met.{IsLogged}
+use Rattle.both_ends_laws.specs.Answered.{AreAnsweredOrLost, AreAnsweredInOrder}
+use Rattle.both_ends_laws.specs.Complete.{AsksServer, AsksWithoutLimits, IsComplete}
+use Rattle.both_ends_laws.specs.Versions.{StayOrRise}
 use Rattle.update_run.specs.Opening.{first_lists}
 use Rattle.update_run.specs.Printed.{run_text}
 use Rattle.update_run.specs.Run.{Seen, HasMade}
@@ -52,5 +52,5 @@ pub record TellsVersions (history : History) (token_at : Naming) (least : ℕ) (
   pub all : length rounds ≡ plan.rounds
   pub made : HasMade plan kept rounds before.outside after.outside
   pub are : map entry_of rounds ≡ sessions
-  pub go_on : GoOn history token_at least (first_lists plan.names kept) (lists_after (first_lists plan.names kept) (map body_of rounds))
+  pub go_on : StayOrRise history token_at least (first_lists plan.names kept) (lists_after (first_lists plan.names kept) (map body_of rounds))
   pub text : after.held ≡ appended before.held (run_text kept (first_lists plan.names kept) rounds)

@@ -10,7 +10,7 @@ ghost use Rattle.timed_sessions.specs.Told.{outside};
 ghost use Rattle.update_run.specs.Saved.{keeping};
 ghost use Rattle.update_run.specs.Run.{seen};
 ghost use Rattle.http_edge.specs.Exchanges.{IsTarget};
-ghost use Rattle.honest_runs.specs.Replicas.{HandsReplicas, TellsReplicas};
+ghost use Rattle.client_laws.specs.Replicas.{HandsReplicas, TellsReplicas};
 ghost use Rattle.update_run.specs.declared.plan.Plan.{Plan as PlanOf};
 ghost use Rattle.judge_beside.specs.declared.plan.BesidePlan.{BesidePlan};
 ghost use Rattle.judge_run.specs.Run.{seen as judging};
@@ -21,11 +21,11 @@ ghost use Rattle.sb_client.specs.Ending.{run_status_after, run_status_of, status
 ghost use Rattle.update_replay.specs.Replay.{PrintsReplicas};
 ghost use Rattle.sb_client.specs.Honest.{HoldsWhereHonest, KeepsStores};
 ghost use Rattle.sb_client.specs.Served.{MeetsAnswers, TellsComplete, MeetsVersions, TellsVersions};
-ghost use Rattle.served_runs.specs.Answered.{IsAnsweredIn};
+ghost use Rattle.both_ends_laws.specs.Answered.{IsAnsweredIn};
 ghost use Rattle.sb_outside.specs.declared.links.Session.{Session};
 ghost use Rattle.sb_client.specs.Runs.{AreCounted, HasNoFault, IsCountRun, IsFaultOf, IsJudgeRun, IsReplayRun, IsRunOf, IsShowRun, IsStatus, IsUpdateRun, IsUsageRun};
 ghost use Rattle.sb_client.specs.Usage.{usage_of};
-ghost use Rattle.judged_runs.specs.Saving.{UpdatesHold};
+ghost use Rattle.client_laws.specs.Saving.{UpdatesHold};
 ghost use Rattle.sb_client.specs.Judged.{ReportsRightly};
 
 use crate::command::{Command, command_of};
@@ -33,14 +33,16 @@ use crate::judged::judge_status;
 use crate::show::show;
 use crate::usage::tell_usage;
 use crate::vectors::vectors;
-use honest_runs::runs_hold;
+use both_ends_laws::{answered_runs_are_complete, answered_runs_keep_versions};
+use client_laws::{
+    judged_urls_are_decided, judgings_save_replicas, runs_hold, runs_of_verdicts_hold,
+};
+use client_line::{LentLine, Line};
 use input_lines::{Stop, fronts_are_within};
 use judge_run::cases_keep_to_waits;
-use judged_runs::{judged_urls_are_decided, judgings_save_replicas, runs_of_verdicts_hold};
 use sb_model::{ListName, OutOfMemory};
 use sb_outside::{Clock, Dice, Gate, Keeper, Link, Sink, Source};
 use sb_round::{rounds_are_their_sessions, rounds_keep_to_waits};
-use served_runs::{answered_runs_are_complete, answered_runs_keep_versions};
 use std::alloc::Global;
 use std::sync::Wait;
 use std::thread::Threads;
@@ -115,28 +117,25 @@ fn replay_status<S: Source, O: Sink>(
 }
 
 /// Makes a run, and answers the exit status.
-fn run_status<O: Sink, K: Keeper, L: Link, C: Clock, D: Dice, G: Gate>(
+fn run_status<O: Sink, K: Keeper, N: Line, G: Gate>(
     alloc: Global,
     plan: &Plan,
     out: &mut O,
     keep: &mut K,
-    link: &mut L,
-    clock: &mut C,
-    dice: &mut D,
+    line: &mut N,
     gate: &G,
 ) -> u8
     requires some { 0 < length plan.now.names }
     requires few { length plan.now.names ≤ most_lists }
     requires target { IsTarget plan.now.target }
     ensures runs { IsUpdateRun plan.now result
-        (seen (outside (L.log link.old) (C.answers clock.old) (C.waits clock.old) (D.given dice.old))
-        (keeping (K.handed keep.old) (K.kept keep.old)) (O.contents out.old))
-        (seen (outside (L.log link.new) (C.answers clock.new) (C.waits clock.new) (D.given dice.new))
-        (keeping (K.handed keep.new) (K.kept keep.new)) (O.contents out.new)) }
+        (seen (N.view line.old).told (keeping (K.handed keep.old) (K.kept keep.old)) (O.contents out.old))
+        (seen (N.view line.new).told (keeping (K.handed keep.new) (K.kept keep.new)) (O.contents out.new)) }
     ensures written { IsFaultOf 3 result (O.faults out.old) (O.faults out.new) }
     ensures saved { IsFaultOf 4 result (K.faults keep.old) (K.faults keep.new) }
+    ensures same { (N.view line.new).objects ≡ (N.view line.old).objects }
 {
-    run_exit_status(run(alloc, plan, out, keep, link, clock, dice, gate))
+    run_exit_status(run(alloc, plan, out, keep, line, gate))
 }
 
 /// Shows the URLs of the input, and answers the exit status.
@@ -159,7 +158,41 @@ fn vectors_status<O: Sink>(alloc: Global, out: &mut O) -> u8
 }
 
 /// Runs a command, and answers the exit status.
-fn run_command<
+fn run_command<R: Threads + Wait + Sync, S: Source, O: Sink, K: Keeper, N: Line, G: Gate + Sync>(
+    rt: &R,
+    alloc: Global,
+    command: Command,
+    input: &mut S,
+    out: &mut O,
+    keep: &mut K,
+    line: &mut N,
+    gate: &G,
+) -> u8
+    requires sound { IsSound command }
+    ensures does { IsRunOf command result (S.left input.old) (S.left input.new) (N.view line.old).faults (N.view line.new).faults
+        (seen (N.view line.old).told (keeping (K.handed keep.old) (K.kept keep.old)) (O.contents out.old))
+        (seen (N.view line.new).told (keeping (K.handed keep.new) (K.kept keep.new)) (O.contents out.new)) }
+    ensures unread { ((names : List ListName) → command ≢ Command.Replay names) → ((plan : BesidePlan) → command ≢ Command.Judge plan)
+        → command ≢ Command.Show → input.new ≡ input.old }
+    ensures unwritten { (result ≡ 2) ⊎ (result ≡ 6) → out.new ≡ out.old }
+    ensures memory { command ≡ Command.Vectors → result ≡ 8 → out.new ≡ out.old }
+    ensures untouched { ((plan : PlanOf) → command ≢ Command.Run plan) → ((plan : BesidePlan) → command ≢ Command.Judge plan)
+        → (keep.new ≡ keep.old) × (line.new ≡ line.old) }
+    ensures counts { AreCounted result (S.faults input.old) (S.faults input.new) (O.faults out.old) (O.faults out.new)
+        (K.faults keep.old) (K.faults keep.new) }
+    ensures same { (N.view line.new).objects ≡ (N.view line.old).objects }
+{
+    match command {
+        Command::Replay(names) => replay_status(alloc, names.as_slice(), input, out),
+        Command::Run(plan) => run_status(alloc, &plan, out, keep, line, gate),
+        Command::Judge(plan) => judge_status(rt, alloc, &plan, input, out, keep, line, gate),
+        Command::Show => show_status(alloc, input, out),
+        Command::Vectors => vectors_status(alloc, out),
+    }
+}
+
+/// Runs a command over a line of these objects, which are lent to it.
+fn run_lent<
     R: Threads + Wait + Sync,
     S: Source,
     O: Sink,
@@ -195,15 +228,8 @@ fn run_command<
     ensures counts { AreCounted result (S.faults input.old) (S.faults input.new) (O.faults out.old) (O.faults out.new)
         (K.faults keep.old) (K.faults keep.new) }
 {
-    match command {
-        Command::Replay(names) => replay_status(alloc, names.as_slice(), input, out),
-        Command::Run(plan) => run_status(alloc, &plan, out, keep, link, clock, dice, gate),
-        Command::Judge(plan) => judge_status(
-            rt, alloc, &plan, input, out, keep, link, clock, dice, gate,
-        ),
-        Command::Show => show_status(alloc, input, out),
-        Command::Vectors => vectors_status(alloc, out),
-    }
+    let mut line = LentLine { link, clock, dice };
+    run_command(rt, alloc, command, input, out, keep, &mut line, gate)
 }
 
 /// Runs one command of the client programs, and answers the exit status. The first word is the
@@ -424,7 +450,7 @@ pub fn run_client<
     rounds_keep_to_waits();
     judged_urls_are_decided();
     match command_of(alloc, words) {
-        Ok(Some(command)) => run_command(
+        Ok(Some(command)) => run_lent(
             rt, alloc, command, input, out, keep, link, clock, dice, gate,
         ),
         Ok(None) => tell_usage(words, out),

@@ -1,6 +1,5 @@
 ghost use Rattle.std.specs.Prelude.{◌≡◌, ◌⊎◌, ◌≤◌, length};
 ghost use Rattle.http_edge.specs.Exchanges.{IsTarget};
-ghost use Rattle.timed_sessions.specs.Told.{outside};
 ghost use Rattle.update_client.specs.Held.{most_lists};
 ghost use Rattle.update_run.specs.Saved.{keeping};
 ghost use Rattle.judge_run.specs.Run.{seen as judging};
@@ -8,9 +7,10 @@ ghost use Rattle.sb_client.specs.Command.{AreWorkers};
 ghost use Rattle.sb_client.specs.Ending.{judge_status_after, judge_status_of, judgement_status};
 ghost use Rattle.sb_client.specs.Runs.{IsFaultOf, IsJudgeRun};
 
+use client_line::Line;
 use judge_beside::{BesidePlan, Outcome, judge};
 use judge_run::{JudgeStop, Judgement};
-use sb_outside::{Clock, Dice, Gate, Keeper, Link, Sink, Source};
+use sb_outside::{Gate, Keeper, Sink, Source};
 use std::alloc::Global;
 use std::sync::Wait;
 use std::thread::Threads;
@@ -56,9 +56,7 @@ pub(crate) fn judge_status<
     S: Source,
     O: Sink,
     K: Keeper,
-    L: Link,
-    C: Clock,
-    D: Dice,
+    N: Line,
     G: Gate + Sync,
 >(
     rt: &R,
@@ -67,23 +65,20 @@ pub(crate) fn judge_status<
     input: &mut S,
     out: &mut O,
     keep: &mut K,
-    link: &mut L,
-    clock: &mut C,
-    dice: &mut D,
+    line: &mut N,
     gate: &G,
 ) -> u8
     requires few { length plan.now.names ≤ most_lists }
     requires target { IsTarget plan.now.target }
     requires workers { AreWorkers plan.now.workers }
     ensures judges { IsJudgeRun plan.now result
-        (judging (S.left input.old) (outside (L.log link.old) (C.answers clock.old) (C.waits clock.old) (D.given dice.old))
-        (L.faults link.old) (keeping (K.handed keep.old) (K.kept keep.old)) (O.contents out.old))
-        (judging (S.left input.new) (outside (L.log link.new) (C.answers clock.new) (C.waits clock.new) (D.given dice.new))
-        (L.faults link.new) (keeping (K.handed keep.new) (K.kept keep.new)) (O.contents out.new)) }
+        (judging (S.left input.old) (N.view line.old).told (N.view line.old).faults (keeping (K.handed keep.old) (K.kept keep.old)) (O.contents out.old))
+        (judging (S.left input.new) (N.view line.new).told (N.view line.new).faults (keeping (K.handed keep.new) (K.kept keep.new)) (O.contents out.new)) }
     ensures unwritten { (result ≡ 2) ⊎ (result ≡ 6) → out.new ≡ out.old }
     ensures read { IsFaultOf 2 result (S.faults input.old) (S.faults input.new) }
     ensures written { IsFaultOf 3 result (O.faults out.old) (O.faults out.new) }
     ensures saved { IsFaultOf 4 result (K.faults keep.old) (K.faults keep.new) }
+    ensures same { (N.view line.new).objects ≡ (N.view line.old).objects }
 {
-    judge_exit_status(judge(rt, alloc, plan, input, out, keep, link, clock, dice, gate))
+    judge_exit_status(judge(rt, alloc, plan, input, out, keep, line, gate))
 }

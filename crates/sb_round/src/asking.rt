@@ -2,13 +2,14 @@ ghost use Rattle.std.specs.Prelude.{◌≡◌, ◌≢◌, ◌≤◌, ◌↔◌, 
 ghost use Rattle.sb_outside.specs.Outside.{Rose};
 ghost use Rattle.http_edge.specs.Exchanges.{IsTarget};
 ghost use Rattle.sb_round.specs.Round.{IsAnswerOf, HoldsRoundSession, body_asked};
-ghost use Rattle.sb_round.specs.Taking.{HasAsked, HasTalked, StopsAsking, seen};
+ghost use Rattle.sb_round.specs.Taking.{HasAsked, HasTalked, StopsAsking};
 
 use crate::rounds::RoundFault;
+use client_line::Line;
 use http_edge::{ExchangeFault, Target};
 use sb_json::MessageFault;
 use sb_model::{Bytes, Moment, OutOfMemory};
-use sb_outside::{Clock, Kind, Link};
+use sb_outside::Kind;
 use std::alloc::Global;
 use timed_sessions::{Talk, hold_session};
 use update_client::{ClientLists, FetchOptions};
@@ -19,36 +20,33 @@ use wait_rules::WaitState;
 #[derive(Drop)]
 pub(crate) struct Asked {
     pub(crate) begun: Moment,
-    pub(crate) ended: Moment,
+    pub(crate) closed: Moment,
     pub(crate) answer: Result<FetchResponse, RoundFault>,
 }
 
 // Reads the clock, and holds a session for this body at the first moment that is allowed.
-fn hold_now<L: Link, C: Clock>(
+fn hold_now<N: Line>(
     alloc: Global,
     waits: WaitState,
     target: &Target,
     body: &[u8],
     need_digest: bool,
-    link: &mut L,
-    clock: &mut C,
+    line: &mut N,
 ) -> Result<Talk, OutOfMemory>
     requires target { IsTarget target.now }
     ensures talked { IfOk result (λ talk. HasTalked waits target.now body.now need_digest
-        (seen (L.log link.old) (C.answers clock.old) (C.waits clock.old))
-        (seen (L.log link.new) (C.answers clock.new) (C.waits clock.new))
-        talk.begun talk.closed talk.answer) }
+        (N.view line.old).told (N.view line.new).told talk) }
     ensures refused { OnErr result (HoldsRoundSession waits target.now body.now
-        (seen (L.log link.old) (C.answers clock.old) (C.waits clock.old))
-        (seen (L.log link.new) (C.answers clock.new) (C.waits clock.new))) }
+        (N.view line.old).told (N.view line.new).told) }
     ensures failed { IfOk result (λ talk. IsErrOf talk.answer ExchangeFault.Link
-        → Rose (L.faults link.old) (L.faults link.new)) }
+        → Rose (N.view line.old).faults (N.view line.new).faults) }
     ensures kept { IfOk result (λ talk. talk.answer ≢ Err ExchangeFault.Link
-        → L.faults link.new ≡ L.faults link.old) }
-    ensures unmoved { OnErr result (L.faults link.new ≡ L.faults link.old) }
-    ensures counted { L.faults link.old ≤ L.faults link.new }
+        → (N.view line.new).faults ≡ (N.view line.old).faults) }
+    ensures unmoved { OnErr result ((N.view line.new).faults ≡ (N.view line.old).faults) }
+    ensures counted { (N.view line.old).faults ≤ (N.view line.new).faults }
+    ensures same { (N.view line.new).objects ≡ (N.view line.old).objects }
 {
-    let read = clock.now();
+    let read = line.now();
     hold_session(
         alloc,
         waits,
@@ -57,8 +55,7 @@ fn hold_now<L: Link, C: Clock>(
         Kind::Update,
         body,
         need_digest,
-        link,
-        clock,
+        line,
     )
 }
 
@@ -96,41 +93,38 @@ fn answer_of(
 }
 
 // Holds a session for this body, and reads what comes.
-fn ask_for<L: Link, C: Clock>(
+fn ask_for<N: Line>(
     alloc: Global,
     waits: WaitState,
     target: &Target,
     body: &[u8],
     need_digest: bool,
-    link: &mut L,
-    clock: &mut C,
+    line: &mut N,
 ) -> Result<Asked, OutOfMemory>
     requires target { IsTarget target.now }
     ensures asked { IfOk result (λ asked. HasAsked waits target.now body.now need_digest
-        (seen (L.log link.old) (C.answers clock.old) (C.waits clock.old))
-        (seen (L.log link.new) (C.answers clock.new) (C.waits clock.new))
-        asked.begun asked.ended asked.answer) }
+        (N.view line.old).told (N.view line.new).told asked) }
     ensures refused { OnErr result (HoldsRoundSession waits target.now body.now
-        (seen (L.log link.old) (C.answers clock.old) (C.waits clock.old))
-        (seen (L.log link.new) (C.answers clock.new) (C.waits clock.new))) }
+        (N.view line.old).told (N.view line.new).told) }
     ensures no_memory { IfOk result (λ asked.
         asked.answer ≢ Err (RoundFault.Message MessageFault.OutOfMemory)) }
     ensures failed { IfOk result (λ asked. asked.answer ≡ Err (RoundFault.Exchange ExchangeFault.Link)
-        → Rose (L.faults link.old) (L.faults link.new)) }
+        → Rose (N.view line.old).faults (N.view line.new).faults) }
     ensures kept { IfOk result (λ asked. asked.answer ≢ Err (RoundFault.Exchange ExchangeFault.Link)
-        → L.faults link.new ≡ L.faults link.old) }
-    ensures unmoved { OnErr result (L.faults link.new ≡ L.faults link.old) }
-    ensures counted { L.faults link.old ≤ L.faults link.new }
+        → (N.view line.new).faults ≡ (N.view line.old).faults) }
+    ensures unmoved { OnErr result ((N.view line.new).faults ≡ (N.view line.old).faults) }
+    ensures counted { (N.view line.old).faults ≤ (N.view line.new).faults }
+    ensures same { (N.view line.new).objects ≡ (N.view line.old).objects }
 {
     let Talk {
         begun,
         closed,
         answer: outcome,
-    } = hold_now(alloc, waits, target, body, need_digest, link, clock)?;
+    } = hold_now(alloc, waits, target, body, need_digest, line)?;
     let answer = answer_of(alloc, outcome)?;
     Ok(Asked {
         begun,
-        ended: closed,
+        closed,
         answer,
     })
 }
@@ -148,42 +142,31 @@ fn body_for(
 }
 
 /// Asks for updates of all lists, at the first moment that is allowed.
-pub(crate) fn ask<L: Link, C: Clock>(
+pub(crate) fn ask<N: Line>(
     alloc: Global,
     lists: &ClientLists,
     waits: WaitState,
     options: &FetchOptions,
     target: &Target,
     need_digest: bool,
-    link: &mut L,
-    clock: &mut C,
+    line: &mut N,
 ) -> Result<Asked, OutOfMemory>
     requires target { IsTarget target.now }
     ensures asked { IfOk result (λ asked. HasAsked waits target.now
         (body_asked lists.now options.now) need_digest
-        (seen (L.log link.old) (C.answers clock.old) (C.waits clock.old))
-        (seen (L.log link.new) (C.answers clock.new) (C.waits clock.new))
-        asked.begun asked.ended asked.answer) }
+        (N.view line.old).told (N.view line.new).told asked) }
     ensures refused { OnErr result (StopsAsking waits target.now (body_asked lists.now options.now)
-        (seen (L.log link.old) (C.answers clock.old) (C.waits clock.old))
-        (seen (L.log link.new) (C.answers clock.new) (C.waits clock.new))) }
+        (N.view line.old).told (N.view line.new).told) }
     ensures no_memory { IfOk result (λ asked.
         asked.answer ≢ Err (RoundFault.Message MessageFault.OutOfMemory)) }
     ensures failed { IfOk result (λ asked. asked.answer ≡ Err (RoundFault.Exchange ExchangeFault.Link)
-        → Rose (L.faults link.old) (L.faults link.new)) }
+        → Rose (N.view line.old).faults (N.view line.new).faults) }
     ensures kept { IfOk result (λ asked. asked.answer ≢ Err (RoundFault.Exchange ExchangeFault.Link)
-        → L.faults link.new ≡ L.faults link.old) }
-    ensures unmoved { OnErr result (L.faults link.new ≡ L.faults link.old) }
-    ensures counted { L.faults link.old ≤ L.faults link.new }
+        → (N.view line.new).faults ≡ (N.view line.old).faults) }
+    ensures unmoved { OnErr result ((N.view line.new).faults ≡ (N.view line.old).faults) }
+    ensures counted { (N.view line.old).faults ≤ (N.view line.new).faults }
+    ensures same { (N.view line.new).objects ≡ (N.view line.old).objects }
 {
     let body = body_for(alloc, lists, options)?;
-    ask_for(
-        alloc,
-        waits,
-        target,
-        body.as_slice(),
-        need_digest,
-        link,
-        clock,
-    )
+    ask_for(alloc, waits, target, body.as_slice(), need_digest, line)
 }

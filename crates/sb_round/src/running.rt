@@ -2,7 +2,6 @@ ghost use Rattle.std.specs.Prelude.{◌≡◌, ◌≢◌, ◌≤◌, Some, Ok, E
 ghost use Rattle.sb_outside.specs.Outside.{Rose};
 ghost use Rattle.update_client.specs.Step.{after_updates, results_of};
 ghost use Rattle.http_edge.specs.Exchanges.{IsTarget};
-ghost use Rattle.timed_sessions.specs.Told.{outside};
 ghost use Rattle.timed_sessions.specs.Waiting.{HasSettled};
 ghost use Rattle.sb_round.specs.Round.{named_results, taken_from, MakesRound, BreaksOff};
 ghost use Rattle.sb_round.specs.Taking.{HasTaken};
@@ -10,10 +9,10 @@ ghost use Rattle.sb_round.specs.Taking.{HasTaken};
 use crate::asking::{Asked, ask};
 use crate::rounds::{RoundEnd, RoundFault, Taken};
 use crate::taking::take_message;
+use client_line::Line;
 use http_edge::{ExchangeFault, Target};
 use sb_json::MessageFault;
 use sb_model::{Moment, OutOfMemory, Row};
-use sb_outside::{Clock, Dice, Link};
 use std::alloc::Global;
 use timed_sessions::settle;
 use update_client::{ClientLists, FetchOptions};
@@ -21,58 +20,62 @@ use update_messages::FetchResponse;
 use wait_rules::WaitState;
 
 // Takes the message of a session that was closed at this moment.
-fn succeed<D: Dice>(
+fn succeed<N: Line>(
     alloc: Global,
     lists: &mut ClientLists,
     waits: &mut WaitState,
-    ended: Moment,
+    closed: Moment,
     message: &FetchResponse,
-    dice: &mut D,
+    line: &mut N,
 ) -> Result<Row<Taken>, OutOfMemory>
     ensures lists { OnOk result (lists.new ≡ after_updates lists.old message.now.items) }
     ensures taken { IfOk result (λ taken.
         taken ≡ named_results message.now.items (results_of lists.old message.now.items)) }
-    ensures settled { OnOk result (HasSettled waits.old waits.new ended (Some message.now.wait)
-        (D.given dice.old) (D.given dice.new)) }
+    ensures settled { OnOk result (HasSettled waits.old waits.new closed (Some message.now.wait)
+        (N.view line.old) (N.view line.new)) }
     ensures lists_kept { OnErr result (lists.new ≡ lists.old) }
     ensures waits_kept { OnErr result (waits.new ≡ waits.old) }
-    ensures undrawn { OnErr result (D.given dice.new ≡ D.given dice.old) }
+    ensures untouched { OnErr result (N.view line.new ≡ N.view line.old) }
+    ensures faults { (N.view line.new).faults ≡ (N.view line.old).faults }
+    ensures same { (N.view line.new).objects ≡ (N.view line.old).objects }
 {
     let taken = take_message(alloc, lists, message)?;
-    settle(waits, ended, Some(message.wait), dice);
+    settle(waits, closed, Some(message.wait), line);
     Ok(taken)
 }
 
 // Ends a round after its session.
-fn end_round<D: Dice>(
+fn end_round<N: Line>(
     alloc: Global,
     lists: &mut ClientLists,
     waits: &mut WaitState,
-    dice: &mut D,
     asked: Asked,
+    line: &mut N,
 ) -> Result<RoundEnd, OutOfMemory>
     ensures taken { IfOk result (λ end. HasTaken lists.old lists.new waits.old waits.new
-        (D.given dice.old) (D.given dice.new) asked.begun asked.ended asked.answer end) }
+        (N.view line.old) (N.view line.new) asked end) }
     ensures lists_kept { OnErr result (lists.new ≡ lists.old) }
     ensures waits_kept { OnErr result (waits.new ≡ waits.old) }
-    ensures undrawn { OnErr result (D.given dice.new ≡ D.given dice.old) }
+    ensures untouched { OnErr result (N.view line.new ≡ N.view line.old) }
+    ensures faults { (N.view line.new).faults ≡ (N.view line.old).faults }
+    ensures same { (N.view line.new).objects ≡ (N.view line.old).objects }
     ensures had_message { OnErr result (asked.answer ≢ Err (RoundFault.Exchange ExchangeFault.Link)) }
 {
     let Asked {
         begun,
-        ended,
+        closed,
         answer,
     } = asked;
     match answer {
         Ok(message) => {
-            let taken = succeed(alloc, lists, waits, ended, &message, dice)?;
+            let taken = succeed(alloc, lists, waits, closed, &message, line)?;
             Ok(RoundEnd {
                 begun,
                 taken: Ok(taken),
             })
         }
         Err(fault) => {
-            settle(waits, ended, None, dice);
+            settle(waits, closed, None, line);
             Ok(RoundEnd {
                 begun,
                 taken: Err(fault),
@@ -86,51 +89,41 @@ fn end_round<D: Dice>(
 ///
 /// A message is a success, with the wait that it bids. Anything else is a failure with one drawn word, and
 /// changes no list. After an `Err` the lists and the state of waiting are as before.
-pub fn run_round<L: Link, C: Clock, D: Dice>(
+pub fn run_round<N: Line>(
     alloc: Global,
     lists: &mut ClientLists,
     waits: &mut WaitState,
     options: &FetchOptions,
     target: &Target,
     need_digest: bool,
-    link: &mut L,
-    clock: &mut C,
-    dice: &mut D,
+    line: &mut N,
 ) -> Result<RoundEnd, OutOfMemory>
     requires target { IsTarget target.now }
 
     // One round was made, and this is what it left.
     ensures made { IfOk result (λ end. MakesRound lists.old waits.old options.now target.now need_digest
-        (outside (L.log link.old) (C.answers clock.old) (C.waits clock.old) (D.given dice.old))
-        (outside (L.log link.new) (C.answers clock.new) (C.waits clock.new) (D.given dice.new))
+        (N.view line.old).told (N.view line.new).told
         lists.new waits.new end) }
 
     // Want of memory is no cause of a failed round. It breaks a round off.
     ensures no_memory { IfOk result (λ end.
         end.taken ≢ Err (RoundFault.Message MessageFault.OutOfMemory)) }
     ensures broken_off { OnErr result (BreaksOff lists.old waits.old options.now target.now
-        (outside (L.log link.old) (C.answers clock.old) (C.waits clock.old) (D.given dice.old))
-        (outside (L.log link.new) (C.answers clock.new) (C.waits clock.new) (D.given dice.new))) }
+        (N.view line.old).told (N.view line.new).told) }
     ensures lists_kept { OnErr result (lists.new ≡ lists.old) }
     ensures waits_kept { OnErr result (waits.new ≡ waits.old) }
 
     // A fault of the link is counted, and nothing else is.
     ensures failed { IfOk result (λ end. end.taken ≡ Err (RoundFault.Exchange ExchangeFault.Link)
-        → Rose (L.faults link.old) (L.faults link.new)) }
+        → Rose (N.view line.old).faults (N.view line.new).faults) }
     ensures kept { IfOk result (λ end. end.taken ≢ Err (RoundFault.Exchange ExchangeFault.Link)
-        → L.faults link.new ≡ L.faults link.old) }
-    ensures unmoved { OnErr result (L.faults link.new ≡ L.faults link.old) }
-    ensures counted { L.faults link.old ≤ L.faults link.new }
+        → (N.view line.new).faults ≡ (N.view line.old).faults) }
+    ensures unmoved { OnErr result ((N.view line.new).faults ≡ (N.view line.old).faults) }
+    ensures counted { (N.view line.old).faults ≤ (N.view line.new).faults }
+
+    // The line's objects are the same.
+    ensures same { (N.view line.new).objects ≡ (N.view line.old).objects }
 {
-    let asked = ask(
-        alloc,
-        lists,
-        *waits,
-        options,
-        target,
-        need_digest,
-        link,
-        clock,
-    )?;
-    end_round(alloc, lists, waits, dice, asked)
+    let asked = ask(alloc, lists, *waits, options, target, need_digest, line)?;
+    end_round(alloc, lists, waits, asked, line)
 }

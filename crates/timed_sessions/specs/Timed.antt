@@ -1,5 +1,5 @@
 -- A session of a client, of either kind, that keeps to its wait. The clock was read before it.
-use Rattle.std.specs.Prelude.{◌≡◌, ℕ, ◌≤◌, if◌then◌else◌, Bool, List, [], ◌∷◌, Option, Result, MatchBool}
+use Rattle.std.specs.Prelude.{◌≡◌, ℕ, ◌≤◌, if◌then◌else◌, Bool, List, [], ◌∷◌, Result, MatchBool}
 use Rattle.sb_model.specs.declared.time.Moment.{Moment}
 use Rattle.sb_outside.specs.Outside.{IfTold, with_entry}
 use Rattle.sb_outside.specs.declared.links.Kind.{Kind}
@@ -10,7 +10,9 @@ use Rattle.http_edge.specs.declared.faults.ExchangeFault.{ExchangeFault}
 use Rattle.http_edge.specs.declared.messages.Target.{Target}
 use Rattle.wait_rules.specs.Waits.{may_send_at}
 use Rattle.wait_rules.specs.declared.waits.WaitState.{WaitState}
-use Rattle.timed_sessions.specs.Told.{with_more, Trace}
+use Rattle.client_line.specs.Lines.{LineView, KeepsLink}
+use Rattle.timed_sessions.specs.Told.{Outside, with_more, Trace}
+use Rattle.timed_sessions.specs.declared.timing.Talk.{Talk}
 
 -- What the clock read before a session, when this began and when it was closed, and its entry in the link's log.
 pub record TimedSession : Type 0 where
@@ -70,30 +72,34 @@ trace_of waits session words = record {
 -- ---- what is told of a session, after the clock was read
 
 -- A session begins at this moment, and the clock was bidden to wait until the allowed one exactly where it read one that is too early.
-pub record HasBegun (waits : WaitState) (read : Moment) (answers answers' bidden bidden' : Option (List Moment)) (begun : Moment) : Type 0 where
+pub record HasBegun (waits : WaitState) (read : Moment) (before after : LineView) (begun : Moment) : Type 0 where
   pub is : IsBeginning waits read begun
-  pub answered : IfTold answers' (with_more answers (moments_before waits read begun))
-  pub bade : IfTold bidden' (with_more bidden (waits_from waits read))
+  pub answered : IfTold after.told.answers (with_more before.told.answers (moments_before waits read begun))
+  pub bade : IfTold after.told.waits (with_more before.told.waits (waits_from waits read))
+  pub last : after.last ≡ begun.0
+  pub others : KeepsLink before after
 
--- The link has a session more, the clock has its answers, and was bidden to wait until the allowed moment or not at all.
-pub record IsTold (waits : WaitState) (session : TimedSession) (log log' : Option (List Session)) (answers answers' bidden bidden' : Option (List Moment)) : Type 0 where
-  pub logged : IfTold log' (with_entry log session.entry)
-  pub answered : IfTold answers' (with_more answers (moments_after waits session))
-  pub bade : IfTold bidden' (with_more bidden (waits_from waits session.read))
+-- The link has a session more, the clock has its answers, and was bidden to wait until the allowed moment or not at all. No word was
+-- drawn.
+pub record IsTold (waits : WaitState) (session : TimedSession) (before after : Outside) : Type 0 where
+  pub logged : IfTold after.log (with_entry before.log session.entry)
+  pub answered : IfTold after.answers (with_more before.answers (moments_after waits session))
+  pub bade : IfTold after.waits (with_more before.waits (waits_from waits session.read))
+  pub undrawn : after.words ≡ before.words
 
 -- A session was held to its end.
-pub record HoldsTimed (waits : WaitState) (read : Moment) (target : Target) (kind : Kind) (body : List ℕ) (need : Bool) (log log' : Option (List Session)) (answers answers' bidden bidden' : Option (List Moment)) (begun closed : Moment) (outcome : Result (List ℕ) ExchangeFault) : Type 0 where
+pub record HoldsTimed (waits : WaitState) (read : Moment) (target : Target) (kind : Kind) (body : List ℕ) (need : Bool) (before after : Outside) (talk : Talk) : Type 0 where
   pub session : TimedSession
   pub is : IsTimedSession waits target kind body session
-  pub held : IsHeld target kind body need session.entry outcome
-  pub told : IsTold waits session log log' answers answers' bidden bidden'
+  pub held : IsHeld target kind body need session.entry talk.answer
+  pub told : IsTold waits session before after
   pub reading : session.read ≡ read
-  pub begins : session.begun ≡ begun
-  pub closes : session.closed ≡ closed
+  pub begins : session.begun ≡ talk.begun
+  pub closes : session.closed ≡ talk.closed
 
 -- A session was held and closed, if it was not held to its end.
-pub record HoldsTimedPart (waits : WaitState) (read : Moment) (target : Target) (kind : Kind) (body : List ℕ) (log log' : Option (List Session)) (answers answers' bidden bidden' : Option (List Moment)) : Type 0 where
+pub record HoldsTimedPart (waits : WaitState) (read : Moment) (target : Target) (kind : Kind) (body : List ℕ) (before after : Outside) : Type 0 where
   pub session : TimedSession
   pub is : IsTimedSession waits target kind body session
-  pub told : IsTold waits session log log' answers answers' bidden bidden'
+  pub told : IsTold waits session before after
   pub reading : session.read ≡ read

@@ -3,10 +3,9 @@ use Rattle.std.specs.Prelude.{◌≡◌, ℕ, ◌≤◌, List, [], ◌∷◌, Op
 use Rattle.std.specs.List.{fold}
 use Rattle.sb_model.specs.declared.time.Moment.{Moment}
 use Rattle.sb_model.specs.declared.time.Duration.{Duration}
-use Rattle.sb_outside.specs.Outside.{IfTold}
 use Rattle.wait_rules.specs.Waits.{after_success, after_failure}
 use Rattle.wait_rules.specs.declared.waits.WaitState.{WaitState}
-use Rattle.timed_sessions.specs.Told.{with_more}
+use Rattle.client_line.specs.Lines.{LineView, Draws}
 use Rattle.timed_sessions.specs.Timed.{TimedSession}
 
 -- A word is drawn exactly where a session brought no message, which bids to wait.
@@ -45,8 +44,8 @@ KeepToWaits waits (closed ∷ rest) =
     (waits.allowed_at.0 ≤ closed.session.entry.begun.0) × KeepToWaits (waits_after waits closed) rest
 
 -- A session was closed at this moment, with a message or with a word more.
-pub record HasSettled (waits waits' : WaitState) (closed : Moment) (bids : Option Duration) (words words' : Option (List ℕ)) : Type 0 where
+pub record HasSettled (waits waits' : WaitState) (closed : Moment) (bids : Option Duration) (before after : LineView) : Type 0 where
   pub word : Option ℕ
   pub drawn : IsDrawnFor bids word
-  pub told : IfTold words' (with_more words (words_of word))
+  pub told : Draws (words_of word) before after
   pub leaves : waits' ≡ waits_at_end waits closed bids word

@@ -3,9 +3,10 @@ ghost use Rattle.sb_outside.specs.Outside.{Rose};
 ghost use Rattle.http_edge.specs.Exchanges.{IsTarget};
 ghost use Rattle.timed_sessions.specs.Timed.{HasBegun, HoldsTimed, HoldsTimedPart};
 
-use http_edge::{ExchangeFault, Exchanged, Target, exchange};
+use client_line::Line;
+use http_edge::{ExchangeFault, Exchanged, Target};
 use sb_model::{Bytes, Moment, OutOfMemory};
-use sb_outside::{Clock, Kind, Link};
+use sb_outside::Kind;
 use std::alloc::Global;
 use wait_rules::WaitState;
 
@@ -18,20 +19,19 @@ pub struct Talk {
 }
 
 // Begins a session where the clock read this: at once where it may, and else after a wait until the allowed moment.
-fn begin<C: Clock>(clock: &mut C, waits: WaitState, read: Moment) -> Moment
-    requires { C.last clock.old ≡ read.0 }
-    ensures begun { HasBegun waits read (C.answers clock.old) (C.answers clock.new) (C.waits clock.old) (C.waits clock.new) result }
-    ensures last { C.last clock.new ≡ result.0 }
+fn begin<N: Line>(line: &mut N, waits: WaitState, read: Moment) -> Moment
+    requires { (N.view line.old).last ≡ read.0 }
+    ensures { HasBegun waits read (N.view line.old) (N.view line.new) result }
 {
     if waits.may_send(read) {
         return read;
     }
-    clock.wait_until(waits.allowed_at)
+    line.wait_until(waits.allowed_at)
 }
 
 /// Holds a session for this body, from a clock that was read already: at once where it may begin at that reading, and else after a
 /// wait until exactly the allowed moment.
-pub fn hold_session<L: Link, C: Clock>(
+pub fn hold_session<N: Line>(
     alloc: Global,
     waits: WaitState,
     read: Moment,
@@ -39,39 +39,33 @@ pub fn hold_session<L: Link, C: Clock>(
     kind: Kind,
     body: &[u8],
     need_digest: bool,
-    link: &mut L,
-    clock: &mut C,
+    line: &mut N,
 ) -> Result<Talk, OutOfMemory>
-    requires read { C.last clock.old ≡ read.0 }
+    requires read { (N.view line.old).last ≡ read.0 }
     requires target { IsTarget target.now }
 
     // One session, which begins when it may, waits no longer than that, and is read no further than its answer.
     ensures held { IfOk result (λ talk. HoldsTimed waits read target.now kind body.now need_digest
-        (L.log link.old) (L.log link.new) (C.answers clock.old) (C.answers clock.new) (C.waits clock.old) (C.waits clock.new)
-        talk.begun talk.closed talk.answer) }
+        (N.view line.old).told (N.view line.new).told talk) }
     ensures refused { OnErr result (HoldsTimedPart waits read target.now kind body.now
-        (L.log link.old) (L.log link.new) (C.answers clock.old) (C.answers clock.new) (C.waits clock.old) (C.waits clock.new)) }
+        (N.view line.old).told (N.view line.new).told) }
 
-    // The clock's last answer is the moment at which it was closed.
-    ensures last { IfOk result (λ talk. C.last clock.new ≡ talk.closed.0) }
+    // The clock's last reading is the moment at which it was closed.
+    ensures last { IfOk result (λ talk. (N.view line.new).last ≡ talk.closed.0) }
 
     // A fault of the link is counted, and nothing else is.
-    ensures failed { IfOk result (λ talk. IsErrOf talk.answer ExchangeFault.Link → Rose (L.faults link.old) (L.faults link.new)) }
-    ensures kept { IfOk result (λ talk. talk.answer ≢ Err ExchangeFault.Link → L.faults link.new ≡ L.faults link.old) }
-    ensures unmoved { OnErr result (L.faults link.new ≡ L.faults link.old) }
-    ensures counted { L.faults link.old ≤ L.faults link.new }
+    ensures failed { IfOk result (λ talk. IsErrOf talk.answer ExchangeFault.Link
+        → Rose (N.view line.old).faults (N.view line.new).faults) }
+    ensures kept { IfOk result (λ talk. talk.answer ≢ Err ExchangeFault.Link
+        → (N.view line.new).faults ≡ (N.view line.old).faults) }
+    ensures unmoved { OnErr result ((N.view line.new).faults ≡ (N.view line.old).faults) }
+    ensures counted { (N.view line.old).faults ≤ (N.view line.new).faults }
+
+    // The line's objects are the same.
+    ensures same { (N.view line.new).objects ≡ (N.view line.old).objects }
 {
-    let begun = begin(clock, waits, read);
-    let Exchanged { ended, answer } = exchange(
-        alloc,
-        link,
-        clock,
-        begun,
-        target,
-        kind,
-        body,
-        need_digest,
-    )?;
+    let begun = begin(line, waits, read);
+    let Exchanged { ended, answer } = line.exchange(alloc, begun, target, kind, body, need_digest)?;
     Ok(Talk {
         begun,
         closed: ended,

@@ -3,6 +3,7 @@ pub mod Faults
 pub mod Messages
 pub mod Others
 pub mod Ranges
+pub mod ReadAgain
 pub mod Reading
 pub mod RequestRows
 pub mod ResponseRows

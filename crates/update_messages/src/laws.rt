@@ -4,6 +4,12 @@ ghost use Rattle.sb_json.specs.Density.{too_dense};
 ghost use Rattle.update_messages.specs.declared.response.FetchResponse.{FetchResponse};
 ghost use Rattle.update_messages.specs.Messages.{Request};
 ghost use Rattle.update_messages.specs.Others.{IsWithoutOthers};
+ghost use Rattle.update_messages.specs.ReadAgain.{
+  WrittenRequestsRead,
+  WrittenResponsesRead,
+  RequestsNestWithin,
+  ResponsesNestWithin,
+};
 ghost use Rattle.update_messages.specs.Reading.{ReadsRequest, ReadsResponse};
 ghost use Rattle.update_messages.specs.Faults.{fault_of_request, fault_of_response};
 ghost use Rattle.update_messages.specs.Rising.{SentNumbersRise};
@@ -13,6 +19,7 @@ use crate::{
     FetchRequest, FetchResponse, read_request, read_response, write_request, write_response,
 };
 use sb_json::MessageFault;
+use sb_members::{members_are_as_their_values, written_members_read_again};
 use std::alloc::Global;
 
 /// A JSON value reads as at most one request, and as at most one response.
@@ -54,6 +61,18 @@ pub fn written_responses_read_again(
 {
     let text = write_response(alloc, message)?;
     read_response(alloc, text.as_slice())
+}
+
+/// The JSON value that is written of a message in its ranges reads as this message, and does not nest deeply. The message is any
+/// that definitions speak of, and need not be one that a program holds.
+pub fn written_values_read_again()
+    ensures request { WrittenRequestsRead }
+    ensures response { WrittenResponsesRead }
+    ensures request_depth { RequestsNestWithin 5 }
+    ensures response_depth { ResponsesNestWithin 7 }
+{
+    written_members_read_again();
+    members_are_as_their_values();
 }
 
 /// The numbers that an update carries rise: the places of the members that a newer set lacks, and the numbers of prefixes of

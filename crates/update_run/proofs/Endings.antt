@@ -10,8 +10,6 @@ use Rattle.sb_model.specs.declared.names.ListName.{ListName}
 use Rattle.sb_model.specs.Names.{name_cmp, same_name}
 use Rattle.sb_outside.specs.Outside.{appended}
 use Rattle.sb_outside.specs.Writing.{HasFront}
-use Rattle.sb_outside.specs.declared.links.Session.{Session}
-use Rattle.sb_model.specs.declared.time.Moment.{Moment}
 use Rattle.update_messages.specs.Messages.{UpdatedList}
 use Rattle.update_client.specs.Held.{Held, nothing_held, with_name, in_order}
 use Rattle.update_client.specs.Step.{after_update, after_updates, list_step}
@@ -19,7 +17,7 @@ use Rattle.client_store.specs.Reading.{store_reading}
 use Rattle.client_store.specs.Selected.{stored_or_nothing}
 use Rattle.client_store.specs.declared.fault.StoreFault.{StoreFault}
 use Rattle.wait_rules.specs.declared.waits.WaitState.{WaitState}
-use Rattle.timed_sessions.specs.Told.{Outside, outside}
+use Rattle.timed_sessions.specs.Told.{Outside}
 use Rattle.sb_round.specs.Round.{Round}
 use Rattle.sb_round.specs.Rounds.{MakesRounds, body_of}
 use Rattle.sb_round.specs.Run.{lists_after}
@@ -32,7 +30,6 @@ use Rattle.update_run.specs.declared.client.Client.{Client}
 use Rattle.update_run.specs.declared.plan.Plan.{Plan}
 use Rattle.update_run.specs.declared.stop.RunStop.{RunStop}
 use Rattle.update_run.specs.declared.stop.RunStop.TheVariants as stop
-use Rattle.update_run.proofs.Entries.{told_nothing}
 use Rattle.update_run.proofs.Ways.{way_ends, way_longer, front_after, front_of_more}
 
 -- ---- there is a list
@@ -248,16 +245,6 @@ module _ (plan : Plan) (kept : Option (List ℕ)) (waits : WaitState) (before : 
 
 pub same_keeping : (handed handed' : Option (List (List ℕ))) (kept kept' : Option (Option (List ℕ))) → handed ≡ handed' → kept ≡ kept' → keeping handed kept ≡ keeping handed' kept'
 same_keeping handed handed' kept kept' h k = ap (λ x. keeping x kept) h ∙ ap (λ x. keeping handed' x) k
-
--- what a link tells that was not asked
-pub opened_with : (waits : WaitState) (log : Option (List Session)) (answers answers' bidden bidden' : Option (List Moment)) (words words' : Option (List ℕ))
-    → HasOpened waits (outside None answers bidden words) (outside None answers' bidden' words') → HasOpened waits (outside log answers bidden words) (outside log answers' bidden' words')
-opened_with waits log answers answers' bidden bidden' words words' opens = record {
-  start = opens.start;
-  word = opens.word;
-  first = opens.first;
-  told = record { log = told_nothing log; answers = opens.told.answers; waits = opens.told.waits; words = opens.told.words };
-}
 
 client_with : WaitState → List Held → List ℕ → Client
 client_with waits lists page = record { lists = lists; waits = waits; page = page }

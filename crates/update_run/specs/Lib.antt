@@ -4,4 +4,5 @@ pub mod Rounding
 pub mod Run
 pub mod Saved
 pub mod Steps
+pub mod Stepping
 pub mod Stops

@@ -1,3 +1,4 @@
+ghost use Rattle.update_run.specs.Stepping.{GoesOnSaving, StopsAfterSteps};
 ghost use Rattle.update_run.specs.Steps.{BeginsSteps, GoesOnWriting, GoesOnTaking};
 
 use sb_round::rounds_go_on;
@@ -9,6 +10,15 @@ pub fn steps_go_on()
     ensures none { BeginsSteps }
     ensures written { GoesOnWriting }
     ensures one_more { GoesOnTaking }
+{
+    rounds_go_on();
+}
+
+/// What rounds that are taken one by one save with each further one, and where a client stops that stops in the next: after rounds,
+/// as one that takes all of them does.
+pub fn steps_save_and_stop()
+    ensures saved { GoesOnSaving }
+    ensures stopped { StopsAfterSteps }
 {
     rounds_go_on();
 }

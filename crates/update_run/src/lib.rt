@@ -2,11 +2,12 @@
 //! after each round that installed one, and prints what became of all.
 //!
 //! `specs/Opening.antt` has what a run begins with, `Saved` what the keeper is handed, `Printed` the text, `Run` a whole run
-//! and one that stopped, and `Steps` the steps that a run is made of, which can be taken one by one, with the law that they go on.
+//! and one that stopped, `Steps` the steps that a run is made of, which can be taken one by one, with the law that they go on,
+//! and `Stepping` what they save and where they stop.
 #![tactic(auto)]
 
 pub use client::Client;
-pub use laws::steps_go_on;
+pub use laws::{steps_go_on, steps_save_and_stop};
 pub use opening::open_store;
 pub use plan::Plan;
 pub use printing::push_list_line;

@@ -2,15 +2,15 @@ ghost use Rattle.std.specs.Prelude.{◌≡◌, ◌≢◌, ◌≤◌, ◌++◌, �
 ghost use Rattle.client_store.specs.Reading.{store_reading};
 ghost use Rattle.sb_outside.specs.Outside.{Rose};
 ghost use Rattle.update_client.specs.Held.{most_lists};
-ghost use Rattle.timed_sessions.specs.Told.{outside};
 ghost use Rattle.update_run.specs.Opening.{first_lists, HasLoaded, HasOpened};
 ghost use Rattle.update_run.specs.Printed.{ignored_text};
 
 use crate::printing::push_ignored_line;
 use crate::{Client, RunStop};
+use client_line::Line;
 use client_store::{StoreFault, read_store, select};
 use sb_model::{Bytes, ListName, OutOfMemory};
-use sb_outside::{Clock, Dice, Keeper};
+use sb_outside::Keeper;
 use std::alloc::Global;
 use update_client::ClientLists;
 use wait_rules::WaitState;
@@ -86,28 +86,40 @@ fn load_lists<K: Keeper>(
     Ok(lists_of(alloc, names, kept, page)?)
 }
 
+// Reads the clock and draws a word, which say when the first request may be sent.
+fn first_wait<N: Line>(line: &mut N) -> WaitState
+    ensures opened { HasOpened result (N.view line.old).told (N.view line.new).told }
+    ensures no_wait { (N.view line.new).told.waits ≡ (N.view line.old).told.waits }
+    ensures unasked { (N.view line.new).told.log ≡ (N.view line.old).told.log }
+    ensures faults { (N.view line.new).faults ≡ (N.view line.old).faults }
+    ensures same { (N.view line.new).objects ≡ (N.view line.old).objects }
+{
+    let start = line.now();
+    WaitState::first(start, line.word())
+}
+
 /// Begins a client of these lists: loads what the keeper keeps, and then reads the clock and draws a word, which say when the
 /// first request may be sent ("Request Frequency" of the Safe Browsing Update API, version 4).
 ///
 /// Where the text that is kept is no store, the client begins with empty lists, and the line that tells so waits in its page.
 /// After an `Err` the clock was not read and no word was drawn. The output is no cause of one.
-pub fn open_store<K: Keeper, C: Clock, D: Dice>(
+pub fn open_store<K: Keeper, N: Line>(
     alloc: Global,
     names: &[ListName],
     keep: &mut K,
-    clock: &mut C,
-    dice: &mut D,
+    line: &mut N,
 ) -> Result<Client, RunStop>
     requires { length names.now ≤ most_lists }
     ensures loaded { IfOk result (λ client. HasLoaded names.now (K.kept keep.old) client.lists [] client.page) }
 
-    // No link is asked, so that none tells of it.
-    ensures opened { IfOk result (λ client. HasOpened client.waits
-        (outside None (C.answers clock.old) (C.waits clock.old) (D.given dice.old))
-        (outside None (C.answers clock.new) (C.waits clock.new) (D.given dice.new))) }
-    ensures unread { OnErr result (C.answers clock.new ≡ C.answers clock.old) }
-    ensures no_wait { C.waits clock.new ≡ C.waits clock.old }
-    ensures undrawn { OnErr result (D.given dice.new ≡ D.given dice.old) }
+    ensures opened { IfOk result (λ client. HasOpened client.waits (N.view line.old).told (N.view line.new).told) }
+    ensures untouched { OnErr result (N.view line.new ≡ N.view line.old) }
+    ensures no_wait { (N.view line.new).told.waits ≡ (N.view line.old).told.waits }
+
+    // No link is asked.
+    ensures unasked { (N.view line.new).told.log ≡ (N.view line.old).told.log }
+    ensures faults { (N.view line.new).faults ≡ (N.view line.old).faults }
+    ensures same { (N.view line.new).objects ≡ (N.view line.old).objects }
     ensures kept { K.kept keep.new ≡ K.kept keep.old }
     ensures handed { K.handed keep.new ≡ K.handed keep.old }
     ensures no_output { result ≢ Err RunStop.WriteFault }
@@ -121,6 +133,6 @@ pub fn open_store<K: Keeper, C: Clock, D: Dice>(
         Ok(lists) => lists,
         Err(stop) => return Err(stop),
     };
-    let waits = WaitState::first(clock.now(), dice.word());
+    let waits = first_wait(line);
     Ok(Client { lists, waits, page })
 }

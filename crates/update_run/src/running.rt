@@ -3,7 +3,6 @@ ghost use Rattle.std.specs.List.{flat_map};
 ghost use Rattle.http_edge.specs.Exchanges.{IsTarget};
 ghost use Rattle.sb_outside.specs.Outside.{Rose, appended};
 ghost use Rattle.sb_outside.specs.Writing.{HasFront};
-ghost use Rattle.timed_sessions.specs.Told.{outside};
 ghost use Rattle.update_client.specs.Held.{most_lists};
 ghost use Rattle.update_run.specs.Printed.{list_line};
 ghost use Rattle.update_run.specs.Rounding.{EndsFrom};
@@ -14,8 +13,9 @@ use crate::opening::open_store;
 use crate::printing::push_list_line;
 use crate::rounding::all_rounds;
 use crate::{Client, Plan, RunStop};
+use client_line::Line;
 use sb_model::{Bytes, OutOfMemory};
-use sb_outside::{Clock, Dice, Gate, Keeper, Link, Sink, flush};
+use sb_outside::{Gate, Keeper, Sink, flush};
 use std::alloc::Global;
 use update_client::HeldList;
 
@@ -47,30 +47,27 @@ fn finish<O: Sink>(lists: &[HeldList], out: &mut O, page: &mut Bytes) -> Result<
 }
 
 /// Makes the rounds of a client, and tells of its lists.
-fn run_opened<O: Sink, K: Keeper, L: Link, C: Clock, D: Dice, G: Gate>(
+fn run_opened<O: Sink, K: Keeper, N: Line, G: Gate>(
     alloc: Global,
     plan: &Plan,
     client: &mut Client,
     out: &mut O,
     keep: &mut K,
-    link: &mut L,
-    clock: &mut C,
-    dice: &mut D,
+    line: &mut N,
     gate: &G,
 ) -> Result<bool, RunStop>
     requires some { 0 < length client.old.lists }
     requires target { IsTarget plan.now.target }
     ensures ends { EndsFrom plan.now result client.old
-        (seen (outside (L.log link.old) (C.answers clock.old) (C.waits clock.old) (D.given dice.old))
-        (keeping (K.handed keep.old) (K.kept keep.old)) (O.contents out.old))
-        (seen (outside (L.log link.new) (C.answers clock.new) (C.waits clock.new) (D.given dice.new))
-        (keeping (K.handed keep.new) (K.kept keep.new)) (O.contents out.new)) }
+        (seen (N.view line.old).told (keeping (K.handed keep.old) (K.kept keep.old)) (O.contents out.old))
+        (seen (N.view line.new).told (keeping (K.handed keep.new) (K.kept keep.new)) (O.contents out.new)) }
     ensures output_failed { IsErrOf result RunStop.WriteFault → Rose (O.faults out.old) (O.faults out.new) }
     ensures output_kept { result ≢ Err RunStop.WriteFault → O.faults out.new ≡ O.faults out.old }
     ensures keeper_failed { IsErrOf result RunStop.KeepFault → Rose (K.faults keep.old) (K.faults keep.new) }
     ensures keeper_kept { result ≢ Err RunStop.KeepFault → K.faults keep.new ≡ K.faults keep.old }
+    ensures same { (N.view line.new).objects ≡ (N.view line.old).objects }
 {
-    match all_rounds(alloc, plan, client, out, keep, link, clock, dice, gate) {
+    match all_rounds(alloc, plan, client, out, keep, line, gate) {
         Ok(refused) => match finish(client.lists.lists(), out, &mut client.page) {
             Ok(()) => Ok(refused),
             Err(stop) => Err(stop),
@@ -88,14 +85,12 @@ fn run_opened<O: Sink, K: Keeper, L: Link, C: Clock, D: Dice, G: Gate>(
 /// rounds are left writes no line of a list.
 ///
 /// The steps are public too: `open_store`, and for each round `write_page` and `take_round`.
-pub fn run<O: Sink, K: Keeper, L: Link, C: Clock, D: Dice, G: Gate>(
+pub fn run<O: Sink, K: Keeper, N: Line, G: Gate>(
     alloc: Global,
     plan: &Plan,
     out: &mut O,
     keep: &mut K,
-    link: &mut L,
-    clock: &mut C,
-    dice: &mut D,
+    line: &mut N,
     gate: &G,
 ) -> Result<bool, RunStop>
     requires some { 0 < length plan.now.names }
@@ -104,20 +99,21 @@ pub fn run<O: Sink, K: Keeper, L: Link, C: Clock, D: Dice, G: Gate>(
 
     // It came to its end, or stopped for its reason.
     ensures ends { EndsRun plan.now result
-        (seen (outside (L.log link.old) (C.answers clock.old) (C.waits clock.old) (D.given dice.old))
-        (keeping (K.handed keep.old) (K.kept keep.old)) (O.contents out.old))
-        (seen (outside (L.log link.new) (C.answers clock.new) (C.waits clock.new) (D.given dice.new))
-        (keeping (K.handed keep.new) (K.kept keep.new)) (O.contents out.new)) }
+        (seen (N.view line.old).told (keeping (K.handed keep.old) (K.kept keep.old)) (O.contents out.old))
+        (seen (N.view line.new).told (keeping (K.handed keep.new) (K.kept keep.new)) (O.contents out.new)) }
 
     // A fault is counted, and nothing else is.
     ensures output_failed { IsErrOf result RunStop.WriteFault → Rose (O.faults out.old) (O.faults out.new) }
     ensures output_kept { result ≢ Err RunStop.WriteFault → O.faults out.new ≡ O.faults out.old }
     ensures keeper_failed { IsErrOf result RunStop.KeepFault → Rose (K.faults keep.old) (K.faults keep.new) }
     ensures keeper_kept { result ≢ Err RunStop.KeepFault → K.faults keep.new ≡ K.faults keep.old }
+
+    // The line's objects are the same.
+    ensures same { (N.view line.new).objects ≡ (N.view line.old).objects }
 {
-    let mut client = match open_store(alloc, plan.names.as_slice(), keep, clock, dice) {
+    let mut client = match open_store(alloc, plan.names.as_slice(), keep, line) {
         Ok(client) => client,
         Err(stop) => return Err(stop),
     };
-    run_opened(alloc, plan, &mut client, out, keep, link, clock, dice, gate)
+    run_opened(alloc, plan, &mut client, out, keep, line, gate)
 }

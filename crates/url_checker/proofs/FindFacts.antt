@@ -1,23 +1,23 @@
 -- What the steps of a find come to together.
-use Rattle.std.proofs.Common.{◌≡◌, ℕ, List, Bool, Option, Result, Ok, Err, sym, ap, subst, ◌∙◌, inr}
+use Rattle.std.proofs.Common.{◌≡◌, ℕ, List, Bool, Result, Ok, Err, sym, ap, subst, ◌∙◌, inr}
 use Rattle.std.specs.Prelude.{◌≢◌, IfOk, OnOk, OnErr}
-use Rattle.sb_model.specs.declared.names.ListName.{ListName}
 use Rattle.sb_model.specs.declared.time.Moment.{Moment}
 use Rattle.sb_model.specs.declared.memory.OutOfMemory.{OutOfMemory}
-use Rattle.sb_outside.specs.Outside.{Rose}
-use Rattle.sb_outside.specs.declared.links.Session.{Session}
+use Rattle.sb_outside.specs.Outside.{Rose, IfTold}
 use Rattle.full_hash_cache.specs.Cache.{Pairs}
 use Rattle.hash_messages.specs.Messages.{AskedHashes}
-use Rattle.hash_messages.specs.declared.response.FindResponse.{FindResponse}
 use Rattle.http_edge.specs.declared.faults.ExchangeFault.TheVariants.{Link}
 use Rattle.http_edge.specs.declared.messages.Target.{Target}
 use Rattle.wait_rules.specs.declared.waits.WaitState.{WaitState}
-use Rattle.timed_sessions.specs.Waiting.{HasSettled}
-use Rattle.verdict_report.specs.declared.verdicts.Cause.{Cause}
+use Rattle.client_line.specs.Lines.{LineView, Draws}
+use Rattle.timed_sessions.specs.Told.{Outside, Grows, with_more}
+use Rattle.timed_sessions.specs.Timed.{TimedSession, IsTold, trace_after}
+use Rattle.timed_sessions.specs.Waiting.{HasSettled, words_of}
 use Rattle.verdict_report.specs.declared.verdicts.Cause.TheVariants.{Exchange}
 use Rattle.verdict_report.specs.declared.verdicts.Verdict.{Verdict}
 use Rattle.url_checker.specs.declared.findings.Hit.{Hit}
-use Rattle.url_checker.specs.declared.looking.Looked.{Looked}
+use Rattle.url_checker.specs.declared.asking.Answered.{Answered}
+use Rattle.url_checker.specs.declared.looking.Looks.{Looks}
 use Rattle.url_checker.specs.Resolving.{lists_hit, find_asked, kept_by, bids_of, body_of, body_asked}
 use Rattle.url_checker.specs.Looking.{HasAsked, StopsAsking, MakesFind, verdict_after}
 
@@ -25,20 +25,30 @@ pub on_err : {A E : Type 0} (P : Type 0) (r : Result A E) → P → OnErr r P
 on_err P (Ok a) p = tt
 on_err P (Err e) p = p
 
-module _ (states : List (List ℕ)) (target : Target) (need : Bool) (now : Moment) (asked : List Hit) (told : List ListName) (looked : List Looked) (pairs pairs' : Pairs) (waits waits' : WaitState) (log log' : Option (List Session)) (answers answers' bidden bidden' : Option (List Moment)) (words words' : Option (List ℕ)) (faults faults' : ℕ) where
+-- what is told of a session, and then the words that are drawn
+told_of_find : (waits : WaitState) (session : TimedSession) (before between after : LineView) (drawn : List ℕ)
+    → IsTold waits session before.told between.told → Draws drawn between after → Grows before.told after.told (trace_after waits session drawn)
+told_of_find waits session before between after drawn told draws = record {
+  log = rw draws.log told.logged;
+  answers = rw draws.answers told.answered;
+  waits = rw draws.waits told.bade;
+  words = subst (λ words. IfTold after.told.words (with_more words drawn)) told.undrawn draws.drawn;
+}
+
+module _ (states : List (List ℕ)) (target : Target) (need : Bool) (now : Moment) (looks : Looks) (pairs pairs' : Pairs) (waits waits' : WaitState) (before between after : LineView) where
   -- a session that was held, and that was then ended
-  pub made : (request : AskedHashes) (closed : Moment) (answer : Result FindResponse Cause) (verdict : Verdict) → request ≡ find_asked states asked
-      → HasAsked waits now target (body_of request) need log log' answers answers' bidden bidden' closed answer
-      → HasSettled waits waits' closed (bids_of answer) words words'
-      → pairs' ≡ kept_by closed (lists_hit asked) request answer pairs
-      → verdict ≡ verdict_after told looked answer
-      → (answer ≡ Err (Exchange Link) → Rose faults faults') → (answer ≢ Err (Exchange Link) → faults' ≡ faults)
-      → MakesFind states target need now asked told looked pairs pairs' waits waits' log log' answers answers' bidden bidden' words words' faults faults' verdict
-  made request closed answer verdict same held settled kept by failed stays =
-      let it : HasAsked waits now target (body_asked states asked) need log log' answers answers' bidden bidden' closed answer =
-      subst (λ (text : AskedHashes). HasAsked waits now target (body_of text) need log log' answers answers' bidden bidden' closed answer) same held in
+  pub made : (request : AskedHashes) (answered : Answered) (verdict : Verdict) → request ≡ find_asked states looks.asked
+      → HasAsked waits now target (body_of request) need before.told between.told answered
+      → HasSettled waits waits' answered.closed (bids_of answered.answer) between after
+      → pairs' ≡ kept_by answered.closed (lists_hit looks.asked) request answered.answer pairs
+      → verdict ≡ verdict_after looks.told looks.looked answered.answer
+      → (answered.answer ≡ Err (Exchange Link) → Rose before.faults between.faults) → (answered.answer ≢ Err (Exchange Link) → between.faults ≡ before.faults)
+      → MakesFind states target need now looks pairs pairs' waits waits' before after verdict
+  made request answered verdict same held settled kept by failed stays =
+      let it : HasAsked waits now target (body_asked states looks.asked) need before.told between.told answered =
+      subst (λ (text : AskedHashes). HasAsked waits now target (body_of text) need before.told between.told answered) same held in
       record {
-        talk = record { session = it.holds.session; answer = answer; word = settled.word };
+        talk = record { session = it.holds.session; answer = answered.answer; word = settled.word };
         is = record {
           session = it.holds.is;
           outcome = it.outcome;
@@ -47,37 +57,39 @@ module _ (states : List (List ℕ)) (target : Target) (need : Bool) (now : Momen
           drawn = settled.drawn;
           reading = it.holds.reading;
         };
-        seen = it.holds.told;
-        drawn = settled.told;
-        pairs_are = kept ∙ ap (λ (text : AskedHashes). kept_by closed (lists_hit asked) text answer pairs) same
-            ∙ ap (λ (at : Moment). kept_by at (lists_hit asked) (find_asked states asked) answer pairs) (sym it.holds.closes);
+        told = told_of_find waits it.holds.session before between after (words_of settled.word) it.holds.told settled.told;
+        pairs_are = kept ∙ ap (λ (text : AskedHashes). kept_by answered.closed (lists_hit looks.asked) text answered.answer pairs) same
+            ∙ ap (λ (at : Moment). kept_by at (lists_hit looks.asked) (find_asked states looks.asked) answered.answer pairs) (sym it.holds.closes);
         waits_are = rw it.holds.closes settled.leaves;
         verdict_is = by;
-        failed = failed;
-        kept = stays;
+        failed = λ fails. rw settled.told.faults (failed fails);
+        kept = λ passes. settled.told.faults ∙ stays passes;
       }
 
-  pub made_if : (request : AskedHashes) (closed : Moment) (answer : Result FindResponse Cause) (result : Result Verdict OutOfMemory) → request ≡ find_asked states asked
-      → HasAsked waits now target (body_of request) need log log' answers answers' bidden bidden' closed answer
-      → OnOk result (HasSettled waits waits' closed (bids_of answer) words words')
-      → OnOk result (pairs' ≡ kept_by closed (lists_hit asked) request answer pairs)
-      → IfOk result (λ verdict. verdict ≡ verdict_after told looked answer)
-      → (answer ≡ Err (Exchange Link) → Rose faults faults') → (answer ≢ Err (Exchange Link) → faults' ≡ faults)
-      → IfOk result (MakesFind states target need now asked told looked pairs pairs' waits waits' log log' answers answers' bidden bidden' words words' faults faults')
-  made_if request closed answer (Ok verdict) same held settled kept by failed stays = made request closed answer verdict same held settled kept by failed stays
-  made_if request closed answer (Err refused) same held settled kept by failed stays = tt
+  pub made_if : (request : AskedHashes) (answered : Answered) (result : Result Verdict OutOfMemory) → request ≡ find_asked states looks.asked
+      → HasAsked waits now target (body_of request) need before.told between.told answered
+      → OnOk result (HasSettled waits waits' answered.closed (bids_of answered.answer) between after)
+      → OnOk result (pairs' ≡ kept_by answered.closed (lists_hit looks.asked) request answered.answer pairs)
+      → IfOk result (λ verdict. verdict ≡ verdict_after looks.told looks.looked answered.answer)
+      → (answered.answer ≡ Err (Exchange Link) → Rose before.faults between.faults) → (answered.answer ≢ Err (Exchange Link) → between.faults ≡ before.faults)
+      → IfOk result (MakesFind states target need now looks pairs pairs' waits waits' before after)
+  made_if request answered (Ok verdict) same held settled kept by failed stays = made request answered verdict same held settled kept by failed stays
+  made_if request answered (Err refused) same held settled kept by failed stays = tt
 
-  -- a session that was held, of which no more is said
-  pub stopped_after : (request : AskedHashes) (closed : Moment) (answer : Result FindResponse Cause) → request ≡ find_asked states asked
-      → HasAsked waits now target (body_of request) need log log' answers answers' bidden bidden' closed answer
-      → StopsAsking waits now target (body_asked states asked) log log' answers answers' bidden bidden'
-  stopped_after request closed answer same held =
-      let it : HasAsked waits now target (body_asked states asked) need log log' answers answers' bidden bidden' closed answer =
-      subst (λ (text : AskedHashes). HasAsked waits now target (body_of text) need log log' answers answers' bidden bidden' closed answer) same held in
-      inr (record { session = it.holds.session; is = it.holds.is; told = it.holds.told; reading = it.holds.reading })
+-- a session that was held, of which no more is said
+pub stopped_after : (states : List (List ℕ)) (target : Target) (need : Bool) (now : Moment) (asked : List Hit) (waits : WaitState) (before : Outside) (between after : LineView) (request : AskedHashes) (answered : Answered) (result : Result Verdict OutOfMemory) → request ≡ find_asked states asked
+    → HasAsked waits now target (body_of request) need before between.told answered
+    → OnErr result (after ≡ between)
+    → OnErr result (StopsAsking waits now target (body_asked states asked) before after.told)
+stopped_after states target need now asked waits before between after request answered (Ok verdict) same held untouched = tt
+stopped_after states target need now asked waits before between after request answered (Err refused) same held untouched =
+    let it : HasAsked waits now target (body_asked states asked) need before between.told answered =
+    subst (λ (text : AskedHashes). HasAsked waits now target (body_of text) need before between.told answered) same held in
+    subst (λ (last : LineView). StopsAsking waits now target (body_asked states asked) before last.told) (sym untouched)
+    (inr (record { session = it.holds.session; is = it.holds.is; told = it.holds.told; reading = it.holds.reading }))
 
-  pub stopped_for : (request : AskedHashes) → request ≡ find_asked states asked
-      → StopsAsking waits now target (body_of request) log log' answers answers' bidden bidden'
-      → StopsAsking waits now target (body_asked states asked) log log' answers answers' bidden bidden'
-  stopped_for request same stops =
-      subst (λ (text : AskedHashes). StopsAsking waits now target (body_of text) log log' answers answers' bidden bidden') same stops
+pub stopped_for : (states : List (List ℕ)) (target : Target) (now : Moment) (asked : List Hit) (waits : WaitState) (before after : Outside) (request : AskedHashes) → request ≡ find_asked states asked
+    → StopsAsking waits now target (body_of request) before after
+    → StopsAsking waits now target (body_asked states asked) before after
+stopped_for states target now asked waits before after request same stops =
+    subst (λ (text : AskedHashes). StopsAsking waits now target (body_of text) before after) same stops

@@ -6,20 +6,21 @@ use Rattle.std.proofs.lemmas.List.{append-nil}
 use Rattle.sb_model.specs.declared.names.ListName.{ListName}
 use Rattle.sb_model.specs.declared.time.Moment.{Moment}
 use Rattle.sb_model.specs.declared.memory.OutOfMemory.{OutOfMemory}
-use Rattle.sb_outside.specs.Outside.{IfTold, with_entry}
-use Rattle.sb_outside.specs.declared.links.Session.{Session}
+use Rattle.sb_outside.specs.Outside.{IfTold, Rose, with_entry}
 use Rattle.full_hash_cache.specs.Cache.{Pairs}
 use Rattle.hash_messages.specs.declared.response.FindResponse.{FindResponse}
 use Rattle.http_edge.specs.declared.messages.Target.{Target}
 use Rattle.wait_rules.specs.declared.waits.WaitState.{WaitState}
-use Rattle.timed_sessions.specs.Told.{Grows, outside, with_more}
-use Rattle.timed_sessions.specs.Timed.{TimedSession, IsTold, moments_after, trace_of}
+use Rattle.client_line.specs.Lines.{LineView, ReadsClock}
+use Rattle.timed_sessions.specs.Told.{Outside, Grows, with_more}
+use Rattle.timed_sessions.specs.Timed.{TimedSession, IsTold, moments_after, waits_from, trace_of, trace_after}
 use Rattle.timed_sessions.specs.Waiting.{words_of}
 use Rattle.verdict_report.specs.declared.verdicts.Cause.{Cause}
 use Rattle.verdict_report.specs.declared.verdicts.Cause.TheVariants.{NotBefore}
 use Rattle.verdict_report.specs.declared.verdicts.Verdict.{Verdict}
 use Rattle.url_checker.specs.declared.findings.Hit.{Hit}
 use Rattle.url_checker.specs.declared.looking.Looked.{Looked}
+use Rattle.url_checker.specs.declared.looking.Looks.{Looks}
 use Rattle.url_checker.specs.Resolving.{lists_hit, find_asked, kept_by, is_any, makes_find, hits_asked, unsafe_lists, cause_of, verdict_from, verdict_by, looked_up_pairs, trace_of_reading, IsFindTalk, body_asked}
 use Rattle.url_checker.specs.Looking.{looked_of, unsafe_in, verdict_after, MakesFind, StopsAsking}
 use Rattle.url_checker.specs.Resolved.{Resolves, StopsResolving, HoldsFindSession}
@@ -41,25 +42,38 @@ told_nothing : {A : Type 0} (a : Option (List A)) → IfTold a (with_more a [])
 told_nothing None = tt
 told_nothing (Some items) = ap (λ all. Some all) (append-nil items)
 
+-- what is told as before
+told_same : {A : Type 0} (a b : Option (List A)) → b ≡ a → IfTold b (with_more a [])
+told_same a b same = rw same (told_nothing a)
+
 -- the clock's reading alone
-pub read_only : (log : Option (List Session)) (a b v w : Option (List Moment)) (words : Option (List ℕ)) (now : Moment) → IfTold b (with_entry a now) → w ≡ v
-    → Grows (outside log a v words) (outside log b w words) (trace_of_reading now)
-read_only log a b v w words now read same = record {
-  log = told_nothing log;
-  answers = read;
-  waits = rw same (told_nothing v);
-  words = told_nothing words;
+pub read_only : (before after : LineView) (now : Moment) → ReadsClock now before after → Grows before.told after.told (trace_of_reading now)
+read_only before after now read = record {
+  log = told_same before.told.log after.told.log read.others.log;
+  answers = read.read;
+  waits = told_same before.told.waits after.told.waits read.waits;
+  words = told_same before.told.words after.told.words read.others.words;
 }
 
 -- the clock's reading, and then what is told of a session
-read_and_held : (waits : WaitState) (session : TimedSession) (log log' : Option (List Session)) (a b c v w u : Option (List Moment)) (words words' : Option (List ℕ)) (drawn : List ℕ) (now : Moment)
-    → session.read ≡ now → IfTold b (with_entry a now) → w ≡ v → IsTold waits session log log' b c w u → IfTold words' (with_more words drawn)
-    → Grows (outside log a v words) (outside log' c u words') (trace_of waits session drawn)
-read_and_held waits session log log' a b c v w u words words' drawn now reading read same told more = record {
+pub read_and_held : (waits : WaitState) (session : TimedSession) (before between : LineView) (after : Outside) (drawn : List ℕ) (now : Moment)
+    → session.read ≡ now → ReadsClock now before between → Grows between.told after (trace_after waits session drawn)
+    → Grows before.told after (trace_of waits session drawn)
+read_and_held waits session before between after drawn now reading read told = record {
+  log = subst (λ log. IfTold after.log (with_more log (session.entry ∷ []))) read.others.log told.log;
+  answers = told_after before.told.answers between.told.answers after.answers session.read (moments_after waits session) (subst (λ (moment : Moment). IfTold between.told.answers (with_entry before.told.answers moment)) (sym reading) read.read) told.answers;
+  waits = subst (λ bidden. IfTold after.waits (with_more bidden (waits_from waits session.read))) read.waits told.waits;
+  words = subst (λ words. IfTold after.words (with_more words drawn)) read.others.words told.words;
+}
+
+-- a session of which no word was drawn
+pub nothing_drawn : (waits : WaitState) (session : TimedSession) (before after : Outside)
+    → IsTold waits session before after → Grows before after (trace_after waits session [])
+nothing_drawn waits session before after told = record {
   log = told.logged;
-  answers = told_after a b c session.read (moments_after waits session) (subst (λ (moment : Moment). IfTold b (with_entry a moment)) (sym reading) read) told.answered;
-  waits = rw (← same) told.bade;
-  words = more;
+  answers = told.answered;
+  waits = told.bade;
+  words = told_same before.words after.words told.undrawn;
 }
 
 -- ---- the verdict
@@ -83,14 +97,14 @@ verdict_is pairs now hits told looked (Err cause) names are some =
 
 -- ---- the resolution
 
-module _ (states : List (List ℕ)) (patience : ℕ) (target : Target) (need : Bool) (hits : List Hit) (pairs : Pairs) (waits : WaitState) (now : Moment) (a b v w : Option (List Moment)) (read : IfTold b (with_entry a now)) (same : w ≡ v) where
+module _ (states : List (List ℕ)) (patience : ℕ) (target : Target) (need : Bool) (hits : List Hit) (pairs : Pairs) (waits : WaitState) (now : Moment) (before between : LineView) (read : ReadsClock now before between) where
   -- with a find
-  pub resolved : (asked : List Hit) (told : List ListName) (looked : List Looked) (between pairs' : Pairs) (waits' : WaitState) (log log' : Option (List Session)) (c u : Option (List Moment)) (words words' : Option (List ℕ)) (faults faults' : ℕ) (verdict : Verdict)
-      → asked ≡ hits_asked pairs now hits → told ≡ unsafe_lists pairs now None hits → looked ≡ map (looked_of pairs now) hits → between ≡ looked_up_pairs pairs hits
-      → makes_find waits patience now asked ≡ true
-      → MakesFind states target need now asked told looked between pairs' waits waits' log log' b c w u words words' faults faults' verdict
-      → Resolves states patience target need hits pairs pairs' waits waits' (outside log a v words) (outside log' c u words') faults faults' verdict
-  resolved asked told looked between pairs' waits' log log' c u words words' faults faults' verdict asks names are looks in_reach found =
+  pub resolved : (looks : Looks) (looked pairs' : Pairs) (waits' : WaitState) (after : LineView) (verdict : Verdict)
+      → looks.asked ≡ hits_asked pairs now hits → looks.told ≡ unsafe_lists pairs now None hits → looks.looked ≡ map (looked_of pairs now) hits → looked ≡ looked_up_pairs pairs hits
+      → makes_find waits patience now looks.asked ≡ true
+      → MakesFind states target need now looks looked pairs' waits waits' between after verdict
+      → Resolves states patience target need hits pairs pairs' waits waits' before.told after.told before.faults after.faults verdict
+  resolved looks looked pairs' waits' after verdict asks names are looks_up in_reach found =
       let can : makes_find waits patience now (hits_asked pairs now hits) ≡ true = ap (makes_find waits patience now) (sym asks) ∙ in_reach in
       record {
         resolution = record { now = now; talk = Some found.talk };
@@ -98,70 +112,70 @@ module _ (states : List (List ℕ)) (patience : ℕ) (target : Target) (need : B
           asks = sym can;
           talks = subst (λ (all : List Hit). IsFindTalk states target need waits all now found.talk) asks found.is;
         };
-        told = read_and_held waits found.talk.session log log' a b c v w u words words' (words_of found.talk.word) now found.is.reading read same found.seen found.drawn;
+        told = read_and_held waits found.talk.session before between after.told (words_of found.talk.word) now found.is.reading read found.told;
         pairs_are = found.pairs_are
-            ∙ ap (λ (all : List Hit). kept_by found.talk.session.closed (lists_hit all) (find_asked states all) found.talk.answer between) asks
-            ∙ ap (kept_by found.talk.session.closed (lists_hit (hits_asked pairs now hits)) (find_asked states (hits_asked pairs now hits)) found.talk.answer) looks;
+            ∙ ap (λ (all : List Hit). kept_by found.talk.session.closed (lists_hit all) (find_asked states all) found.talk.answer looked) asks
+            ∙ ap (kept_by found.talk.session.closed (lists_hit (hits_asked pairs now hits)) (find_asked states (hits_asked pairs now hits)) found.talk.answer) looks_up;
         waits_are = found.waits_are;
-        verdict_is = found.verdict_is ∙ verdict_is pairs now hits told looked found.talk.answer names are (some_hit waits patience now (hits_asked pairs now hits) can);
-        failed = found.failed;
-        kept = found.kept;
+        verdict_is = found.verdict_is ∙ verdict_is pairs now hits looks.told looks.looked found.talk.answer names are (some_hit waits patience now (hits_asked pairs now hits) can);
+        failed = λ fails. subst (λ faults. Rose faults after.faults) read.others.faults (found.failed fails);
+        kept = λ passes. found.kept passes ∙ read.others.faults;
       }
 
-  pub resolved_if : (asked : List Hit) (told : List ListName) (looked : List Looked) (between pairs' : Pairs) (waits' : WaitState) (log log' : Option (List Session)) (c u : Option (List Moment)) (words words' : Option (List ℕ)) (faults faults' : ℕ) (result : Result Verdict OutOfMemory)
-      → asked ≡ hits_asked pairs now hits → told ≡ unsafe_lists pairs now None hits → looked ≡ map (looked_of pairs now) hits → between ≡ looked_up_pairs pairs hits
-      → makes_find waits patience now asked ≡ true
-      → IfOk result (MakesFind states target need now asked told looked between pairs' waits waits' log log' b c w u words words' faults faults')
-      → IfOk result (Resolves states patience target need hits pairs pairs' waits waits' (outside log a v words) (outside log' c u words') faults faults')
-  resolved_if asked told looked between pairs' waits' log log' c u words words' faults faults' (Ok verdict) asks names are looks in_reach found =
-      resolved asked told looked between pairs' waits' log log' c u words words' faults faults' verdict asks names are looks in_reach found
-  resolved_if asked told looked between pairs' waits' log log' c u words words' faults faults' (Err refused) asks names are looks in_reach found = tt
+  pub resolved_if : (looks : Looks) (looked pairs' : Pairs) (waits' : WaitState) (after : LineView) (result : Result Verdict OutOfMemory)
+      → looks.asked ≡ hits_asked pairs now hits → looks.told ≡ unsafe_lists pairs now None hits → looks.looked ≡ map (looked_of pairs now) hits → looked ≡ looked_up_pairs pairs hits
+      → makes_find waits patience now looks.asked ≡ true
+      → IfOk result (MakesFind states target need now looks looked pairs' waits waits' between after)
+      → IfOk result (Resolves states patience target need hits pairs pairs' waits waits' before.told after.told before.faults after.faults)
+  resolved_if looks looked pairs' waits' after (Ok verdict) asks names are looks_up in_reach found =
+      resolved looks looked pairs' waits' after verdict asks names are looks_up in_reach found
+  resolved_if looks looked pairs' waits' after (Err refused) asks names are looks_up in_reach found = tt
 
   -- without one
-  pub unasked : (asked : List Hit) (told : List ListName) (between : Pairs) (log : Option (List Session)) (words : Option (List ℕ)) (faults : ℕ) (verdict : Verdict)
-      → asked ≡ hits_asked pairs now hits → told ≡ unsafe_lists pairs now None hits → between ≡ looked_up_pairs pairs hits → makes_find waits patience now asked ≡ false
+  pub unasked : (asked : List Hit) (told : List ListName) (looked : Pairs) (verdict : Verdict)
+      → asked ≡ hits_asked pairs now hits → told ≡ unsafe_lists pairs now None hits → looked ≡ looked_up_pairs pairs hits → makes_find waits patience now asked ≡ false
       → verdict ≡ verdict_from told (cause_of (Err (NotBefore waits.allowed_at)) asked)
-      → Resolves states patience target need hits pairs between waits waits (outside log a v words) (outside log b w words) faults faults verdict
-  unasked asked told between log words faults verdict asks names looks not_made by = record {
+      → Resolves states patience target need hits pairs looked waits waits before.told between.told before.faults between.faults verdict
+  unasked asked told looked verdict asks names looks not_made by = record {
     resolution = record { now = now; talk = None };
     is = record {
       asks = sym (ap (makes_find waits patience now) (sym asks) ∙ not_made);
       talks = tt;
     };
-    told = read_only log a b v w words now read same;
+    told = read_only before between now read;
     pairs_are = looks;
     waits_are = refl;
     verdict_is = by
         ∙ ap (λ (all : List ListName). verdict_from all (cause_of (Err (NotBefore waits.allowed_at)) asked)) names
         ∙ ap (λ (all : List Hit). verdict_from (unsafe_lists pairs now None hits) (cause_of (Err (NotBefore waits.allowed_at)) all)) asks;
     failed = λ h. cc h;
-    kept = λ h. refl;
+    kept = λ h. read.others.faults;
   }
 
   -- broken off before a find
-  pub broken_off : (log : Option (List Session)) (words : Option (List ℕ)) → StopsResolving states target hits pairs waits (outside log a v words) (outside log b w words)
-  broken_off log words = record { now = now; told = inl (read_only log a b v w words now read same) }
+  pub broken_off : StopsResolving states target hits pairs waits before.told between.told
+  broken_off = record { now = now; told = inl (read_only before between now read) }
 
   -- and in it
-  pub broken_in_find : (asked : List Hit) (log log' : Option (List Session)) (c u : Option (List Moment)) (words words' : Option (List ℕ)) → asked ≡ hits_asked pairs now hits → words' ≡ words
-      → StopsAsking waits now target (body_asked states asked) log log' b c w u
-      → StopsResolving states target hits pairs waits (outside log a v words) (outside log' c u words')
-  broken_in_find asked log log' c u words words' asks undrawn (inl nothing) = record {
+  pub broken_in_find : (asked : List Hit) (after : Outside) → asked ≡ hits_asked pairs now hits
+      → StopsAsking waits now target (body_asked states asked) between.told after
+      → StopsResolving states target hits pairs waits before.told after
+  broken_in_find asked after asks (inl nothing) = record {
     now = now;
-    told = inl (rw nothing.log_stays (rw nothing.answers_stay (rw nothing.waits_stay (rw undrawn (read_only log a b v w words now read same)))));
+    told = inl (subst (λ told. Grows before.told told (trace_of_reading now)) (sym nothing) (read_only before between now read));
   }
-  broken_in_find asked log log' c u words words' asks undrawn (inr held) = record {
+  broken_in_find asked after asks (inr held) = record {
     now = now;
-    told = inr (subst (λ (all : List Hit). HoldsFindSession waits target (body_asked states all) now (outside log a v words) (outside log' c u words')) asks (record {
+    told = inr (subst (λ (all : List Hit). HoldsFindSession waits target (body_asked states all) now before.told after) asks (record {
       session = held.session;
       is = held.is;
       reading = held.reading;
-      told = read_and_held waits held.session log log' a b c v w u words words' [] now held.reading read same held.told (rw undrawn (told_nothing words));
+      told = read_and_held waits held.session before between after [] now held.reading read (nothing_drawn waits held.session between.told after held.told);
     }));
   }
 
-  pub broken_if : (asked : List Hit) (log log' : Option (List Session)) (c u : Option (List Moment)) (words words' : Option (List ℕ)) (result : Result Verdict OutOfMemory) → asked ≡ hits_asked pairs now hits → OnErr result (words' ≡ words)
-      → OnErr result (StopsAsking waits now target (body_asked states asked) log log' b c w u)
-      → OnErr result (StopsResolving states target hits pairs waits (outside log a v words) (outside log' c u words'))
-  broken_if asked log log' c u words words' (Ok verdict) asks undrawn stops = tt
-  broken_if asked log log' c u words words' (Err refused) asks undrawn stops = broken_in_find asked log log' c u words words' asks undrawn stops
+  pub broken_if : (asked : List Hit) (after : Outside) (result : Result Verdict OutOfMemory) → asked ≡ hits_asked pairs now hits
+      → OnErr result (StopsAsking waits now target (body_asked states asked) between.told after)
+      → OnErr result (StopsResolving states target hits pairs waits before.told after)
+  broken_if asked after (Ok verdict) asks stops = tt
+  broken_if asked after (Err refused) asks stops = broken_in_find asked after asks stops

@@ -4,24 +4,25 @@ use Rattle.std.specs.Prelude.{◌≡◌, ◌≢◌, ℕ, ◌⊎◌, Bool, List, 
 use Rattle.sb_model.specs.declared.names.ListName.{ListName}
 use Rattle.sb_model.specs.declared.time.Moment.{Moment}
 use Rattle.sb_outside.specs.declared.links.Kind.TheVariants.{Find}
-use Rattle.sb_outside.specs.declared.links.Session.{Session}
 use Rattle.full_hash_cache.specs.Cache.{Pairs}
 use Rattle.hash_messages.specs.declared.response.FindResponse.{FindResponse}
 use Rattle.http_edge.specs.declared.faults.ExchangeFault.{ExchangeFault}
 use Rattle.http_edge.specs.declared.messages.Target.{Target}
 use Rattle.wait_rules.specs.declared.waits.WaitState.{WaitState}
-use Rattle.timed_sessions.specs.Timed.{HoldsTimed, HoldsTimedPart}
+use Rattle.timed_sessions.specs.Timed.{HoldsTimed, HoldsTimedPart, trace_after}
 use Rattle.verdict_report.specs.declared.verdicts.Cause.{Cause}
 use Rattle.http_edge.specs.declared.faults.ExchangeFault.TheVariants.{Link}
-use Rattle.sb_outside.specs.Outside.{Rose, IfTold}
-use Rattle.timed_sessions.specs.Told.{with_more}
-use Rattle.timed_sessions.specs.Timed.{IsTold}
+use Rattle.sb_outside.specs.Outside.{Rose}
+use Rattle.client_line.specs.Lines.{LineView}
+use Rattle.timed_sessions.specs.Told.{Outside, Grows}
 use Rattle.timed_sessions.specs.Waiting.{words_of, waits_after}
 use Rattle.verdict_report.specs.declared.verdicts.Cause.TheVariants.{Exchange}
 use Rattle.verdict_report.specs.declared.verdicts.Verdict.{Verdict}
 use Rattle.url_checker.specs.Resolving.{said_of, is_ask, is_unsafe_by, lists_hit, IsAnswerOf, verdict_from, FindTalk, IsFindTalk, find_asked, kept_by, closed_of}
 use Rattle.url_checker.specs.declared.findings.Hit.{Hit}
+use Rattle.url_checker.specs.declared.asking.Answered.{Answered}
 use Rattle.url_checker.specs.declared.looking.Looked.{Looked}
+use Rattle.url_checker.specs.declared.looking.Looks.{Looks}
 
 abbrev pub looked_of : Pairs → Moment → Hit → Looked
 looked_of pairs now hit = record { hit = hit; said = said_of pairs now hit }
@@ -33,22 +34,15 @@ abbrev pub unsafe_in : Option FindResponse → List Looked → List Hit
 unsafe_in message looked = map (λ (one : Looked). one.hit) (filter (λ (one : Looked). is_unsafe_by message one.said one.hit) looked)
 
 -- A session was held to its end, and its outcome comes to this answer.
-pub record HasAsked (waits : WaitState) (now : Moment) (target : Target) (body : List ℕ) (need : Bool) (log log' : Option (List Session)) (answers answers' bidden bidden' : Option (List Moment)) (closed : Moment) (answer : Result FindResponse Cause) : Type 0 where
+pub record HasAsked (waits : WaitState) (now : Moment) (target : Target) (body : List ℕ) (need : Bool) (before after : Outside) (answered : Answered) : Type 0 where
   pub begun : Moment
   pub outcome : Result (List ℕ) ExchangeFault
-  pub holds : HoldsTimed waits now target Find body need log log' answers answers' bidden bidden' begun closed outcome
-  pub answers_it : IsAnswerOf outcome answer
-
--- nothing more is told
-pub record NothingTold (log log' : Option (List Session)) (answers answers' bidden bidden' : Option (List Moment)) : Type 0 where
-  pub log_stays : log' ≡ log
-  pub answers_stay : answers' ≡ answers
-  pub waits_stay : bidden' ≡ bidden
+  pub holds : HoldsTimed waits now target Find body need before after (record { begun = begun; closed = answered.closed; answer = outcome })
+  pub answers_it : IsAnswerOf outcome answered.answer
 
 -- Memory was wanting before a session for this body, or after it.
-abbrev pub StopsAsking : WaitState → Moment → Target → List ℕ → Option (List Session) → Option (List Session) → Option (List Moment) → Option (List Moment) → Option (List Moment) → Option (List Moment) → Type 0
-StopsAsking waits now target body log log' answers answers' bidden bidden' =
-    NothingTold log log' answers answers' bidden bidden' ⊎ HoldsTimedPart waits now target Find body log log' answers answers' bidden bidden'
+abbrev pub StopsAsking : WaitState → Moment → Target → List ℕ → Outside → Outside → Type 0
+StopsAsking waits now target body before after = (after ≡ before) ⊎ HoldsTimedPart waits now target Find body before after
 
 -- the verdict by an answer: with a message by what it has, and without one by what was told before
 abbrev pub verdict_after : List ListName → List Looked → Result FindResponse Cause → Verdict
@@ -56,13 +50,12 @@ verdict_after told looked (Ok message) = verdict_from (lists_hit (unsafe_in (Som
 verdict_after told looked (Err cause) = verdict_from told (Some cause)
 
 -- A find was made for these hits and ended, and this is what it left and what is told more.
-pub record MakesFind (states : List (List ℕ)) (target : Target) (need : Bool) (now : Moment) (asked : List Hit) (told : List ListName) (looked : List Looked) (pairs pairs' : Pairs) (waits waits' : WaitState) (log log' : Option (List Session)) (answers answers' bidden bidden' : Option (List Moment)) (words words' : Option (List ℕ)) (faults faults' : ℕ) (verdict : Verdict) : Type 0 where
+pub record MakesFind (states : List (List ℕ)) (target : Target) (need : Bool) (now : Moment) (looks : Looks) (pairs pairs' : Pairs) (waits waits' : WaitState) (before after : LineView) (verdict : Verdict) : Type 0 where
   pub talk : FindTalk
-  pub is : IsFindTalk states target need waits asked now talk
-  pub seen : IsTold waits talk.session log log' answers answers' bidden bidden'
-  pub drawn : IfTold words' (with_more words (words_of talk.word))
-  pub pairs_are : pairs' ≡ kept_by talk.session.closed (lists_hit asked) (find_asked states asked) talk.answer pairs
+  pub is : IsFindTalk states target need waits looks.asked now talk
+  pub told : Grows before.told after.told (trace_after waits talk.session (words_of talk.word))
+  pub pairs_are : pairs' ≡ kept_by talk.session.closed (lists_hit looks.asked) (find_asked states looks.asked) talk.answer pairs
   pub waits_are : waits' ≡ waits_after waits (closed_of talk)
-  pub verdict_is : verdict ≡ verdict_after told looked talk.answer
-  pub failed : talk.answer ≡ Err (Exchange Link) → Rose faults faults'
-  pub kept : talk.answer ≢ Err (Exchange Link) → faults' ≡ faults
+  pub verdict_is : verdict ≡ verdict_after looks.told looks.looked talk.answer
+  pub failed : talk.answer ≡ Err (Exchange Link) → Rose before.faults after.faults
+  pub kept : talk.answer ≢ Err (Exchange Link) → after.faults ≡ before.faults

@@ -4,11 +4,12 @@ ghost use Rattle.http_edge.specs.Exchanges.{IsTarget};
 ghost use Rattle.url_checker.specs.Resolving.{IsAnswerOf, body_of};
 ghost use Rattle.url_checker.specs.Looking.{HasAsked, StopsAsking};
 
+use client_line::Line;
 use hash_messages::{FindRequest, FindResponse, read_matches, write_find};
 use http_edge::{ExchangeFault, Target};
 use sb_json::MessageFault;
 use sb_model::{Bytes, Moment, OutOfMemory};
-use sb_outside::{Clock, Kind, Link};
+use sb_outside::Kind;
 use std::alloc::Global;
 use timed_sessions::{Talk, hold_session};
 use verdict_report::Cause;
@@ -50,29 +51,28 @@ fn answer_of(
 }
 
 // Holds a session for this body from a clock that was read already, and reads what comes.
-fn ask_for<L: Link, C: Clock>(
+fn ask_for<N: Line>(
     alloc: Global,
     waits: WaitState,
     now: Moment,
     target: &Target,
     body: &[u8],
     need_digest: bool,
-    link: &mut L,
-    clock: &mut C,
+    line: &mut N,
 ) -> Result<Answered, OutOfMemory>
-    requires read { C.last clock.old ≡ now.0 }
+    requires read { (N.view line.old).last ≡ now.0 }
     requires target { IsTarget target.now }
     ensures asked { IfOk result (λ found. HasAsked waits now target.now body.now need_digest
-        (L.log link.old) (L.log link.new) (C.answers clock.old) (C.answers clock.new) (C.waits clock.old) (C.waits clock.new)
-        found.closed found.answer) }
+        (N.view line.old).told (N.view line.new).told found) }
     ensures refused { OnErr result (StopsAsking waits now target.now body.now
-        (L.log link.old) (L.log link.new) (C.answers clock.old) (C.answers clock.new) (C.waits clock.old) (C.waits clock.new)) }
+        (N.view line.old).told (N.view line.new).told) }
     ensures failed { IfOk result (λ found. found.answer ≡ Err (Cause.Exchange ExchangeFault.Link)
-        → Rose (L.faults link.old) (L.faults link.new)) }
+        → Rose (N.view line.old).faults (N.view line.new).faults) }
     ensures kept { IfOk result (λ found. found.answer ≢ Err (Cause.Exchange ExchangeFault.Link)
-        → L.faults link.new ≡ L.faults link.old) }
-    ensures unmoved { OnErr result (L.faults link.new ≡ L.faults link.old) }
-    ensures counted { L.faults link.old ≤ L.faults link.new }
+        → (N.view line.new).faults ≡ (N.view line.old).faults) }
+    ensures unmoved { OnErr result ((N.view line.new).faults ≡ (N.view line.old).faults) }
+    ensures counted { (N.view line.old).faults ≤ (N.view line.new).faults }
+    ensures same { (N.view line.new).objects ≡ (N.view line.old).objects }
 {
     let Talk {
         begun: _,
@@ -86,8 +86,7 @@ fn ask_for<L: Link, C: Clock>(
         Kind::Find,
         body,
         need_digest,
-        link,
-        clock,
+        line,
     )?;
     let answer = answer_of(alloc, outcome)?;
     Ok(Answered { closed, answer })
@@ -95,29 +94,28 @@ fn ask_for<L: Link, C: Clock>(
 
 /// Makes a find, from a clock that was read already.
 #[tactic(auto, unfolding(crate::specs::Resolving::body_of))]
-pub(crate) fn ask<L: Link, C: Clock>(
+pub(crate) fn ask<N: Line>(
     alloc: Global,
     waits: WaitState,
     now: Moment,
     target: &Target,
     request: &FindRequest,
     need_digest: bool,
-    link: &mut L,
-    clock: &mut C,
+    line: &mut N,
 ) -> Result<Answered, OutOfMemory>
-    requires read { C.last clock.old ≡ now.0 }
+    requires read { (N.view line.old).last ≡ now.0 }
     requires target { IsTarget target.now }
     ensures asked { IfOk result (λ found. HasAsked waits now target.now (body_of request.now) need_digest
-        (L.log link.old) (L.log link.new) (C.answers clock.old) (C.answers clock.new) (C.waits clock.old) (C.waits clock.new)
-        found.closed found.answer) }
+        (N.view line.old).told (N.view line.new).told found) }
     ensures refused { OnErr result (StopsAsking waits now target.now (body_of request.now)
-        (L.log link.old) (L.log link.new) (C.answers clock.old) (C.answers clock.new) (C.waits clock.old) (C.waits clock.new)) }
+        (N.view line.old).told (N.view line.new).told) }
     ensures failed { IfOk result (λ found. found.answer ≡ Err (Cause.Exchange ExchangeFault.Link)
-        → Rose (L.faults link.old) (L.faults link.new)) }
+        → Rose (N.view line.old).faults (N.view line.new).faults) }
     ensures kept { IfOk result (λ found. found.answer ≢ Err (Cause.Exchange ExchangeFault.Link)
-        → L.faults link.new ≡ L.faults link.old) }
-    ensures unmoved { OnErr result (L.faults link.new ≡ L.faults link.old) }
-    ensures counted { L.faults link.old ≤ L.faults link.new }
+        → (N.view line.new).faults ≡ (N.view line.old).faults) }
+    ensures unmoved { OnErr result ((N.view line.new).faults ≡ (N.view line.old).faults) }
+    ensures counted { (N.view line.old).faults ≤ (N.view line.new).faults }
+    ensures same { (N.view line.new).objects ≡ (N.view line.old).objects }
 {
     let body = write_find(alloc, request)?;
     ask_for(
@@ -127,7 +125,6 @@ pub(crate) fn ask<L: Link, C: Clock>(
         target,
         body.as_slice(),
         need_digest,
-        link,
-        clock,
+        line,
     )
 }

@@ -2,7 +2,6 @@ ghost use Rattle.std.specs.Prelude.{◌≡◌, ◌≢◌, ◌≤◌, length, Som
 ghost use Rattle.hash_messages.specs.Messages.{most_prefixes};
 ghost use Rattle.full_hash_cache.specs.Cache.{taken};
 ghost use Rattle.http_edge.specs.Exchanges.{IsTarget};
-ghost use Rattle.timed_sessions.specs.Told.{outside};
 ghost use Rattle.timed_sessions.specs.Waiting.{HasSettled};
 ghost use Rattle.url_checker.specs.Hits.{AreAskable, prefixes_hit};
 ghost use Rattle.url_checker.specs.Resolving.{verdict_from, lists_hit, bids_of, kept_by, cause_of, body_asked, makes_find};
@@ -14,11 +13,11 @@ use crate::looking::{Looked, Looks, look, unsafe_names};
 use crate::naming::lists_of;
 use crate::request::find_for;
 use crate::{Finding, Hit};
+use client_line::Line;
 use full_hash_cache::FullHashCache;
 use hash_messages::{FindRequest, FindResponse};
 use http_edge::{ExchangeFault, Target};
 use sb_model::{Bytes, ListName, Moment, OutOfMemory, Row, later};
-use sb_outside::{Clock, Dice, Link};
 use std::alloc::Global;
 use timed_sessions::settle;
 use verdict_report::{Cause, Verdict};
@@ -60,23 +59,25 @@ fn take_message(
 }
 
 // Ends a find after its session.
-fn conclude<D: Dice>(
+fn conclude<N: Line>(
     alloc: Global,
     looks: Looks,
     request: &FindRequest,
     answered: Answered,
     cache: &mut FullHashCache,
     waits: &mut WaitState,
-    dice: &mut D,
+    line: &mut N,
 ) -> Result<Verdict, OutOfMemory>
     ensures verdict { IfOk result (λ verdict.
         verdict ≡ verdict_after looks.told looks.looked answered.answer) }
     ensures pairs { OnOk result (cache.new ≡ kept_by answered.closed (lists_hit looks.asked) request.now
         answered.answer cache.old) }
     ensures settled { OnOk result (HasSettled waits.old waits.new answered.closed (bids_of answered.answer)
-        (D.given dice.old) (D.given dice.new)) }
+        (N.view line.old) (N.view line.new)) }
     ensures waits_kept { OnErr result (waits.new ≡ waits.old) }
-    ensures undrawn { OnErr result (D.given dice.new ≡ D.given dice.old) }
+    ensures untouched { OnErr result (N.view line.new ≡ N.view line.old) }
+    ensures faults { (N.view line.new).faults ≡ (N.view line.old).faults }
+    ensures same { (N.view line.new).objects ≡ (N.view line.old).objects }
     ensures had_message { OnErr result (answered.answer ≢ Err (Cause.Exchange ExchangeFault.Link)) }
 {
     let Looks {
@@ -96,18 +97,18 @@ fn conclude<D: Dice>(
                 closed,
                 cache,
             )?;
-            settle(waits, closed, Some(message.wait), dice);
+            settle(waits, closed, Some(message.wait), line);
             Ok(verdict)
         }
         Err(cause) => {
-            settle(waits, closed, None, dice);
+            settle(waits, closed, None, line);
             Ok(verdict_with(told, Some(cause)))
         }
     }
 }
 
 // Makes a find for the hits of which the server has to be asked, and ends it.
-fn find<L: Link, C: Clock, D: Dice>(
+fn find<N: Line>(
     alloc: Global,
     now: Moment,
     looks: Looks,
@@ -116,36 +117,23 @@ fn find<L: Link, C: Clock, D: Dice>(
     waits: &mut WaitState,
     target: &Target,
     need_digest: bool,
-    link: &mut L,
-    clock: &mut C,
-    dice: &mut D,
+    line: &mut N,
 ) -> Result<Verdict, OutOfMemory>
-    requires read { C.last clock.old ≡ now.0 }
+    requires read { (N.view line.old).last ≡ now.0 }
     requires target { IsTarget target.now }
     requires few { length (prefixes_hit looks.asked) ≤ most_prefixes }
-    ensures made { IfOk result (MakesFind states.now target.now need_digest now looks.asked looks.told looks.looked
-        cache.old cache.new waits.old waits.new (L.log link.old) (L.log link.new)
-        (C.answers clock.old) (C.answers clock.new) (C.waits clock.old) (C.waits clock.new)
-        (D.given dice.old) (D.given dice.new) (L.faults link.old) (L.faults link.new)) }
+    ensures made { IfOk result (MakesFind states.now target.now need_digest now looks
+        cache.old cache.new waits.old waits.new (N.view line.old) (N.view line.new)) }
     ensures stopped { OnErr result (StopsAsking waits.old now target.now (body_asked states.now looks.asked)
-        (L.log link.old) (L.log link.new) (C.answers clock.old) (C.answers clock.new) (C.waits clock.old) (C.waits clock.new)) }
+        (N.view line.old).told (N.view line.new).told) }
     ensures waits_kept { OnErr result (waits.new ≡ waits.old) }
-    ensures undrawn { OnErr result (D.given dice.new ≡ D.given dice.old) }
-    ensures unmoved { OnErr result (L.faults link.new ≡ L.faults link.old) }
-    ensures counted { L.faults link.old ≤ L.faults link.new }
+    ensures unmoved { OnErr result ((N.view line.new).faults ≡ (N.view line.old).faults) }
+    ensures counted { (N.view line.old).faults ≤ (N.view line.new).faults }
+    ensures same { (N.view line.new).objects ≡ (N.view line.old).objects }
 {
     let request = find_for(alloc, states, looks.asked.as_slice())?;
-    let answered = ask(
-        alloc,
-        *waits,
-        now,
-        target,
-        &request,
-        need_digest,
-        link,
-        clock,
-    )?;
-    conclude(alloc, looks, &request, answered, cache, waits, dice)
+    let answered = ask(alloc, *waits, now, target, &request, need_digest, line)?;
+    conclude(alloc, looks, &request, answered, cache, waits, line)
 }
 
 // Whether a find is made for these hits.
@@ -170,7 +158,7 @@ fn unasked(looks: Looks, allowed_at: Moment) -> Verdict
 ///
 /// The clock is read once, before anything. An answer got here decides the hits that it was asked for, whatever its times of keeping, and is
 /// then kept. After an `Err` the state of waiting is as before; the kept answers may have moved on.
-pub fn resolve<L: Link, C: Clock, D: Dice>(
+pub fn resolve<N: Line>(
     alloc: Global,
     finding: &Finding,
     states: &Row<Bytes>,
@@ -179,9 +167,7 @@ pub fn resolve<L: Link, C: Clock, D: Dice>(
     patience: u64,
     target: &Target,
     need_digest: bool,
-    link: &mut L,
-    clock: &mut C,
-    dice: &mut D,
+    line: &mut N,
 ) -> Result<Verdict, OutOfMemory>
     requires askable { AreAskable finding.now.hits }
     requires target { IsTarget target.now }
@@ -189,19 +175,18 @@ pub fn resolve<L: Link, C: Clock, D: Dice>(
     // The hits were resolved, and this is what it left and came to.
     ensures resolves { IfOk result (Resolves states.now patience target.now need_digest finding.now.hits
         cache.old cache.new waits.old waits.new
-        (outside (L.log link.old) (C.answers clock.old) (C.waits clock.old) (D.given dice.old))
-        (outside (L.log link.new) (C.answers clock.new) (C.waits clock.new) (D.given dice.new))
-        (L.faults link.old) (L.faults link.new)) }
+        (N.view line.old).told (N.view line.new).told
+        (N.view line.old).faults (N.view line.new).faults) }
 
     // Want of memory breaks it off.
     ensures stopped { OnErr result (StopsResolving states.now target.now finding.now.hits cache.old waits.old
-        (outside (L.log link.old) (C.answers clock.old) (C.waits clock.old) (D.given dice.old))
-        (outside (L.log link.new) (C.answers clock.new) (C.waits clock.new) (D.given dice.new))) }
+        (N.view line.old).told (N.view line.new).told) }
     ensures waits_kept { OnErr result (waits.new ≡ waits.old) }
-    ensures unmoved { OnErr result (L.faults link.new ≡ L.faults link.old) }
-    ensures counted { L.faults link.old ≤ L.faults link.new }
+    ensures unmoved { OnErr result ((N.view line.new).faults ≡ (N.view line.old).faults) }
+    ensures counted { (N.view line.old).faults ≤ (N.view line.new).faults }
+    ensures same { (N.view line.new).objects ≡ (N.view line.old).objects }
 {
-    let now = clock.now();
+    let now = line.now();
     let looks = look(alloc, now, finding.hits.as_slice(), cache)?;
     if is_made(*waits, patience, now, looks.asked.as_slice()) {
         return find(
@@ -213,9 +198,7 @@ pub fn resolve<L: Link, C: Clock, D: Dice>(
             waits,
             target,
             need_digest,
-            link,
-            clock,
-            dice,
+            line,
         );
     }
     Ok(unasked(looks, waits.allowed_at))

@@ -1,7 +1,10 @@
-use Rattle.std.proofs.Common.{List, ℕ, [], ◌∷◌, ◌++◌, ◌∙◌, ap}
+use Rattle.std.proofs.Common.{◌≡◌, List, ℕ, [], ◌∷◌, ◌++◌, ◌∙◌, ap, sym, append_assoc}
 use Rattle.input_lines.specs.Lines.{lines_of}
-use Rattle.judge_run.proofs.Cases.{left_after}
 use Rattle.judge_beside.proofs.lines.rows_of.Goals as goal
+
+-- the lines that are left after one more
+left_after : (first left all : List (List ℕ)) (line : List ℕ) (rest : List (List ℕ)) → left ≡ line ∷ rest → first ++ left ≡ all → (first ++ line ∷ []) ++ rest ≡ all
+left_after first left all line rest is h = append_assoc first (line ∷ []) rest ∙ ap (λ (ls : List (List ℕ)). first ++ ls) (sym is) ∙ h
 
 pub loop-rest-preserved : goal.loop-rest-preserved
 loop-rest-preserved c =

@@ -7,7 +7,7 @@ use Rattle.judge_beside.proofs.resolving.judge_checks.Goals as goal
 
 pub returns-in_err-report-clause-stopped : goal.returns-in_err-report-clause-stopped
 returns-in_err-report-clause-stopped g c = λ lines are.
-    on_err _ (stops_between c.args.plan.now c.args.publisher.now.list _ _ _ c.args.checks [] _ _ _ [] (none_so_far c.args.plan.now c.args.publisher.now.list _ _ _ c.args.checks) lines are)
+    on_err _ (stops_between c.args.plan.now c.args.publisher.now.list _ _ _ c.args.checks [] _ _ _ [] (none_so_far c.args.plan.now c.args.publisher.now.list _ _ _ c.cases_go_on.ensures.none c.args.checks) lines are)
 
 pub loop-check-init : goal.loop-check-init
 loop-check-init g c = record {
@@ -15,7 +15,8 @@ loop-check-init g c = record {
   count = search rules;
   known = tt;
   counted = omega arith;
-  judged = ([], refl, c.in_ok-report.ensures, none_so_far c.args.plan.now c.args.publisher.now.list _ _ _ c.args.checks);
+  same = refl;
+  judged = ([], refl, c.in_ok-report.ensures, none_so_far c.args.plan.now c.args.publisher.now.list _ _ _ c.cases_go_on.ensures.none c.args.checks);
 }
 
 pub judge_next-requires-clause-may : goal.judge_next-requires-clause-may
@@ -34,12 +35,13 @@ loop-check-preserved g c =
       count = (let was = at.invariant.count in let gone = c.in-Some.ensures.steps.1 in let short = ap length steps in omega arith);
       known = c.in_ok-judge_next.ensures.known;
       counted = omega (arith, at.invariant.counted, c.in_ok-judge_next.ensures.counted);
+      same = c.in_ok-judge_next.ensures.same ∙ at.invariant.same;
       judged = (
         so_far.0 ++ next.one ∷ [],
         omega (arith, length-append so_far.0 (next.one ∷ []), length-append at.yielded (check ∷ []), so_far.1),
         next.reports so_far.0 so_far.2,
         one_more_check c.args.plan.now c.args.publisher.now.list _ _ _ c.args.checks at.yielded (into_iter_items c.next.new.self) check _ _ _ _ _ _ so_far.0 next.one
-            c.traces_go_on.ensures.one_more at.invariant.counted c.in_ok-judge_next.ensures.counted (rw (← steps) at.invariant.all) so_far.3 next.judges,
+            c.cases_go_on.ensures.one_more at.invariant.counted c.in_ok-judge_next.ensures.counted (rw (← steps) at.invariant.all) so_far.3 next.judges,
       );
     }
 
@@ -49,7 +51,7 @@ returns-in_err-judge_next-clause-stopped g c = λ lines are.
     let steps : into_iter_items at.check-iterator ≡ check ∷ into_iter_items c.next.new.self = c.in-Some.ensures.steps.0 in
     let so_far = at.invariant.judged in
     on_err _
-    (stops_at_next c.args.plan.now c.args.publisher.now.list _ _ _ c.args.checks at.yielded (into_iter_items c.next.new.self) check _ _ _ _ _ _ so_far.0 c.traces_go_on.ensures.one_more
+    (stops_at_next c.args.plan.now c.args.publisher.now.list _ _ _ c.args.checks at.yielded (into_iter_items c.next.new.self) check _ _ _ _ _ _ so_far.0 c.cases_go_on.ensures.one_more
     at.invariant.counted c.in_err-judge_next.ensures.counted (rw (← steps) at.invariant.all) so_far.3 c.in_err-judge_next.ensures.stopped lines are)
 
 pub returns-clause-judged : goal.returns-clause-judged

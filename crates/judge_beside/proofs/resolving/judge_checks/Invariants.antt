@@ -1,7 +1,6 @@
 use Rattle.std.proofs.Common.{◌≡◌, ◌≤◌, List, ◌++◌, length, slice_index_or, []}
 use Rattle.std.specs.Prelude.{IfSome}
 use Rattle.std.specs.Vec.Iter.{into_iter_items, into_iter_len}
-use Rattle.timed_sessions.specs.Told.{outside}
 use Rattle.update_client.specs.Held.{tokens_of}
 use Rattle.verdict_report.specs.declared.verdicts.Judged.{Judged}
 use Rattle.judge_run.specs.Judging.{find_state}
@@ -15,10 +14,10 @@ invariant-loop-check g l = record {
   all : l.yielded ++ into_iter_items l.check-iterator ≡ l.fn.checks;
   count : into_iter_len l.check-iterator ≡ length (into_iter_items l.check-iterator);
   known : IfSome l.known (λ states. states.tokens ≡ tokens_of (slice_index_or l.publisher.list states.number []));
-  counted : g.L.Link.faults l.initial.link ≤ g.L.Link.faults l.link;
+  counted : (g.N.Line.view l.initial.line).faults ≤ (g.N.Line.view l.line).faults;
+  same : (g.N.Line.view l.line).objects ≡ (g.N.Line.view l.initial.line).objects;
   judged : (all : List Judged) × (length all ≡ length l.yielded) × IsReport l.report all
       × JudgedSoFar l.plan l.publisher.list (find_state l.initial.cache l.initial.waits)
-      (outside (g.L.Link.log l.initial.link) (g.C.Clock.answers l.initial.clock) (g.C.Clock.waits l.initial.clock) (g.D.Dice.given l.initial.dice)) (g.L.Link.faults l.initial.link)
-      l.fn.checks (find_state l.cache l.waits)
-      (outside (g.L.Link.log l.link) (g.C.Clock.answers l.clock) (g.C.Clock.waits l.clock) (g.D.Dice.given l.dice)) (g.L.Link.faults l.link) l.yielded all;
+      (g.N.Line.view l.initial.line).told (g.N.Line.view l.initial.line).faults l.fn.checks (find_state l.cache l.waits)
+      (g.N.Line.view l.line).told (g.N.Line.view l.line).faults l.yielded all;
 }

@@ -1,6 +1,5 @@
 use Rattle.std.proofs.Common.{length, ◌∙◌}
-use Rattle.judge_run.proofs.Endings.{front_behind, stops_at_report}
-use Rattle.judge_beside.proofs.Endings.{judged_all}
+use Rattle.judge_beside.proofs.Endings.{front_behind, judged_all, stops_at_report}
 use Rattle.judge_beside.proofs.running.judge_checked.Goals as goal
 
 pub returns-in-Ok-print_report-clause-ends : goal.returns-in-Ok-print_report-clause-ends

@@ -1,11 +1,11 @@
-use Rattle.std.proofs.Common.{[], ◌∷◌, ◌++◌, refl, arith, length-append}
+use Rattle.std.proofs.Common.{[], ◌∷◌, ◌++◌, refl, ◌∙◌, arith, length-append}
 use Rattle.input_lines.specs.Lines.{lines_of}
 use Rattle.input_lines.specs.Ways.{on_any}
 use Rattle.judge_run.proofs.Cases.{judges_nothing, judges_next, left_after, stops_after, stops_at_once, stops_within}
 use Rattle.judge_run.proofs.judging.judge_lines.Goals as goal
 
 pub loop-rest-init : goal.loop-rest-init
-loop-rest-init g c = ([], [], refl, c.in_ok-report.ensures, judges_nothing c.args.plan.now (c.args.lists.now ∷ []) _ _ _ [] refl, omega arith, omega arith)
+loop-rest-init g c = ([], [], refl, c.in_ok-report.ensures, judges_nothing c.args.plan.now (c.args.lists.now ∷ []) _ _ _ [] refl, omega arith, omega arith, refl)
 
 pub returns-in_err-add-in-Ok-clause-stopped : goal.returns-in_err-add-in-Ok-clause-stopped
 returns-in_err-add-in-Ok-clause-stopped g c =
@@ -39,6 +39,7 @@ loop-rest-preserved g c =
           c.traces_go_on.ensures.one_more inv.5 c.in-Ok.ensures.counted refl inv.4 c.in-Ok.ensures.judged,
       omega (arith, inv.5, c.in-Ok.ensures.counted),
       omega (arith, inv.6, length-append inv.1 (c.in-Ok.one ∷ []), c.first_line.ensures.shorter),
+      c.judge_line.ensures.same ∙ inv.7,
     )
 
 pub returns-in_err-report-clause-stopped : goal.returns-in_err-report-clause-stopped

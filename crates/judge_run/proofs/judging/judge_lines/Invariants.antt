@@ -1,5 +1,4 @@
 use Rattle.std.proofs.Common.{◌≡◌, ◌≤◌, ◌+◌, ℕ, List, [], ◌∷◌, ◌++◌, length}
-use Rattle.timed_sessions.specs.Told.{outside}
 use Rattle.input_lines.specs.Lines.{lines_of}
 use Rattle.verdict_report.specs.declared.verdicts.Judged.{Judged}
 use Rattle.judge_run.specs.Judging.{find_state, JudgesLines}
@@ -14,11 +13,12 @@ invariant-loop-rest g l =
     × (lines ++ lines_of l.rest ≡ lines_of l.input)
     × IsReport l.report all
     × JudgesLines l.plan (l.lists ∷ []) (find_state l.initial.cache l.initial.waits) (find_state l.cache l.waits)
-    (outside (g.L.Link.log l.initial.link) (g.C.Clock.answers l.initial.clock) (g.C.Clock.waits l.initial.clock) (g.D.Dice.given l.initial.dice))
-    (outside (g.L.Link.log l.link) (g.C.Clock.answers l.clock) (g.C.Clock.waits l.clock) (g.D.Dice.given l.dice))
-    (g.L.Link.faults l.initial.link) (g.L.Link.faults l.link) lines all
-    × (g.L.Link.faults l.initial.link ≤ g.L.Link.faults l.link)
+    (g.N.Line.view l.initial.line).told
+    (g.N.Line.view l.line).told
+    (g.N.Line.view l.initial.line).faults (g.N.Line.view l.line).faults lines all
+    × ((g.N.Line.view l.initial.line).faults ≤ (g.N.Line.view l.line).faults)
     × (length all + length l.rest ≤ length l.input)
+    × ((g.N.Line.view l.line).objects ≡ (g.N.Line.view l.initial.line).objects)
 
 abbrev pub decreases-loop-rest : goal.decreases-loop-rest
 decreases-loop-rest g l = length l.rest

@@ -1,13 +1,12 @@
 use Rattle.std.proofs.Common.{◌≡◌, ◌+◌, ◌<◌, [], length, refl, ap, ◌∙◌, append-nil, sym, length-append, arith}
 use Rattle.snapshot_publish.specs.Publications.{Publications}
 use Rattle.update_run.specs.Saved.{saved_lists}
-use Rattle.update_run.proofs.OneByOne.{begins_steps}
-use Rattle.published_rounds.proofs.Loop.{few_saved, next_round, stops_there, begins_published}
+use Rattle.published_rounds.proofs.Loop.{step_laws, few_saved, next_round, stops_there, begins_published}
 use Rattle.published_rounds.proofs.rounding.publish_rounds.Goals as goal
 
 pub loop-made-init : goal.loop-made-init
 loop-made-init g c =
-    ([], refl, record { takes = begins_steps c.rounds_go_on.ensures.none _ 1 _ _; published_are = sym (append-nil c.args.publisher.now.list) }, refl, refl, refl, omega arith, λ _. refl)
+    ([], refl, record { takes = c.steps_go_on.ensures.none _ 1 _ _; published_are = sym (append-nil c.args.publisher.now.list) }, refl, refl, refl, omega arith, λ _. refl, refl)
 
 pub publish_round-requires-clause-room : goal.publish_round-requires-clause-room
 publish_round-requires-clause-room g c =
@@ -24,7 +23,7 @@ loop-made-preserved g c =
     let inv = c.loop-made.invariant in
     let more =
     next_round c.args.plan.now (c.loop-made.made + 1) inv.0 c.args.client.now c.loop-made.client c.publish_round.new.client _ _ _ _ _ _ c.loop-made.refused c.in-Ok.is_refused
-    c.rounds_go_on.ensures.one_more (omega (arith, inv.1)) inv.2 c.in-Ok.ensures.made
+    (step_laws c.steps_go_on.ensures.written c.steps_go_on.ensures.one_more c.steps_save_and_stop.ensures.saved c.steps_save_and_stop.ensures.stopped) (omega (arith, inv.1)) inv.2 c.in-Ok.ensures.made
     in (
       more.0,
       more.1,
@@ -34,11 +33,12 @@ loop-made-preserved g c =
       c.in-Ok.ensures.keeper_kept (λ e. cc) ∙ inv.5,
       omega (arith, inv.6, c.publish_round.ensures.link_counted),
       λ none. absurd (omega (arith, none)),
+      c.publish_round.ensures.same ∙ inv.8,
     )
 
 pub returns-in-Err-clause-stopped : goal.returns-in-Err-clause-stopped
 returns-in-Err-clause-stopped g c =
     let inv = c.loop-made.invariant in
     let few : c.loop-made.made < c.args.plan.now.rounds = c.loop-made-test.true in
-    stops_there c.in-Err.stop c.args.plan.now (c.loop-made.made + 1) inv.0 c.args.client.now c.loop-made.client _ _ _ _ _ c.loop-made.refused c.rounds_go_on.ensures.one_more
+    stops_there c.in-Err.stop c.args.plan.now (c.loop-made.made + 1) inv.0 c.args.client.now c.loop-made.client _ _ _ _ _ c.loop-made.refused (step_laws c.steps_go_on.ensures.written c.steps_go_on.ensures.one_more c.steps_save_and_stop.ensures.saved c.steps_save_and_stop.ensures.stopped)
     (omega (arith, inv.1)) (omega (arith, few)) inv.2 c.in-Err.ensures.stopped

@@ -1,5 +1,4 @@
 use Rattle.std.proofs.Common.{◌≡◌, ◌≤◌, List, length}
-use Rattle.timed_sessions.specs.Told.{outside}
 use Rattle.sb_round.specs.Round.{Round}
 use Rattle.update_run.specs.Run.{seen}
 use Rattle.update_run.specs.Saved.{keeping}
@@ -12,12 +11,13 @@ invariant-loop-made g l =
     (rounds : List Round)
     × (length rounds ≡ l.made)
     × PublishesRounds l.plan rounds l.initial.client l.client l.initial.publisher.list l.publisher.list
-    (seen (outside (g.L.Link.log l.initial.link) (g.C.Clock.answers l.initial.clock) (g.C.Clock.waits l.initial.clock) (g.D.Dice.given l.initial.dice))
+    (seen (g.N.Line.view l.initial.line).told
     (keeping (g.K.Keeper.handed l.initial.keep) (g.K.Keeper.kept l.initial.keep)) (g.O.Sink.contents l.initial.out))
-    (seen (outside (g.L.Link.log l.link) (g.C.Clock.answers l.clock) (g.C.Clock.waits l.clock) (g.D.Dice.given l.dice))
+    (seen (g.N.Line.view l.line).told
     (keeping (g.K.Keeper.handed l.keep) (g.K.Keeper.kept l.keep)) (g.O.Sink.contents l.out)) l.refused
     × (l.publisher.boxes ≡ l.initial.publisher.boxes)
     × (g.O.Sink.faults l.out ≡ g.O.Sink.faults l.initial.out)
     × (g.K.Keeper.faults l.keep ≡ g.K.Keeper.faults l.initial.keep)
-    × (g.L.Link.faults l.initial.link ≤ g.L.Link.faults l.link)
-    × (l.made ≡ 0 → g.L.Link.faults l.link ≡ g.L.Link.faults l.initial.link)
+    × ((g.N.Line.view l.initial.line).faults ≤ (g.N.Line.view l.line).faults)
+    × (l.made ≡ 0 → (g.N.Line.view l.line).faults ≡ (g.N.Line.view l.initial.line).faults)
+    × ((g.N.Line.view l.line).objects ≡ (g.N.Line.view l.initial.line).objects)

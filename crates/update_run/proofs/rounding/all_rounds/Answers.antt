@@ -4,7 +4,7 @@ use Rattle.update_run.proofs.Stopping.{stopped}
 use Rattle.update_run.proofs.rounding.all_rounds.Goals as goal
 
 pub loop-made-init : goal.loop-made-init
-loop-made-init g c = ([], refl, begins_steps c.rounds_go_on.ensures.none _ 1 _ _, refl, refl)
+loop-made-init g c = ([], refl, begins_steps c.rounds_go_on.ensures.none _ 1 _ _, refl, refl, refl)
 
 pub loop-made-preserved : goal.loop-made-preserved
 loop-made-preserved g c =
@@ -15,6 +15,7 @@ loop-made-preserved g c =
       more.2,
       c.in-Ok.ensures.output_kept (λ e. cc) ∙ inv.3,
       c.in-Ok.ensures.keeper_kept (λ e. cc) ∙ inv.4,
+      c.one_round.ensures.same ∙ inv.5,
     )
 
 pub returns-in-Err-clause-stopped : goal.returns-in-Err-clause-stopped

@@ -1,0 +1,6 @@
+pub mod Versions
+pub mod Installs
+pub mod Answered
+pub mod Complete
+pub mod Limits
+pub mod Example

@@ -1,0 +1,15 @@
+pub mod Met
+pub mod Replicas
+pub mod Rows
+pub mod Kept
+pub mod Runs
+pub mod Full
+pub mod Rulings
+pub mod Faithful
+pub mod Resolved
+pub mod Example
+pub mod Decided
+pub mod Verdicts
+pub mod Complete
+pub mod Reports
+pub mod Saving

@@ -1,4 +1,0 @@
-pub mod Verdicts
-pub mod Complete
-pub mod Law
-pub mod Saving

@@ -1,4 +1,0 @@
-pub mod Versions
-pub mod Installs
-pub mod Answered
-pub mod Complete
