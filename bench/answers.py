@@ -192,8 +192,8 @@ def spelled_anew(body):
 class Server(started.Started):
     """A server of a journal, which has loaded it, and is ended with the block."""
 
-    def __init__(self, journal):
-        words = [SBLISTD, "serve", "--journal", journal.path, "--listen", "127.0.0.1:0"]
+    def __init__(self, journal, *options):
+        words = [SBLISTD, "serve", "--journal", journal.path, "--listen", "127.0.0.1:0", *options]
         begun = time.perf_counter()
         super().__init__(words)
         self.clock = clock_of(self.ran.pid)
@@ -441,6 +441,20 @@ def tell_turns(journal, sizes):
             tell_turn(server, journal, changes, "a whole one", rounds)
 
 
+def tell_held(journal, sizes):
+    """Finds of a server that holds its lists: before it meets a bad line, and from then on."""
+    added = bytes.fromhex(hash_of(LIST, journal.window(LIST, journal.version)[1] - 1))
+    length = os.path.getsize(journal.path)
+    with Server(journal, "--hold") as server:
+        bodies = [find([added[:4]])] * sizes.repeats
+        cost(server, bodies, sizes.rounds, anew=False, path=FIND).tell("a find")
+        with open(journal.path, "ab") as file:
+            file.write(b"# no line of a journal\n")
+        server.ask(*bodies[:1], FIND)
+        cost(server, bodies, sizes.rounds, anew=False, path=FIND).tell("a find after a growth that was refused")
+    os.truncate(journal.path, length)
+
+
 def wait_beside(server, dear, path, good):
     """How long a client who has the newest version waits for its answer, who comes when a dear request is being answered."""
     with server.send(spelled_anew(dear), path) as stream:
@@ -581,6 +595,8 @@ def measure(folder, sizes, beside=None):
         tell_beside(journal, folder, beside, sizes)
     print("the turn after a change, with what the journal has gained")
     tell_turns(journal, sizes)
+    print("a server with --hold")
+    tell_held(journal, sizes)
     os.remove(journal.path)
     lines = 2 * sizes.full * A_CHANGE
     turned = turned_journal(folder, sizes)

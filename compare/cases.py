@@ -243,6 +243,7 @@ MADE = {
     "change": (("--size",), ("--skip",)),
     "has": (("--journal",), ()),
     "check": ((), ()),
+    "compact": ((), ()),
 }
 MOST_MADE_LINES = 2_097_152
 
@@ -259,11 +260,13 @@ def made(words, text, journal, dice):
         return None, 1
     if command == "check":
         return making.check(text) if not names else (None, 1)
+    epoch = "".join(f"{word:08x}" for word in ([*dice, dice[-1]] if dice else [0, 0])[:2])
+    if command == "compact":
+        return making.compact(text, epoch) if not names else (None, 1)
     if command == "new":
         if lists_of(["--", *names]) is None:
             return None, 1
-        upper, lower = ([*dice, dice[-1]] if dice else [0, 0])[:2]
-        lines = [f"sblist 2 {upper:08x}{lower:08x}", *(f"list {name} {size or 4}" for name in names)]
+        lines = [f"sblist 2 {epoch}", *(f"list {name} {size or 4}" for name in names)]
         return "".join(line + "\n" for line in lines).encode(), 0
     if len(names) != 1 or not server.is_name(names[0]) or command != "change" and "--journal" not in said:
         return None, 1

@@ -1,8 +1,8 @@
 #!/usr/bin/env python3
 """Runs `sbjournal` beside a second program of the same rules, and compares what they print.
 
-The second program is the first part of this file, with compare/server.py and compare/urls.py. It makes records, checks and
-verdicts as docs/FORMATS.md says, with Python's own SHA-256. Inputs and journals are seeded: URLs that repeat in other spellings,
+The second program is the first part of this file, with compare/server.py and compare/urls.py. It makes records, checks,
+verdicts and compacted journals as docs/FORMATS.md says, with Python's own SHA-256. Inputs and journals are seeded: URLs that repeat in other spellings,
 with signs, comments, CR LF and lines that are no URLs, and journals of both forms, some of them with a bad line or cut. The exit
 status is 1 where a run differs.
 """
@@ -12,6 +12,7 @@ import collections
 import hashlib
 import os
 import random
+import re
 import subprocess
 import sys
 import tempfile
@@ -22,6 +23,8 @@ import urls
 REPOSITORY = os.path.dirname(os.path.dirname(os.path.abspath(__file__)))
 SBJOURNAL = os.path.join(REPOSITORY, "bin", "sbjournal")
 RECORD = 1_024
+# The first line of a journal, up to the epoch, which is drawn.
+EPOCH = re.compile(rb"\A(sblist 2 )[0-9a-f]{16}\n")
 NAMES = ["MALWARE/ANY_PLATFORM/URL", "SOCIAL_ENGINEERING/ANY_PLATFORM/URL", "MALWARE/LINUX/EXECUTABLE"]
 
 
@@ -163,6 +166,16 @@ def has(data, name, text):
     return b"".join(line + b"\n" for line in printed), status
 
 
+def compact(data, epoch):
+    try:
+        journal = server.read_journal(data)
+    except server.BadJournal as fault:
+        return bad(fault)
+    text = f"sblist 2 {epoch}\n" + "".join(f"list {name} {size}\n" for name, size in journal.declared.items())
+    made = b"".join(records(name, [f"+{full.hex()} {size}" for full, size in sorted(journal.newest[name].items())]) for name in journal.declared)
+    return text.encode() + made, 0
+
+
 # ---- seeded runs
 
 
@@ -202,7 +215,7 @@ def main():
     with tempfile.TemporaryDirectory() as folder:
         path = os.path.join(folder, "journal")
         for number in range(options.runs):
-            name, kind = rand.choice(NAMES), rand.choice(["sync", "sync", "change", "check", "has"])
+            name, kind = rand.choice(NAMES), rand.choice(["sync", "sync", "change", "check", "has", "compact"])
             data = any_data(rand, pool)
             with open(path, "wb") as file:
                 file.write(data)
@@ -217,11 +230,15 @@ def main():
                 words, wanted = ["change", name, *([] if size is None else ["--size", str(size)]), *flags], change(name, text, size, flags)
             elif kind == "check":
                 text, words, wanted = data, ["check"], check(data)
+            elif kind == "compact":
+                text, words, wanted = data, ["compact"], compact(data, "EPOCH")
             else:
                 text = any_text(rand, pool, False)
                 words, wanted = ["has", name, "--journal", path], has(data, name, text)
             kinds[f"{kind} with {wanted[1]}"] += 1
             got = found(words, text)
+            if kind == "compact":
+                got = EPOCH.sub(rb"\1EPOCH\n", got[0], count=1), got[1]
             if got != wanted:
                 differing += 1
                 print(f"run {number}, {' '.join(words)}: {text[:600]!r} over {data[:600]!r}")

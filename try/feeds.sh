@@ -1,10 +1,11 @@
 #!/usr/bin/env bash
 # Makes lists of small feeds that it writes itself, by deploy/sync-feed with the filters of docs/FEEDS.md, from the download to the
 # verdict of a client: URLs with comments and CR LF, a hosts file, CSV and domains. Then a feed that lost a line and got one, one
-# that is empty, one with a line that is no URL, two runs at once, an append that was killed, and a journal with little room.
+# that is empty, one with a line that is no URL, two runs at once, an append that was killed, a journal with little room, which is
+# told anew, and a list that is full, of which a feed replaces half.
 #
 # sbupdate waits up to 60 seconds before its first request, at random, and so does sbcheck before its first find: together up to
-# two minutes.
+# three minutes.
 set -u
 cd "$(dirname "$0")/.." || exit 1
 source try/common.sh
@@ -143,3 +144,45 @@ END
 journal=$folder/full
 sync_feed "$DOMAINS" "http://127.0.0.1:$web/domains"
 is "a journal with little room" 0 "*1 came, 0 went; 59001 changes, 6535 left; *less than a tenth*"
+
+# ---- the same journal told anew: the server ends as it is replaced, and a client of the new one has the same verdicts
+
+port=$(free_port)
+bin/sblistd serve --journal "$journal" --listen "127.0.0.1:$port" > "$folder/printed" 2> "$folder/said" &
+server=$!
+sleep 1
+flock "$journal.lock" sh -c 'sbjournal compact < "$1" > "$1.new" && mv "$1.new" "$1"' sh "$journal" || fail "the journal was not told anew"
+[ "$(sbjournal check < "$journal")" = "$DOMAINS 4, 1 hashes, 1 prefixes
+1 changes, 65535 left; 1 hash lines, 2097151 left; 0 bytes of a record that has not ended" ] || fail "told anew: $(sbjournal check < "$journal")"
+curl --silent --max-time 10 "http://127.0.0.1:$port/v4/threatLists" > /dev/null
+wait "$server"
+[ "$?" = 2 ] || fail "the server of a journal that was replaced: $(< "$folder/said")"
+bin/sblistd serve --journal "$journal" --listen "127.0.0.1:$port" > "$folder/printed" &
+started+=($!)
+sleep 1
+bin/sbupdate run --store "$folder/anew" --server "127.0.0.1:$port" --rounds 1 "$DOMAINS" > "$folder/run" ||
+  fail "the run of a journal that was told anew ended with status $?: $(< "$folder/run")"
+report=$(bin/sbcheck judge --store "$folder/anew" --server "127.0.0.1:$port" "$DOMAINS" 2> "$folder/said" <<< 'h.example/a')
+[ "$report" = "1 unsafe 0 $DOMAINS http://h.example/a
+checked 1: 0 safe, 1 unsafe, 0 undecided, 0 refused" ] || fail "the verdict over a journal that was told anew: $report"
+sync_feed "$DOMAINS" "http://127.0.0.1:$web/domains"
+is "a journal that was told anew" 0 "*: nothing is new"
+
+# ---- a list that is full: removals make the room that additions need, up to the last hash line
+
+sbjournal new "$DOMAINS" > "$folder/whole"
+journal=$folder/whole
+seq -f 'n%.0f.example' 1 1048576 > "$folder/feeds/many"
+sync_feed "$DOMAINS" "http://127.0.0.1:$web/many"
+is "1,048,576 domains" 0 "*: 1048576 came, 0 went; 1024 changes, *; 1048576 hash lines, 1048576 left; *"
+seq -f 'n%.0f.example' 524289 1572864 > "$folder/feeds/many"
+sync_feed "$DOMAINS" "http://127.0.0.1:$web/many"
+is "half of them others" 0 "*: 524288 came, 524288 went; 2048 changes, *; 2097152 hash lines, 0 left; *less than a tenth*"
+sbjournal compact < "$journal" > "$folder/lasting" || fail "a full journal was not told anew"
+cmp -s <(sbjournal check < "$journal" | head -n 1) <(sbjournal check < "$folder/lasting" | head -n 1) || fail "a full journal told anew: $(sbjournal check < "$folder/lasting")"
+journal=$folder/lasting
+sync_feed "$DOMAINS" "http://127.0.0.1:$web/many"
+is "the same once the journal was told anew" 0 "*: nothing is new"
+seq -f 'n%.0f.example' 1 1048577 > "$folder/feeds/many"
+sync_feed "$DOMAINS" "http://127.0.0.1:$web/many"
+is "one domain too many" 7 "*nothing is appended*journal too-many *"

@@ -3,3 +3,14 @@ pub mod Fronts
 pub mod Stops
 pub mod Taking
 pub mod Declared
+pub mod Newest
+pub mod Wholes
+pub mod TakenRecords
+pub mod Joined
+pub mod BeginningLines
+pub mod NoLines
+pub mod Waiting
+pub mod Given
+pub mod NewJournals
+pub mod Edits
+pub mod ChangedRecords

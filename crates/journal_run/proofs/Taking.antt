@@ -1,8 +1,7 @@
 -- What a text that is lent whole comes to as a journal, or behind one.
-use Rattle.std.proofs.Common.{◌≡◌, ◌≢◌, ◌⊎◌, inl, inr, ℕ, ◌+◌, ◌≤◌, Bool, true, false, List, [], ◌∷◌, ◌++◌, refl, sym, ap, ◌∙◌, subst, Option, Some, None, arith, append-nil}
-use Rattle.std.specs.Prelude.{All, Result, Ok, Err}
+use Rattle.std.proofs.Common.{◌≡◌, ◌≢◌, ℕ, Bool, true, false, List, [], ◌∷◌, ◌++◌, refl, sym, ap, ◌∙◌, subst, Option, Some, None, arith, append-nil}
+use Rattle.std.specs.Prelude.{Err}
 use Rattle.sb_outside.specs.Outside.{Rose, bytes_left, next_piece, prepended}
-use Rattle.sb_outside.specs.Reading.{ReadsToEnd}
 use Rattle.list_versions.specs.Journal.{Kept, read_on}
 use Rattle.list_versions.specs.Loaded.{Gives, FurtherFault, IsBadRest}
 use Rattle.list_versions.specs.declared.fault.JournalFault.{JournalFault}

@@ -1,5 +1,6 @@
 -- What `change` prints: records that put in and take out what the lines of an input say.
-use Rattle.std.specs.Prelude.{ℕ, Bool, ◌&&◌, not, is_some, if◌then◌else◌, List, Option, unwrap_or}
+use Rattle.std.specs.Prelude.{◌≡◌, ℕ, ◌&&◌, not, is_some, if◌then◌else◌, List, unwrap_or}
+use Rattle.sb_model.specs.declared.history.Change.{Change}
 use Rattle.sb_journal.specs.Changes.{edits_in}
 use Rattle.sb_journal.specs.Records.{last_lines, records_of}
 use Rattle.sb_journal.specs.Refusals.{has_refused, refusals, refused_edits_in}
@@ -20,3 +21,10 @@ change_reply line input =
     if has_refused (refused_edits_in input) && not line.skip
     then refused_with (refusals (refused_edits_in input))
     else done_with (change_text line input)
+
+-- what these records say behind a journal in which the list has this declared size: a line that puts in without a size has that
+abbrev pub changed_with : ChangeLine → ℕ → List ℕ → List Change
+changed_with line declared input = records_of line.list (last_lines (edits_in (unwrap_or line.size declared) input))
+
+abbrev pub IsChangeReply : ChangeLine → List ℕ → Reply → Type 0
+IsChangeReply line input reply = reply ≡ change_reply line input

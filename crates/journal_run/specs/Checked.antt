@@ -1,5 +1,5 @@
 -- What `check` prints of a journal.
-use Rattle.std.specs.Prelude.{ℕ, ◌-◌, List, [], ◌∷◌, ◌++◌, length, codes, decimal}
+use Rattle.std.specs.Prelude.{◌≡◌, ℕ, ◌-◌, List, [], ◌∷◌, ◌++◌, length, codes, decimal}
 use Rattle.std.specs.List.{flat_map}
 use Rattle.sb_model.specs.declared.names.ListName.{ListName}
 use Rattle.sb_model.specs.History.{History, prefixes_at, version_count}
@@ -38,3 +38,6 @@ check_text kept = flat_map (list_status kept.versions) kept.versions.declared ++
 
 abbrev pub check_reply : Kept → Reply
 check_reply kept = done_with (check_text kept)
+
+abbrev pub IsCheckReply : Kept → Reply → Type 0
+IsCheckReply kept reply = reply ≡ check_reply kept

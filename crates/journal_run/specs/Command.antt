@@ -9,7 +9,7 @@ use Rattle.sb_words.specs.CommandLine.{Text, CommandOption, CommandShape, Given,
 use Rattle.sb_words.specs.Values.{lists_of, number_of}
 use Rattle.journal_run.specs.declared.command.Call.{Call}
 use Rattle.journal_run.specs.declared.command.Command.{Command}
-use Rattle.journal_run.specs.declared.command.Command.TheVariants.{New, Sync, Change, Check, Has}
+use Rattle.journal_run.specs.declared.command.Command.TheVariants.{New, Sync, Change, Check, Has, Compact}
 
 abbrev pub needed : Text → CommandOption
 needed name = record { name = name; kind = Needed }
@@ -20,7 +20,7 @@ optional name = record { name = name; kind = Optional }
 abbrev pub flag : Text → CommandOption
 flag name = record { name = name; kind = Flag }
 
--- Each command but `check` takes positional words: the names of lists.
+-- Each command but `check` and `compact` takes positional words: the names of lists.
 abbrev pub new_shape : CommandShape
 new_shape = record { options = optional (codes "size") ∷ []; takes_positionals = true }
 
@@ -97,6 +97,7 @@ call_named name words =
     else if bytes_eq name (codes "change") then option_and_then change_given (given_of change_shape words)
     else if bytes_eq name (codes "has") then option_and_then has_given (given_of has_shape words)
     else if bytes_eq name (codes "check") then option_map (λ _. plain_call Check) (given_of plain_shape words)
+    else if bytes_eq name (codes "compact") then option_map (λ _. plain_call Compact) (given_of plain_shape words)
     else None
 
 -- what the words of a command line say, of which the first is the program's name
@@ -114,6 +115,7 @@ journal_of words = option_and_then (λ (call : Call). call.journal) (call_of wor
 -- whether a command draws an epoch
 abbrev pub draws_epoch : Command → Bool
 draws_epoch (New line) = true
+draws_epoch Compact = true
 draws_epoch command = false
 
 -- whether a command reads the journal that the words name, and whether it reads the input

@@ -1,5 +1,5 @@
 -- What `has` prints: which URLs a list has, by its full hashes.
-use Rattle.std.specs.Prelude.{ℕ, Bool, true, false, if◌then◌else◌, List, [], ◌∷◌, ◌++◌, filter, map, Option, Some, None, Result, Ok, Err, is_some, codes}
+use Rattle.std.specs.Prelude.{◌≡◌, ℕ, Bool, true, false, if◌then◌else◌, List, [], ◌∷◌, ◌++◌, filter, Result, Ok, Err, is_some, codes}
 use Rattle.std.specs.List.{enumerate_from, flat_map, list_any}
 use Rattle.std.specs.Str.{bytes_eq}
 use Rattle.std.specs.Str.Lines.{lines}
@@ -70,3 +70,6 @@ has_reply list input kept =
     if is_some (declared_size_of kept.versions list)
     then record { text = verdicts kept.versions list input; status = status_of_lines kept.versions list (lines input) }
     else unknown_list
+
+abbrev pub IsHasReply : ListName → List ℕ → Kept → Reply → Type 0
+IsHasReply list input kept reply = reply ≡ has_reply list input kept

@@ -1,5 +1,5 @@
 -- A new journal.
-use Rattle.std.specs.Prelude.{◌≡◌, ℕ, ◌+◌, ◌*◌, ◌^◌, true, List, [], ◌∷◌, map, Option}
+use Rattle.std.specs.Prelude.{◌≡◌, ◌<◌, ℕ, ◌+◌, ◌*◌, ◌^◌, true, List, [], map, Option}
 use Rattle.sb_outside.specs.Outside.{IfTold, with_entry}
 use Rattle.sb_model.specs.History.{History}
 use Rattle.list_versions.specs.Written.{journal_text}
@@ -13,12 +13,13 @@ use Rattle.journal_run.specs.Written.{IsWritten}
 abbrev pub epoch_of : ℕ → ℕ → ℕ
 epoch_of upper lower = upper * 2 ^ 32 + lower
 
--- Dice gave the two words of an epoch.
+-- Dice gave the two words of an epoch, which has 64 bits.
 pub record DrawsEpoch (epoch : ℕ) (given given' : Option (List ℕ)) : Type 0 where
   pub upper : ℕ
   pub lower : ℕ
   pub drawn : IfTold given' (with_entry (with_entry given upper) lower)
   pub epoch_is : epoch ≡ epoch_of upper lower
+  pub fits : epoch < 2 ^ 64
 
 -- ---- `new`
 

@@ -3,8 +3,10 @@ pub mod Stops
 pub mod Written
 pub mod Printed
 pub mod Runs
+pub mod Taken
 pub mod Fresh
 pub mod Checked
 pub mod Changed
 pub mod Found
 pub mod Synced
+pub mod Compacting

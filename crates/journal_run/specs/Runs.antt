@@ -1,5 +1,5 @@
 -- What a run does to its input, to its journal and to its output. A run that was refused memory is left out here.
-use Rattle.std.specs.Prelude.{◌≡◌, ◌≢◌, ◌⊎◌, ◌^◌, ◌-◌, ◌<◌, ℕ, Bool, List, Option, Result, Ok, Err}
+use Rattle.std.specs.Prelude.{◌≡◌, ◌≢◌, ◌⊎◌, ℕ, Bool, List, Option, Result, Ok, Err}
 use Rattle.sb_outside.specs.Outside.{Rose}
 use Rattle.sb_outside.specs.declared.reading.InputFault.{InputFault}
 use Rattle.sb_outside.specs.declared.reading.InputFault.TheVariants as input
@@ -25,36 +25,42 @@ AfterFault journal.ReadFault status held held' = IsSilent 2 status held held'
 AfterFault journal.OutOfMemory status held held' = ⊥
 AfterFault fault status held held' = IsWritten (refusal_of fault) status held held'
 
--- what a journal led to: its reply if it tells a history
-abbrev pub AfterJournal : (Kept → Reply) → Result Kept JournalFault → ℕ → (held held' : Option (List ℕ)) → Type 0
-AfterJournal reply (Ok kept) status held held' = IsWritten (reply kept) status held held'
-AfterJournal reply (Err fault) status held held' = AfterFault fault status held held'
+-- Of some replies one was written.
+pub record WritesOne (Replies : Reply → Type 0) (status : ℕ) (held held' : Option (List ℕ)) : Type 0 where
+  pub reply : Reply
+  pub is : Replies reply
+  pub written : IsWritten reply status held held'
+
+-- what a journal led to: a reply to it if it tells a history
+abbrev pub AfterJournal : (Kept → Reply → Type 0) → Result Kept JournalFault → ℕ → (held held' : Option (List ℕ)) → Type 0
+AfterJournal Replies (Ok kept) status held held' = WritesOne (Replies kept) status held held'
+AfterJournal Replies (Err fault) status held held' = AfterFault fault status held held'
 
 -- The journal gave these bytes, with its end or without, and what they come to decided what was written.
-pub record IsJournalRun (reply : Kept → Reply) (status : ℕ) (left left' : Option (List (List ℕ)))
+pub record IsJournalRun (Replies : Kept → Reply → Type 0) (status : ℕ) (left left' : Option (List (List ℕ)))
     (held held' : Option (List ℕ)) : Type 0 where
   pub bytes : List ℕ
   pub ended : Bool
   pub gives : Gives bytes ended left left'
   pub loaded : Result Kept JournalFault
   pub outcome : JournalOutcome bytes ended loaded
-  pub after : AfterJournal reply loaded status held held'
+  pub after : AfterJournal Replies loaded status held held'
 
 -- ---- an input of URLs
 
--- what an input led to: its reply, 2 if it failed, 6 if it is too long
-abbrev pub AfterInput : (List ℕ → Reply) → Result (List ℕ) InputFault → ℕ → (held held' : Option (List ℕ)) → Type 0
-AfterInput reply (Ok text) status held held' = IsWritten (reply text) status held held'
-AfterInput reply (Err input.Failed) status held held' = IsSilent 2 status held held'
-AfterInput reply (Err input.PastLimit) status held held' = IsSilent 6 status held held'
-AfterInput reply (Err input.OutOfMemory) status held held' = ⊥
+-- what an input led to: a reply to it, 2 if it failed, 6 if it is too long
+abbrev pub AfterInput : (List ℕ → Reply → Type 0) → Result (List ℕ) InputFault → ℕ → (held held' : Option (List ℕ)) → Type 0
+AfterInput Replies (Ok text) status held held' = WritesOne (Replies text) status held held'
+AfterInput Replies (Err input.Failed) status held held' = IsSilent 2 status held held'
+AfterInput Replies (Err input.PastLimit) status held held' = IsSilent 6 status held held'
+AfterInput Replies (Err input.OutOfMemory) status held held' = ⊥
 
 -- The input was read, and decided what was written.
-pub record IsInputRun (reply : List ℕ → Reply) (status : ℕ) (left left' : Option (List (List ℕ)))
+pub record IsInputRun (Replies : List ℕ → Reply → Type 0) (status : ℕ) (left left' : Option (List (List ℕ)))
     (held held' : Option (List ℕ)) : Type 0 where
   pub given : Result (List ℕ) InputFault
   pub outcome : InputOutcome given left left'
-  pub after : AfterInput reply given status held held'
+  pub after : AfterInput Replies given status held held'
 
 -- ---- an input, and then a journal
 
@@ -63,20 +69,20 @@ pub record IsUnreadRun (wanted status : ℕ) (left left' : Option (List (List �
   pub unread : left' ≡ left
   pub silent : IsSilent wanted status held held'
 
--- what an input led to: the journal was read and gave its reply to the input, or the input failed or is too long
-abbrev pub AfterFeed : (List ℕ → Kept → Reply) → Result (List ℕ) InputFault → ℕ → (left left' : Option (List (List ℕ)))
+-- what an input led to: the journal was read, and there was a reply to both, or the input failed or is too long
+abbrev pub AfterFeed : (List ℕ → Kept → Reply → Type 0) → Result (List ℕ) InputFault → ℕ → (left left' : Option (List (List ℕ)))
     → (held held' : Option (List ℕ)) → Type 0
-AfterFeed reply (Ok text) status left left' held held' = IsJournalRun (reply text) status left left' held held'
-AfterFeed reply (Err input.Failed) status left left' held held' = IsUnreadRun 2 status left left' held held'
-AfterFeed reply (Err input.PastLimit) status left left' held held' = IsUnreadRun 6 status left left' held held'
-AfterFeed reply (Err input.OutOfMemory) status left left' held held' = ⊥
+AfterFeed Replies (Ok text) status left left' held held' = IsJournalRun (Replies text) status left left' held held'
+AfterFeed Replies (Err input.Failed) status left left' held held' = IsUnreadRun 2 status left left' held held'
+AfterFeed Replies (Err input.PastLimit) status left left' held held' = IsUnreadRun 6 status left left' held held'
+AfterFeed Replies (Err input.OutOfMemory) status left left' held held' = ⊥
 
 -- The input was read, and then the journal if the input was read whole.
-pub record IsFeedRun (reply : List ℕ → Kept → Reply) (status : ℕ) (journal journal' left left' : Option (List (List ℕ)))
+pub record IsFeedRun (Replies : List ℕ → Kept → Reply → Type 0) (status : ℕ) (journal journal' left left' : Option (List (List ℕ)))
     (held held' : Option (List ℕ)) : Type 0 where
   pub given : Result (List ℕ) InputFault
   pub outcome : InputOutcome given left left'
-  pub after : AfterFeed reply given status journal journal' held held'
+  pub after : AfterFeed Replies given status journal journal' held held'
 
 -- ---- the counts of faults
 

@@ -1,5 +1,5 @@
 -- The exit status of a run, by what ended it.
-use Rattle.std.specs.Prelude.{◌≡◌, ◌≢◌, ℕ, Bool, true, false}
+use Rattle.std.specs.Prelude.{◌≢◌, ℕ, Bool, true, false}
 use Rattle.journal_run.specs.declared.stop.Stop.{Stop}
 use Rattle.journal_run.specs.declared.stop.Stop.TheVariants as stop
 

@@ -1,15 +1,15 @@
 -- What `sync` prints: records after which a list has exactly the hashes of the URLs of an input.
-use Rattle.std.specs.Prelude.{ℕ, Bool, true, false, ◌&&◌, not, if◌then◌else◌, List, [], ◌∷◌, ◌++◌, Option, Some, None, Result, Ok, Err, codes}
+use Rattle.std.specs.Prelude.{◌≡◌, ℕ, Bool, true, false, ◌&&◌, not, if◌then◌else◌, List, [], ◌∷◌, ◌++◌, Option, Some, None, codes}
 use Rattle.sb_model.specs.Prefixes.{set_of}
-use Rattle.list_versions.specs.Journal.{Kept, declared_size_of, read_on}
+use Rattle.list_versions.specs.Journal.{Kept, declared_size_of}
 use Rattle.list_versions.specs.Lines.{newline}
-use Rattle.list_versions.specs.declared.fault.JournalFault.{JournalFault}
 use Rattle.sb_journal.specs.Changes.{sync_changes}
 use Rattle.sb_journal.specs.Feed.{hashes_in}
 use Rattle.sb_journal.specs.Refusals.{has_refused, refusals, refused_in}
 use Rattle.sb_journal.specs.Texts.{records_text}
 use Rattle.journal_run.specs.declared.command.SyncLine.{SyncLine}
-use Rattle.journal_run.specs.Printed.{done_with, refused_with, refusal_of, unknown_list}
+use Rattle.journal_run.specs.Printed.{refused_with, unknown_list}
+use Rattle.journal_run.specs.Taken.{AreTaken, records_reply}
 use Rattle.journal_run.specs.Written.{Reply}
 
 -- the records that lead from the newest hashes of a list to those of an input, in the form of the journal and, if that
@@ -17,14 +17,6 @@ use Rattle.journal_run.specs.Written.{Reply}
 abbrev pub sync_text : SyncLine → ℕ → List ℕ → Kept → List ℕ
 sync_text line size input kept =
     records_text kept.sized (sync_changes kept.versions line.list size (set_of (hashes_in input)))
-
--- a text for a journal, if the journal is read on by it, and else why not
-abbrev pub taken_reply : List ℕ → Result Kept JournalFault → Reply
-taken_reply text (Ok after) = done_with text
-taken_reply text (Err fault) = refusal_of fault
-
-abbrev pub records_reply : List ℕ → Kept → Reply
-records_reply text kept = taken_reply text (read_on kept text)
 
 -- whether there is none
 abbrev pub is_none_of : List (List ℕ) → Bool
@@ -49,3 +41,9 @@ size_reply line input kept (Some size) = feed_reply line input kept size
 
 abbrev pub sync_reply : SyncLine → List ℕ → Kept → Reply
 sync_reply line input kept = size_reply line input kept (declared_size_of kept.versions line.list)
+
+-- What `sync` says of an input after a journal. Records that it prints are taken as the changes that they say.
+pub record IsSyncReply (line : SyncLine) (input : List ℕ) (kept : Kept) (reply : Reply) : Type 0 where
+  pub is : reply ≡ sync_reply line input kept
+  pub taken : reply.status ≡ 0 → (size : ℕ) → declared_size_of kept.versions line.list ≡ Some size
+      → AreTaken (sync_changes kept.versions line.list size (set_of (hashes_in input))) kept

@@ -58,7 +58,7 @@ const HAS: Shape = Shape {
     takes_positionals: true,
 };
 
-/// The words of `check`.
+/// The words of `check` and of `compact`.
 const PLAIN: Shape = Shape {
     options: &[],
     takes_positionals: false,
@@ -105,6 +105,7 @@ pub(crate) enum Command {
     Change(ChangeLine),
     Check,
     Has(ListName),
+    Compact,
 }
 
 /// What a command line says.
@@ -275,6 +276,20 @@ fn check_call(alloc: Global, words: &[String]) -> Result<Option<Call>, OutOfMemo
     }))
 }
 
+/// What the words after `compact` say.
+fn compact_call(alloc: Global, words: &[String]) -> Result<Option<Call>, OutOfMemory>
+    ensures { IfOk result (λ call. call
+        ≡ option_map (λ _. plain_call Command.Compact) (given_of plain_shape (map string_bytes words.now))) }
+{
+    if !is_plain(alloc, words)? {
+        return Ok(None);
+    }
+    Ok(Some(Call {
+        command: Command::Compact,
+        journal: None,
+    }))
+}
+
 /// What the words after the name of a command say.
 fn call_named(alloc: Global, name: &str, words: &[String]) -> Result<Option<Call>, OutOfMemory>
     ensures { IfOk result (λ call. call ≡ call_named_by name.now (map string_bytes words.now)) }
@@ -285,6 +300,7 @@ fn call_named(alloc: Global, name: &str, words: &[String]) -> Result<Option<Call
         "change" => change_call(alloc, words),
         "has" => has_call(alloc, words),
         "check" => check_call(alloc, words),
+        "compact" => compact_call(alloc, words),
         _ => Ok(None),
     }
 }

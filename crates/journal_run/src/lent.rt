@@ -1,5 +1,5 @@
-ghost use Rattle.std.specs.Prelude.{◌≡◌, ◌≢◌, ◌∷◌, [], Err, Ok, Some, IfErr, OnOk};
-ghost use Rattle.list_versions.specs.Journal.{read_on};
+ghost use Rattle.std.specs.Prelude.{◌≡◌, ◌≢◌, ◌∷◌, [], Err, Ok, Some, IfErr, IfOk, OnOk};
+ghost use Rattle.list_versions.specs.Journal.{kept_of, read_on};
 
 use list_versions::{History, JournalFault};
 use sb_outside::{Failed, Source};
@@ -64,6 +64,18 @@ pub(crate) fn read_on(alloc: Global, history: &mut History, text: &[u8]) -> Resu
     let mut source = LentText::new(text);
     match history.grow(alloc, &mut source) {
         Ok(()) => Ok(()),
+        Err(fault) => Err(fault),
+    }
+}
+
+/// Reads a text as a whole journal.
+pub(crate) fn read_whole(alloc: Global, text: &[u8]) -> Result<History, JournalFault>
+    ensures ok { IfOk result (λ history. kept_of text.now ≡ Ok history) }
+    ensures fault { IfErr result (λ fault. fault ≢ JournalFault.OutOfMemory → kept_of text.now ≡ Err fault) }
+{
+    let mut source = LentText::new(text);
+    match History::load(alloc, &mut source) {
+        Ok(history) => Ok(history),
         Err(fault) => Err(fault),
     }
 }

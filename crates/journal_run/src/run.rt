@@ -1,14 +1,15 @@
 ghost use Rattle.std.specs.Prelude.{◌≡◌, ◌≢◌, ◌⊎◌, ◌<◌, ◌^◌, ℕ, false, length, map, string_bytes, None, Ok, Some, IfOk, OnErr};
 ghost use Rattle.sb_model.specs.declared.names.ListName.{ListName as Name};
 ghost use Rattle.sb_outside.specs.Outside.{Rose};
-ghost use Rattle.journal_run.specs.Changed.{change_reply};
-ghost use Rattle.journal_run.specs.Checked.{check_reply};
+ghost use Rattle.journal_run.specs.Changed.{IsChangeReply};
+ghost use Rattle.journal_run.specs.Checked.{IsCheckReply};
+ghost use Rattle.journal_run.specs.Compacting.{IsCompactRun};
 ghost use Rattle.journal_run.specs.Command.{command_of, draws_epoch, reads_input, reads_journal};
-ghost use Rattle.journal_run.specs.Found.{has_reply};
+ghost use Rattle.journal_run.specs.Found.{IsHasReply};
 ghost use Rattle.journal_run.specs.Fresh.{IsNewRun};
 ghost use Rattle.journal_run.specs.Runs.{AfterFault, AreCounted, IsFeedRun, IsInputRun, IsJournalRun, IsStatus};
 ghost use Rattle.journal_run.specs.Stops.{EndsCommand, status_of};
-ghost use Rattle.journal_run.specs.Synced.{sync_reply};
+ghost use Rattle.journal_run.specs.Synced.{IsSyncReply};
 ghost use Rattle.journal_run.specs.Written.{TellsUsage};
 ghost use Rattle.journal_run.specs.declared.command.Command.{Command as Asked};
 ghost use Rattle.journal_run.specs.declared.command.ChangeLine.{ChangeLine as Changing};
@@ -18,8 +19,9 @@ ghost use Rattle.journal_run.specs.declared.command.SyncLine.{SyncLine as Syncin
 use crate::changed::change_reply;
 use crate::checked::check_reply;
 use crate::command::{ChangeLine, Command, SyncLine, call_of};
+use crate::compacting::compact_reply;
 use crate::found::has_reply;
-use crate::fresh::make_journal;
+use crate::fresh::{draw_epoch, make_journal};
 use crate::reply::Reply;
 use crate::stop::{Stop, status_of};
 use crate::synced::sync_reply;
@@ -40,7 +42,9 @@ pub const USAGE: &str = "usage: sbjournal COMMAND\n\n  \
     sbjournal check\n      \
     reads a journal, and writes what its lists have and how much room is left\n  \
     sbjournal has LIST --journal PATH\n      \
-    reads URLs, and writes for each which of its expressions the list has\n";
+    reads URLs, and writes for each which of its expressions the list has\n  \
+    sbjournal compact\n      \
+    reads a journal, and writes one with a new epoch that has what its lists have now\n";
 
 /// Tells how the program is used.
 fn tell_usage<O: Sink>(out: &mut O) -> u8
@@ -76,7 +80,7 @@ fn tell_fault<O: Sink>(alloc: Global, fault: JournalFault, out: &mut O) -> Resul
 
 /// Reads a journal from the input, and says what it has.
 fn check<S: Source, O: Sink>(alloc: Global, input: &mut S, out: &mut O) -> Result<Stop, OutOfMemory>
-    ensures run { IfOk result (λ stop. IsJournalRun check_reply (status_of stop) (S.left input.old) (S.left input.new)
+    ensures run { IfOk result (λ stop. IsJournalRun IsCheckReply (status_of stop) (S.left input.old) (S.left input.new)
         (O.contents out.old) (O.contents out.new)) }
     ensures ends { IfOk result EndsCommand }
     ensures read { result ≡ Ok Stop.ReadFault → Rose (S.faults input.old) (S.faults input.new) }
@@ -94,6 +98,32 @@ fn check<S: Source, O: Sink>(alloc: Global, input: &mut S, out: &mut O) -> Resul
     }
 }
 
+/// Draws an epoch, reads a journal from the input, and prints it told anew.
+fn compact<S: Source, O: Sink, D: Dice>(
+    alloc: Global,
+    input: &mut S,
+    out: &mut O,
+    dice: &mut D,
+) -> Result<Stop, OutOfMemory>
+    ensures run { IfOk result (λ stop. IsCompactRun (status_of stop) (D.given dice.old) (D.given dice.new)
+        (S.left input.old) (S.left input.new) (O.contents out.old) (O.contents out.new)) }
+    ensures ends { IfOk result EndsCommand }
+    ensures read { result ≡ Ok Stop.ReadFault → Rose (S.faults input.old) (S.faults input.new) }
+    ensures read_kept { result ≢ Ok Stop.ReadFault → S.faults input.new ≡ S.faults input.old }
+    ensures failed { result ≡ Ok Stop.WriteFault → Rose (O.faults out.old) (O.faults out.new) }
+    ensures kept { result ≢ Ok Stop.WriteFault → O.faults out.new ≡ O.faults out.old }
+    ensures memory { OnErr result (out.new ≡ out.old) }
+{
+    let epoch = draw_epoch(dice);
+    match History::load(alloc, input) {
+        Ok(history) => {
+            let reply = compact_reply(alloc, epoch, history)?;
+            Ok(reply.print(out))
+        }
+        Err(fault) => tell_fault(alloc, fault, out),
+    }
+}
+
 /// Reads lines with signs, and prints records of them.
 fn change<S: Source, O: Sink>(
     alloc: Global,
@@ -101,7 +131,7 @@ fn change<S: Source, O: Sink>(
     input: &mut S,
     out: &mut O,
 ) -> Result<Stop, OutOfMemory>
-    ensures run { IfOk result (λ stop. IsInputRun (change_reply line.now) (status_of stop) (S.left input.old) (S.left input.new)
+    ensures run { IfOk result (λ stop. IsInputRun (IsChangeReply line.now) (status_of stop) (S.left input.old) (S.left input.new)
         (O.contents out.old) (O.contents out.new)) }
     ensures ends { IfOk result EndsCommand }
     ensures read { result ≡ Ok Stop.ReadFault → Rose (S.faults input.old) (S.faults input.new) }
@@ -130,7 +160,7 @@ fn sync_with<J: Source, O: Sink>(
     out: &mut O,
 ) -> Result<Stop, OutOfMemory>
     requires { length input.now < 2 ^ 32 }
-    ensures run { IfOk result (λ stop. IsJournalRun (sync_reply line.now input.now) (status_of stop)
+    ensures run { IfOk result (λ stop. IsJournalRun (IsSyncReply line.now input.now) (status_of stop)
         (J.left journal.old) (J.left journal.new) (O.contents out.old) (O.contents out.new)) }
     ensures ends { IfOk result EndsCommand }
     ensures read { result ≡ Ok Stop.ReadFault → Rose (J.faults journal.old) (J.faults journal.new) }
@@ -156,7 +186,7 @@ fn sync<J: Source, S: Source, O: Sink>(
     input: &mut S,
     out: &mut O,
 ) -> Result<Stop, OutOfMemory>
-    ensures run { IfOk result (λ stop. IsFeedRun (sync_reply line.now) (status_of stop) (J.left journal.old) (J.left journal.new)
+    ensures run { IfOk result (λ stop. IsFeedRun (IsSyncReply line.now) (status_of stop) (J.left journal.old) (J.left journal.new)
         (S.left input.old) (S.left input.new) (O.contents out.old) (O.contents out.new)) }
     ensures ends { IfOk result EndsCommand }
     ensures read { result ≡ Ok Stop.ReadFault →
@@ -185,7 +215,7 @@ fn has_with<J: Source, O: Sink>(
     out: &mut O,
 ) -> Result<Stop, OutOfMemory>
     requires { length input.now < 2 ^ 32 }
-    ensures run { IfOk result (λ stop. IsJournalRun (has_reply list input.now) (status_of stop)
+    ensures run { IfOk result (λ stop. IsJournalRun (IsHasReply list input.now) (status_of stop)
         (J.left journal.old) (J.left journal.new) (O.contents out.old) (O.contents out.new)) }
     ensures ends { IfOk result EndsCommand }
     ensures read { result ≡ Ok Stop.ReadFault → Rose (J.faults journal.old) (J.faults journal.new) }
@@ -211,7 +241,7 @@ fn has<J: Source, S: Source, O: Sink>(
     input: &mut S,
     out: &mut O,
 ) -> Result<Stop, OutOfMemory>
-    ensures run { IfOk result (λ stop. IsFeedRun (has_reply list) (status_of stop) (J.left journal.old) (J.left journal.new)
+    ensures run { IfOk result (λ stop. IsFeedRun (IsHasReply list) (status_of stop) (J.left journal.old) (J.left journal.new)
         (S.left input.old) (S.left input.new) (O.contents out.old) (O.contents out.new)) }
     ensures ends { IfOk result EndsCommand }
     ensures read { result ≡ Ok Stop.ReadFault →
@@ -244,15 +274,18 @@ fn run_command<J: Source, S: Source, O: Sink, D: Dice>(
     ensures news { IfOk result (λ stop. (line : Making) → command.now ≡ Command.New line
         → IsNewRun line (status_of stop) (D.given dice.old) (D.given dice.new) (O.contents out.old) (O.contents out.new)) }
     ensures syncs { IfOk result (λ stop. (line : Syncing) → command.now ≡ Command.Sync line
-        → IsFeedRun (sync_reply line) (status_of stop) (J.left journal.old) (J.left journal.new)
+        → IsFeedRun (IsSyncReply line) (status_of stop) (J.left journal.old) (J.left journal.new)
         (S.left input.old) (S.left input.new) (O.contents out.old) (O.contents out.new)) }
     ensures changes { IfOk result (λ stop. (line : Changing) → command.now ≡ Command.Change line
-        → IsInputRun (change_reply line) (status_of stop) (S.left input.old) (S.left input.new) (O.contents out.old) (O.contents out.new)) }
+        → IsInputRun (IsChangeReply line) (status_of stop) (S.left input.old) (S.left input.new) (O.contents out.old) (O.contents out.new)) }
     ensures checks { IfOk result (λ stop. command.now ≡ Command.Check
-        → IsJournalRun check_reply (status_of stop) (S.left input.old) (S.left input.new) (O.contents out.old) (O.contents out.new)) }
+        → IsJournalRun IsCheckReply (status_of stop) (S.left input.old) (S.left input.new) (O.contents out.old) (O.contents out.new)) }
     ensures finds { IfOk result (λ stop. (list : Name) → command.now ≡ Command.Has list
-        → IsFeedRun (has_reply list) (status_of stop) (J.left journal.old) (J.left journal.new)
+        → IsFeedRun (IsHasReply list) (status_of stop) (J.left journal.old) (J.left journal.new)
         (S.left input.old) (S.left input.new) (O.contents out.old) (O.contents out.new)) }
+    ensures compacts { IfOk result (λ stop. command.now ≡ Command.Compact
+        → IsCompactRun (status_of stop) (D.given dice.old) (D.given dice.new) (S.left input.old) (S.left input.new)
+        (O.contents out.old) (O.contents out.new)) }
     ensures no_journal { reads_journal command.now ≡ false → journal.new ≡ journal.old }
     ensures no_input { reads_input command.now ≡ false → input.new ≡ input.old }
     ensures no_draw { draws_epoch command.now ≡ false → dice.new ≡ dice.old }
@@ -271,6 +304,7 @@ fn run_command<J: Source, S: Source, O: Sink, D: Dice>(
         Command::Change(line) => change(alloc, line, input, out),
         Command::Check => check(alloc, input, out),
         Command::Has(list) => has(alloc, *list, journal, input, out),
+        Command::Compact => compact(alloc, input, out, dice),
     }
 }
 
@@ -280,7 +314,8 @@ fn run_command<J: Source, S: Source, O: Sink, D: Dice>(
 /// `new` draws an epoch, and writes a journal 2 of the lists that the words name. `check` reads a journal from the input, and
 /// writes what its lists have and how much room it has left. `change` reads lines with signs from the input, and writes the
 /// records that they say. `sync` and `has` read URLs from the input, and then the journal: `sync` writes the records after
-/// which a list has exactly these URLs, and `has` which of their expressions a list has.
+/// which a list has exactly these URLs, and `has` which of their expressions a list has. `compact` draws an epoch, reads a
+/// journal from the input, and writes a journal 2 with this epoch, in which each list has what it has now, by additions alone.
 ///
 /// | Status | Comes |
 /// |---|---|
@@ -318,15 +353,18 @@ pub fn run_journal<J: Source, S: Source, O: Sink, D: Dice>(
     ensures news { (line : Making) → command_of (map string_bytes words.now) ≡ Some (Command.New line) → result ≢ 8
         → IsNewRun line result (D.given dice.old) (D.given dice.new) (O.contents out.old) (O.contents out.new) }
     ensures syncs { (line : Syncing) → command_of (map string_bytes words.now) ≡ Some (Command.Sync line) → result ≢ 8
-        → IsFeedRun (sync_reply line) result (J.left journal.old) (J.left journal.new)
+        → IsFeedRun (IsSyncReply line) result (J.left journal.old) (J.left journal.new)
         (S.left input.old) (S.left input.new) (O.contents out.old) (O.contents out.new) }
     ensures changes { (line : Changing) → command_of (map string_bytes words.now) ≡ Some (Command.Change line) → result ≢ 8
-        → IsInputRun (change_reply line) result (S.left input.old) (S.left input.new) (O.contents out.old) (O.contents out.new) }
+        → IsInputRun (IsChangeReply line) result (S.left input.old) (S.left input.new) (O.contents out.old) (O.contents out.new) }
     ensures checks { command_of (map string_bytes words.now) ≡ Some Command.Check → result ≢ 8
-        → IsJournalRun check_reply result (S.left input.old) (S.left input.new) (O.contents out.old) (O.contents out.new) }
+        → IsJournalRun IsCheckReply result (S.left input.old) (S.left input.new) (O.contents out.old) (O.contents out.new) }
     ensures finds { (list : Name) → command_of (map string_bytes words.now) ≡ Some (Command.Has list) → result ≢ 8
-        → IsFeedRun (has_reply list) result (J.left journal.old) (J.left journal.new)
+        → IsFeedRun (IsHasReply list) result (J.left journal.old) (J.left journal.new)
         (S.left input.old) (S.left input.new) (O.contents out.old) (O.contents out.new) }
+    ensures compacts { command_of (map string_bytes words.now) ≡ Some Command.Compact → result ≢ 8
+        → IsCompactRun result (D.given dice.old) (D.given dice.new) (S.left input.old) (S.left input.new)
+        (O.contents out.old) (O.contents out.new) }
 
     // What a command does not use stays as it was.
     ensures no_journal { (command : Asked) → command_of (map string_bytes words.now) ≡ Some command

@@ -1,21 +1,27 @@
-ghost use Rattle.std.specs.Prelude.{◌≡◌, ◌<◌, ◌^◌, ℕ, List, true, length, map, Some, IfOk};
-ghost use Rattle.sb_model.specs.History.{declares};
+ghost use Rattle.std.specs.Prelude.{◌≡◌, ◌<◌, ◌^◌, ℕ, List, length, map, All, Some, IfOk, OnOk};
+ghost use Rattle.sb_model.specs.declared.history.Change.{Change};
 ghost use Rattle.sb_model.specs.Prefixes.{set_of};
 ghost use Rattle.list_versions.specs.Journal.{declared_size_of};
 ghost use Rattle.sb_journal.specs.Changes.{sync_changes};
 ghost use Rattle.sb_journal.specs.Feed.{hashes_in};
 ghost use Rattle.sb_journal.specs.Refusals.{has_refused, refusals, refused_in};
 ghost use Rattle.sb_journal.specs.Texts.{records_text};
-ghost use Rattle.journal_run.specs.Synced.{feed_reply, records_reply, sync_reply};
+ghost use Rattle.list_versions.specs.Written.{HaveDeclaredSizes, MayFollow};
+ghost use Rattle.journal_run.specs.Synced.{IsSyncReply, feed_reply};
+ghost use Rattle.journal_run.specs.Taken.{AreTaken, records_reply};
 
 use crate::command::SyncLine;
 use crate::held::newest_hashes;
 use crate::lent::read_on;
 use crate::reply::Reply;
+use crate::unended::records_wait_for_their_turn;
 use hash_prefixes::FullHash;
-use list_versions::{History, JournalFault};
+use list_versions::{History, JournalFault, records_are_read_as_their_changes};
 use prefix_set::sets_go_by_members;
-use sb_journal::{Feed, leading_lines, push_records, put_in_order, read_feed};
+use sb_journal::{
+    Feed, leading_lines, lines_have_hashes, push_records, put_in_order, read_feed,
+    synced_records_may_follow,
+};
 use sb_model::{Bytes, ListName, OutOfMemory};
 use std::alloc::Global;
 
@@ -30,7 +36,7 @@ fn bytes_of(alloc: Global, hashes: &[FullHash]) -> Result<Vec<[u8; 32]>, OutOfMe
     Ok(all)
 }
 
-/// The text of the records that lead a list to these hashes.
+/// The text of the records that lead a list with this declared size to these hashes.
 fn sync_text(
     alloc: Global,
     history: &History,
@@ -38,15 +44,21 @@ fn sync_text(
     size: u8,
     mut wanted: Vec<[u8; 32]>,
 ) -> Result<Bytes, OutOfMemory>
-    requires { declares history.now.versions list ≡ true }
-    ensures { IfOk result (λ text. text
+    requires { declared_size_of history.now.versions list ≡ Some size }
+    ensures text { IfOk result (λ text. text
         ≡ records_text history.now.sized (sync_changes history.now.versions list size (set_of wanted.items))) }
+    ensures follow { OnOk result (All (MayFollow history.now.versions)
+        (sync_changes history.now.versions list size (set_of wanted.items))) }
 {
     sets_go_by_members();
+    synced_records_may_follow();
+    // looked at for the prover: a history is well-formed
+    let _ = history.len();
     put_in_order(&mut wanted);
     let newest = newest_hashes(alloc, history, list)?;
     let held = bytes_of(alloc, newest.as_slice())?;
     let lines = leading_lines(alloc, size, held.as_slice(), wanted.as_slice())?;
+    lines_have_hashes(lines.as_slice());
     let mut page = Bytes::new(alloc);
     push_records(alloc, &mut page, history.is_sized(), list, lines.as_slice())?;
     Ok(page)
@@ -54,8 +66,14 @@ fn sync_text(
 
 /// The records of a text if the journal takes them, and else why it does not.
 fn taken_reply(alloc: Global, mut history: History, text: Bytes) -> Result<Reply, OutOfMemory>
-    ensures { IfOk result (λ reply. reply ≡ records_reply text history) }
+    ensures is { IfOk result (λ reply. reply ≡ records_reply text history) }
+    ensures taken { IfOk result (λ reply. reply.status ≡ 0 → (changes : List Change) → text ≡ records_text history.sized changes
+        → All (MayFollow history.versions) changes → HaveDeclaredSizes history.versions changes → AreTaken changes history) }
 {
+    records_are_read_as_their_changes();
+    records_wait_for_their_turn();
+    // looked at for the prover: what stands behind the last record is the front of one
+    let _ = history.rest_len();
     match read_on(alloc, &mut history, text.as_slice()) {
         Ok(()) => Ok(Reply::done(text)),
         Err(JournalFault::OutOfMemory) => Err(OutOfMemory),
@@ -72,10 +90,13 @@ fn feed_reply(
     size: u8,
 ) -> Result<Reply, OutOfMemory>
     requires { declared_size_of history.versions line.now.list ≡ Some size }
-    ensures { (input : List ℕ) → feed.hashes.items ≡ hashes_in input → feed.refusals ≡ refusals (refused_in input)
+    ensures is { (input : List ℕ) → feed.hashes.items ≡ hashes_in input → feed.refusals ≡ refusals (refused_in input)
         → feed.has_refused ≡ has_refused (refused_in input)
         → IfOk result (λ reply. reply ≡ feed_reply line.now input history size) }
+    ensures taken { IfOk result (λ reply. reply.status ≡ 0
+        → AreTaken (sync_changes history.versions line.now.list size (set_of feed.hashes.items)) history) }
 {
+    synced_records_may_follow();
     let Feed {
         hashes,
         refusals,
@@ -99,7 +120,7 @@ pub(crate) fn sync_reply(
     history: History,
 ) -> Result<Reply, OutOfMemory>
     requires { length input.now < 2 ^ 32 }
-    ensures { IfOk result (λ reply. reply ≡ sync_reply line.now input.now history) }
+    ensures { IfOk result (IsSyncReply line.now input.now history) }
 {
     let Some(size) = history.declared(line.list) else {
         return Reply::of_unknown_list(alloc);

@@ -20,7 +20,7 @@ fn draws_epoch(command: &Command) -> bool
     ensures { result ≡ draws_epoch command.now }
 {
     match command {
-        Command::New(_) => true,
+        Command::New(_) | Command::Compact => true,
         _ => false,
     }
 }

@@ -40,7 +40,7 @@ use crate::stretch::Stretch;
 use crate::stretches::stretches_of;
 use hash_prefixes::{FullHash, Prefix};
 use prefix_set::{Delta, PrefixSet};
-use sb_model::{Bytes, Change, ListName, OutOfMemory, Row, Steps, names_go_by_their_codes};
+use sb_model::{Added, Bytes, Change, ListName, OutOfMemory, Row, Steps, names_go_by_their_codes};
 use sb_outside::{ReadFault, Source, read_piece};
 use std::alloc::Global;
 use std::marker::Model;
@@ -290,7 +290,10 @@ impl History {
 
     /// How many bytes the record has that has not ended.
     pub fn rest_len(&self) -> u32
-        ensures { result ≡ length self.now.rest }
+        ensures count { result ≡ length self.now.rest }
+
+        // They are the front of a record, so reading nothing more leaves the history as it is.
+        ensures waits { read_on self.now [] ≡ Ok self.now }
     {
         self.rest.len() as u32
     }
@@ -455,6 +458,15 @@ impl History {
     {
         let found = stretches_of(alloc, &self.draft, list)?;
         Ok(found)
+    }
+
+    /// The newest full hashes of a list with their sizes, in the order in which they were put in. A list that is not
+    /// declared has none.
+    pub fn newest_entries(&self, alloc: Global, list: ListName) -> Result<Vec<Added>, OutOfMemory>
+        ensures { IfOk result (λ entries. entries.items ≡ sizes_at self.now.versions list (version_count self.now.versions)) }
+    {
+        let entries = entries_at(alloc, &self.draft, list, self.draft.changes.len())?;
+        Ok(entries)
     }
 
     /// Whether the newest full hashes of a list have this one. A list that is not declared has none. It takes no

@@ -1,7 +1,9 @@
 ghost use Rattle.std.specs.Prelude.{◌≡◌, ℕ, false, true, List, [], ◌++◌, All, Ok};
-ghost use Rattle.std.specs.List.{flat_map};
+ghost use Rattle.std.specs.List.{flat_map, IsDistinct};
+ghost use Rattle.std.specs.Str.{bytes_eq};
 ghost use Rattle.sb_model.specs.declared.history.Change.{Change};
-ghost use Rattle.sb_model.specs.History.{History};
+ghost use Rattle.sb_model.specs.declared.names.ListName.{ListName};
+ghost use Rattle.sb_model.specs.History.{History, full_hashes_at};
 ghost use Rattle.list_versions.specs.Journal.{Kept, kept_of, read_on};
 ghost use Rattle.list_versions.specs.Written.{HasDeclaredSizes, HasJournal, HasText, HaveDeclaredSizes, MayFollow, change_text, journal_text, wholly, with_changes};
 
@@ -36,4 +38,9 @@ pub fn records_are_read_as_their_changes()
 pub fn texts_are_read_as_their_histories()
     ensures { (history : History) (kept : Kept) → HasText history → kept_of (journal_text true history) ≡ Ok kept
         → kept ≡ wholly true history }
+{}
+
+/// Each full hash of a version stands there once.
+pub fn full_hashes_stand_once()
+    ensures { (history : History) (list : ListName) (version : ℕ) → IsDistinct bytes_eq (full_hashes_at history list version) }
 {}

@@ -7,8 +7,8 @@ pub use hash_sizes::Folding;
 pub use heads::{Head, Header};
 pub use history::History;
 pub use laws::{
-    cuts_make_no_difference, journals_read_as_written, records_are_read_as_their_changes,
-    texts_are_read_as_their_histories,
+    cuts_make_no_difference, full_hashes_stand_once, journals_read_as_written,
+    records_are_read_as_their_changes, texts_are_read_as_their_histories,
 };
 pub use lines::{read_add, read_head, read_header, read_remove};
 pub use newest::Newest;

@@ -177,7 +177,8 @@ fn places_lost(alloc: Global, older: &[u32], newer: &[u32]) -> Result<Row<u32>, 
     requires few { length older.now < 2 ^ 32 }
     ensures { IfOk result (λ places. places ≡ removed_places (quads_of older.now) (quads_of newer.now)) }
 {
-    let mut places = Row::new(alloc);
+    let least = older.len().saturating_sub(newer.len());
+    let mut places = Row::with_capacity(alloc, least)?;
     let mut rest = newer;
     for (i, number) in older.iter().enumerate() {
         rest = from_number(rest, *number);

@@ -29,12 +29,12 @@ use Rattle.sb_journal.proofs.RisingSets.{SetLaws}
 pub same_bytes : (a b : List ℕ) → bytes_eq a b ≡ true → a ≡ b
 same_bytes a b h = (bytes_eq-Decides a b).0 h
 
-both : (s t : Bool) → (s ≡ true → t ≡ true) → (t ≡ true → s ≡ true) → s ≡ t
+pub both : (s t : Bool) → (s ≡ true → t ≡ true) → (t ≡ true → s ≡ true) → s ≡ t
 both true t f g = sym (f refl)
 both false true f g = g refl
 both false false f g = refl
 
-bytes_sym : (a b : List ℕ) → bytes_eq a b ≡ bytes_eq b a
+pub bytes_sym : (a b : List ℕ) → bytes_eq a b ≡ bytes_eq b a
 bytes_sym a b =
     both (bytes_eq a b) (bytes_eq b a) (λ e. (bytes_eq-Decides b a).1 (sym ((bytes_eq-Decides a b).0 e))) (λ e. (bytes_eq-Decides a b).1 (sym ((bytes_eq-Decides b a).0 e)))
 
@@ -45,7 +45,7 @@ has entries hash = list_any (λ (entry : Added). bytes_eq entry.hash hash) entri
 abbrev pub hashes_of : List Added → List (List ℕ)
 hashes_of entries = map (λ (entry : Added). entry.hash) entries
 
-has_hashes : (entries : List Added) (x : List ℕ) → has entries x ≡ has_member (hashes_of entries) x
+pub has_hashes : (entries : List Added) (x : List ℕ) → has entries x ≡ has_member (hashes_of entries) x
 has_hashes [] x = refl
 has_hashes (entry ∷ entries) x = ap (λ b. bytes_eq entry.hash x || b) (has_hashes entries x)
 
@@ -103,13 +103,13 @@ added_has (added ∷ adds) entries x =
 
 -- ---- changes of one list
 
-abbrev IsOf : ListName → Change → Type 0
+abbrev pub IsOf : ListName → Change → Type 0
 IsOf list change = same_name change.list list ≡ true
 
-own : (list : ListName) (entries : List Added) (change : Change) → IsOf list change → after_change list entries change ≡ fold with_added (fold without_hash entries change.removes) change.adds
+pub own : (list : ListName) (entries : List Added) (change : Change) → IsOf list change → after_change list entries change ≡ fold with_added (fold without_hash entries change.removes) change.adds
 own list entries change e = rw e refl
 
-other : (list : ListName) (entries : List Added) (change : Change) → same_name change.list list ≡ false → after_change list entries change ≡ entries
+pub other : (list : ListName) (entries : List Added) (change : Change) → same_name change.list list ≡ false → after_change list entries change ≡ entries
 other list entries change e = rw e refl
 
 change_has : (list : ListName) (entries : List Added) (change : Change) (x : List ℕ) → IsOf list change
@@ -180,7 +180,7 @@ split_apart change changes x h =
     ∙ ap (λ b. has_member (change.removes ++ all_removes changes) x && b) (sym (member_append (hashes_of change.adds) (all_adds changes) x)) ∙ h
 
 -- the hashes that changes leave, if none is both taken out and put in
-changes_has : (list : ListName) (changes : List Change) (entries : List Added) (x : List ℕ) → All (IsOf list) changes → Apart changes x
+pub changes_has : (list : ListName) (changes : List Change) (entries : List Added) (x : List ℕ) → All (IsOf list) changes → Apart changes x
     → has (fold (after_change list) entries changes) x ≡ ((has entries x && not (has_member (all_removes changes) x)) || has_member (all_adds changes) x)
 changes_has list [] entries x own apart = sym (or_false (has entries x && true) ∙ and_true (has entries x))
 changes_has list (change ∷ changes) entries x own apart =
@@ -196,7 +196,7 @@ changes_has list (change ∷ changes) entries x own apart =
     ∙ ap (λ m. (has entries x && not (has_member (all_removes (change ∷ changes)) x)) || m) (sym (member_append (hashes_of change.adds) (all_adds changes) x))
 
 -- changes of other lists leave a list
-others_leave : (list : ListName) (changes : List Change) (entries : List Added) → All (λ (change : Change). same_name change.list list ≡ false) changes
+pub others_leave : (list : ListName) (changes : List Change) (entries : List Added) → All (λ (change : Change). same_name change.list list ≡ false) changes
     → fold (after_change list) entries changes ≡ entries
 others_leave list [] entries h = refl
 others_leave list (change ∷ changes) entries h =
@@ -235,17 +235,17 @@ pieces {A} f joins nil lines (suc n) k =
 enough : (n : ℕ) → n ≤ record_count n * 1024
 enough n = let whole = div-add-mod' (n + 1023) 1024 in let less = mod-lt (n + 1023) {m = 1024} (omega arith) in omega (arith, whole, less)
 
-all_pieces : {A : Type 0} (f : List HashLine → List A) → ((xs ys : List HashLine) → f (xs ++ ys) ≡ f xs ++ f ys) → f [] ≡ []
+pub all_pieces : {A : Type 0} (f : List HashLine → List A) → ((xs ys : List HashLine) → f (xs ++ ys) ≡ f xs ++ f ys) → f [] ≡ []
     → (lines : List HashLine) → flat_map (λ place. f (lines_at lines place)) (range_with_len 0 (record_count (length lines))) ≡ f lines
 all_pieces f joins nil lines = pieces f joins nil lines (record_count (length lines)) 0 ∙ ap f (take_all (record_count (length lines) * 1024) lines (enough (length lines)))
 
-records_removes : (list : ListName) (lines : List HashLine) → all_removes (records_of list lines) ≡ removes_in lines
+pub records_removes : (list : ListName) (lines : List HashLine) → all_removes (records_of list lines) ≡ removes_in lines
 unfolding records_of
 records_removes list lines =
     flat_map-map (λ (change : Change). change.removes) (λ place. change_with list (lines_at lines place)) (range_with_len 0 (record_count (length lines)))
     ∙ all_pieces removes_in removes_append refl lines
 
-records_adds : (list : ListName) (lines : List HashLine) → all_adds (records_of list lines) ≡ put_in lines
+pub records_adds : (list : ListName) (lines : List HashLine) → all_adds (records_of list lines) ≡ put_in lines
 unfolding records_of
 records_adds list lines =
     flat_map-map (λ (change : Change). hashes_of change.adds) (λ place. change_with list (lines_at lines place)) (range_with_len 0 (record_count (length lines)))
@@ -255,14 +255,14 @@ each_map : {X : Type 0} (P : Change → Type 0) (f : X → Change) → ((x : X) 
 each_map P f h [] = All-nil P
 each_map P f h (x ∷ xs) = All-cons P (f x) (map f xs) (h x) (each_map P f h xs)
 
-records_are : (P : Change → Type 0) (list : ListName) (lines : List HashLine) → ((some : List HashLine) → P (change_with list some)) → All P (records_of list lines)
+pub records_are : (P : Change → Type 0) (list : ListName) (lines : List HashLine) → ((some : List HashLine) → P (change_with list some)) → All P (records_of list lines)
 unfolding records_of
 records_are P list lines h = each_map P (λ place. change_with list (lines_at lines place)) (λ place. h (lines_at lines place)) (range_with_len 0 (record_count (length lines)))
 
-all_true : (a b c : Bool) → a ≡ true → b ≡ true → c ≡ true → (a && b && c) ≡ true
+pub all_true : (a b c : Bool) → a ≡ true → b ≡ true → c ≡ true → (a && b && c) ≡ true
 all_true a b c e f g = rw (e, f, g) refl
 
-same_self : (list : ListName) → same_name list list ≡ true
+pub same_self : (list : ListName) → same_name list list ≡ true
 same_self list =
     all_true _ _ _ (eq-eqb (threat_code list.threat) _ refl) (eq-eqb (platform_code list.platform) _ refl) (eq-eqb (entry_code list.entry) _ refl)
 
@@ -313,7 +313,7 @@ there xs x e = Contains-from_any {eq = bytes_eq} same_bytes x xs (sym (turned xs
 known : (xs : List (List ℕ)) (x : List ℕ) → Contains xs x → has_member xs x ≡ true
 known xs x c = turned xs x ∙ list_any-from_Contains nat_list_eq_equiv x xs c
 
-set_member : SetLaws → (xs : List (List ℕ)) (x : List ℕ) → has_member (set_of xs) x ≡ has_member xs x
+pub set_member : SetLaws → (xs : List (List ℕ)) (x : List ℕ) → has_member (set_of xs) x ≡ has_member xs x
 set_member laws xs x =
     both (has_member (set_of xs) x) (has_member xs x) (λ e. known xs x ((laws.members xs x).0 (there (set_of xs) x e)))
     (λ e. known (set_of xs) x ((laws.members xs x).1 (there xs x e)))
@@ -327,7 +327,7 @@ same_set laws xs ys up same =
 
 -- ---- the newest version
 
-newest_then : (history : History) (changes : List Change) (list : ListName)
+pub newest_then : (history : History) (changes : List Change) (list : ListName)
     → sizes_at (with_changes history changes) list (version_count (with_changes history changes)) ≡ fold (after_change list) (sizes_at history list (version_count history)) changes
 newest_then history changes list =
     let all = history.changes ++ changes in

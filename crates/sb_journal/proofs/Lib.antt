@@ -4,3 +4,8 @@ pub mod RisingSets
 pub mod LastLines
 pub mod Following
 pub mod RecordTexts
+pub mod Followed
+pub mod Ordered
+pub mod Anew
+pub mod AnewTexts
+pub mod LastLeft

@@ -27,7 +27,7 @@ pub record SetLaws : Type 0 where
   pub members : (xs : List (List ℕ)) (x : List ℕ) → Contains (set_of xs) x ↔ Contains xs x
   pub only : (xs ys : List (List ℕ)) → IsRising xs → IsRising ys → ((x : List ℕ) → Contains xs x ↔ Contains ys x) → xs ≡ ys
 
-set_is : SetLaws → (xs ys : List (List ℕ)) → IsRising xs → ((x : List ℕ) → Contains xs x ↔ Contains ys x) → xs ≡ set_of ys
+pub set_is : SetLaws → (xs ys : List (List ℕ)) → IsRising xs → ((x : List ℕ) → Contains xs x ↔ Contains ys x) → xs ≡ set_of ys
 set_is laws xs ys rises same = laws.only xs (set_of ys) rises (laws.rising ys) (λ x. (λ c. (laws.members ys x).1 ((same x).0 c), λ c. (same x).1 ((laws.members ys x).0 c)))
 
 -- hashes that are sorted, and then rid of repeats
@@ -41,7 +41,7 @@ sorted_without_repeats laws xs sorted kept moved up filtered =
 
 -- ---- a search
 
-equal_bytes : (a b : List ℕ) → bytes_cmp a b ≡ Equal → bytes_eq a b ≡ true
+pub equal_bytes : (a b : List ℕ) → bytes_cmp a b ≡ Equal → bytes_eq a b ≡ true
 equal_bytes a b e = sym (is_eq-slice_cmp a b) ∙ ap is_eq e
 
 less_bytes : (a b : List ℕ) → bytes_cmp a b ≡ Less → bytes_eq a b ≡ false

@@ -4,4 +4,6 @@ pub mod Inputs
 pub mod Refusals
 pub mod Records
 pub mod Changes
+pub mod Followed
+pub mod Compacted
 pub mod Texts

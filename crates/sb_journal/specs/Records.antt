@@ -24,6 +24,9 @@ removes_in [] = []
 removes_in (Add added ∷ lines) = removes_in lines
 removes_in (Remove hash ∷ lines) = hash ∷ removes_in lines
 
+abbrev pub hashes_put_in : List HashLine → List (List ℕ)
+hashes_put_in lines = map (λ added. added.hash) (adds_in lines)
+
 -- the change of a list that has these hash lines
 abbrev pub change_with : ListName → List HashLine → Change
 change_with list lines = record { list = list; adds = adds_in lines; removes = removes_in lines }

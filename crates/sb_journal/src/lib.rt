@@ -11,26 +11,36 @@
 //! - `read_edits` reads lines that put a URL in or take one out. `last_lines` keeps the last line of each hash.
 //! - `push_records` writes hash lines as records of a journal.
 //! - `synced_lists_have_what_is_wanted` is the law that what leads to wanted hashes leaves a list exactly these.
+//! - `changed_lists_have_what_lines_say` is the law of what lines with a sign leave, and `hash_lines_may_follow` that records of
+//!   hash lines may follow a history.
 //!
-//! No command stands here yet. The crate reads no journal: its caller says which hashes a list has, and whether each
-//! line that puts in names its size. The text of records is proved to be that of the changes. It is not yet proved that
-//! it is read on as these changes after a journal, and nothing here looks whether the journal then keeps its limits.
+//! No command stands here. The crate reads no journal: its caller says which hashes a list has, and whether each line that
+//! puts in names its size. The text of records is proved to be that of the changes. That it is read on as these changes
+//! after a journal is a law of `list_versions`. Nothing here looks whether the journal then keeps its limits.
 #![tactic(auto)]
 
+pub use compacting::{push_puts, put_entries_in_order};
 pub use edits::{Edits, read_edits};
 pub use feed::{Feed, read_feed};
 pub use hash_line::HashLine;
 pub use input::{next_line, read_urls};
+pub use known::{entries_have_bytes, lines_have_hashes};
 pub use lasting::last_lines;
-pub use laws::synced_lists_have_what_is_wanted;
+pub use laws::{
+    changed_lists_have_what_lines_say, compacted_histories_have_texts,
+    compacted_lists_are_the_newest, hash_lines_may_follow, synced_lists_have_what_is_wanted,
+    synced_records_may_follow,
+};
 pub use records::push_records;
 pub use sets::{leading_lines, put_in_order};
 pub use urls::push_refusal;
 
+mod compacting;
 mod edits;
 mod feed;
 mod hash_line;
 mod input;
+mod known;
 mod lasting;
 mod laws;
 mod records;

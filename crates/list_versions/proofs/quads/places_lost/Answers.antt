@@ -7,7 +7,7 @@ use Rattle.list_versions.proofs.quads.places_lost.Goals as goal
 use Rattle.list_versions.proofs.quads.places_lost.Goals.{then-not-is_first+in_ok-push, else-not-is_first}
 
 pub loop-i-init : goal.loop-i-init
-loop-i-init c = record { places = c.new-places.ensures; tells = tells_first c.args.newer.now c.requires.newer }
+loop-i-init c = record { places = c.in_ok-places.ensures; tells = tells_first c.args.newer.now c.requires.newer }
 
 pub loop-i-preserved : goal.loop-i-preserved
 loop-i-preserved c =
