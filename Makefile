@@ -10,11 +10,24 @@ INSTALLED := sbupdate sbcheck sblistd sbjournal
 BUILT := $(wildcard bin/sbupdate bin/sblistd)
 
 PREFIX ?= /usr/local
+SYSCONFDIR ?= /etc
 BINDIR ?= $(PREFIX)/bin
 MANDIR ?= $(PREFIX)/share/man/man1
+DATADIR ?= $(PREFIX)/share/kestrelplumb
+DOCDIR ?= $(PREFIX)/share/doc/kestrelplumb
+COMPLETIONDIR ?= $(PREFIX)/share/bash-completion/completions
+UNITDIR ?= $(PREFIX)/lib/systemd/system
+SYSUSERSDIR ?= $(PREFIX)/lib/sysusers.d
+
+UNITS := $(notdir $(wildcard deploy/systemd/*))
+DEFAULTS := $(notdir $(wildcard deploy/default/*))
+FRONTS := nginx-server.conf nginx-client.conf
+
+# What the units name, as it stands in deploy/, and where it is put
+PLACES := -e 's|/usr/bin/|$(BINDIR)/|g' -e 's|/usr/share/kestrelplumb/|$(DATADIR)/|g' -e 's|/etc/default/|$(SYSCONFDIR)/default/|g'
 
 .PHONY: all test check gate wrong-bodies install uninstall demo compare try-http try-run try-feeds try-slow try-memory try-readme bench
-.PHONY: clean
+.PHONY: try-front try-units try-deb deb release clean
 
 all:
 	python3 tools/build.py $(PROGRAMS)
@@ -35,18 +48,40 @@ gate:
 wrong-bodies:
 	python3 tools/wrong_bodies.py try $(NAMES)
 
-# Copies the programs of bin/ and the man pages below PREFIX, which DESTDIR may stand before, as packages use it. It builds
-# nothing: run make first.
+# Copies the programs of bin/, their pages, completions and units, and what else deploy/ has, below PREFIX, which DESTDIR may
+# stand before, as packages use it. A file of SYSCONFDIR/default that is there stays as it is. It builds nothing: run make first.
 install:
 	@for program in $(INSTALLED); do \
 	  test -x bin/$$program || { echo "bin/ has no $$program yet: make proves and builds it"; exit 1; }; done
-	install -d "$(DESTDIR)$(BINDIR)" "$(DESTDIR)$(MANDIR)"
+	install -d "$(DESTDIR)$(BINDIR)" "$(DESTDIR)$(MANDIR)" "$(DESTDIR)$(DATADIR)" "$(DESTDIR)$(COMPLETIONDIR)" \
+	  "$(DESTDIR)$(UNITDIR)" "$(DESTDIR)$(SYSUSERSDIR)" "$(DESTDIR)$(SYSCONFDIR)/default" "$(DESTDIR)$(DOCDIR)"
 	install -m 755 $(INSTALLED:%=bin/%) "$(DESTDIR)$(BINDIR)"
 	install -m 644 $(INSTALLED:%=man/%.1) "$(DESTDIR)$(MANDIR)"
+	install -m 644 $(INSTALLED:%=deploy/completions/%) "$(DESTDIR)$(COMPLETIONDIR)"
+	install -m 755 deploy/sync-feed "$(DESTDIR)$(DATADIR)"
+	install -m 644 $(FRONTS:%=deploy/%) "$(DESTDIR)$(DATADIR)"
+	install -m 644 deploy/sysusers.d/kestrelplumb.conf "$(DESTDIR)$(SYSUSERSDIR)"
+	install -m 644 deploy/copyright "$(DESTDIR)$(DOCDIR)"
+	@for unit in $(UNITS); do \
+	  echo "deploy/systemd/$$unit to $(DESTDIR)$(UNITDIR)"; \
+	  sed $(PLACES) deploy/systemd/$$unit > "$(DESTDIR)$(UNITDIR)/$$unit" && chmod 644 "$(DESTDIR)$(UNITDIR)/$$unit" || exit 1; done
+	@for name in $(DEFAULTS); do \
+	  test -e "$(DESTDIR)$(SYSCONFDIR)/default/$$name" || install -m 644 deploy/default/$$name "$(DESTDIR)$(SYSCONFDIR)/default" || exit 1; done
 
-# Removes what install copied, and leaves the folders.
+# Removes what install copied, but for files of SYSCONFDIR/default that were changed since, and leaves the folders.
 uninstall:
-	rm -f $(INSTALLED:%="$(DESTDIR)$(BINDIR)/%") $(INSTALLED:%="$(DESTDIR)$(MANDIR)/%.1")
+	rm -f $(INSTALLED:%="$(DESTDIR)$(BINDIR)/%") $(INSTALLED:%="$(DESTDIR)$(MANDIR)/%.1") $(INSTALLED:%="$(DESTDIR)$(COMPLETIONDIR)/%") \
+	  "$(DESTDIR)$(DATADIR)/sync-feed" $(FRONTS:%="$(DESTDIR)$(DATADIR)/%") "$(DESTDIR)$(SYSUSERSDIR)/kestrelplumb.conf" \
+	  $(UNITS:%="$(DESTDIR)$(UNITDIR)/%") "$(DESTDIR)$(DOCDIR)/copyright"
+	@for name in $(DEFAULTS); do \
+	  ! cmp -s deploy/default/$$name "$(DESTDIR)$(SYSCONFDIR)/default/$$name" || rm "$(DESTDIR)$(SYSCONFDIR)/default/$$name"; done
+
+# A Debian package of the programs, in dist/. release makes a tar of make install too, and the SHA-256 of both.
+deb: all
+	python3 tools/deb.py build dist
+
+release: all
+	python3 tools/deb.py release dist
 
 # The recording has an update with a wrong checksum, the same update with the right one, a later one whose
 # prefixes come in no order, and a partial one. The first is refused, so the replay ends with status 5. Where the programs
@@ -85,6 +120,20 @@ try-run: all
 try-feeds: all
 	bash try/feeds.sh
 
+# Puts nginx with the files of deploy/ before sblistd and before the clients, with a certificate of its own, and then goes by the
+# commands that README has for a new host. Up to five minutes.
+try-front: all
+	bash try/front.sh
+	bash try/host.sh
+
+# Holds the units to systemd-analyze, and if systemd runs and one is root starts them. Up to three minutes.
+try-units: all
+	bash try/units.sh
+
+# Makes the package twice, unpacks it, and runs what is in it without the kit and without the repository.
+try-deb: all
+	bash try/deb.sh
+
 # Measures how long good clients of sblistd wait beside slow ones, and fails where one waits for more than a second. Each kind
 # and number of peers is kept for a minute, or for SECONDS: it takes twenty to thirty minutes, and at most ten with SECONDS=15.
 # The peers of slowhttptest are tried too where that is installed.
@@ -109,4 +158,4 @@ bench: all
 	python3 bench/workers.py
 
 clean:
-	rm -rf bin
+	rm -rf bin dist

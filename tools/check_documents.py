@@ -25,7 +25,7 @@ OF_OPTIONS = (README, FORMATS, "SECURITY.md", "CHANGELOG.md")
 NO_OPTIONS = {"--help", "--name"}
 
 MOST_WORDS, MOST_COLUMNS = 12, 120
-ENDINGS = ("antt", "rt", "py", "sh", "md", "jsonl", "edit", "txt")
+ENDINGS = ("antt", "rt", "py", "sh", "md", "jsonl", "edit", "txt", "service", "timer")
 
 # each end: the crate that defines its statuses (`IsStatus`), and the section of the page of formats with them
 ENDS = {
@@ -98,7 +98,7 @@ class Code:
         for path in glob.glob(os.path.join(CRATES, "*", "s*", "*.*")):
             self.words.add(os.path.splitext(os.path.basename(path))[0])
         self.words.update(re.findall(r"[\w-]+", text_of("crates.txt")))
-        self.files = {os.path.basename(it) for folder in ("crates", "tools", "try", "compare", "bench", "demo", "docs", "man") for it in self.walk(folder)}
+        self.files = {os.path.basename(it) for folder in ("crates", "tools", "try", "compare", "bench", "demo", "deploy", "docs", "man") for it in self.walk(folder)}
         self.files.update(os.listdir(REPOSITORY))
         self.clauses = {}
         for crate in self.crates:
@@ -163,7 +163,7 @@ def fault_of_span(span, code, targets):
         return None if target in targets else f"the Makefile has no target {target}"
     if re.fullmatch(r"[\w.*-]+(/[\w.*-]+)+/?", span):
         first = span.split("/")[0]
-        known = first in code.crates or first in ("crates", "docs", "tools", "try", "compare", "bench", "demo", "man", "specs", "src", "proofs")
+        known = first in code.crates or first in ("crates", "deploy", "docs", "tools", "try", "compare", "bench", "demo", "man", "specs", "src", "proofs")
         if known and not stands(span):
             return f"no file {span}"
         return None

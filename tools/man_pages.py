@@ -5,11 +5,17 @@
     man_pages.py check    fails where one is another, and where what they are made of does not fit together
 
 NAME is the first line of a program's `main.rt`, SYNOPSIS and COMMANDS are its usage text as the code has it, DESCRIPTION
-is what README begins with, OPTIONS and EXIT STATUS are tables of docs/FORMATS.md, and EXAMPLES are those steps of
-README's sessions that run the program. A table of options begins with "Option of" and the commands that have them, and
-one of statuses with "Status of" and the commands. Each command of a usage text has exactly one table of statuses, and its
-tables of options have each option of its line once; they may have more that a command takes. docs/FORMATS.md has each
-usage text, word for word, and README.md has of each program the statuses of its commands.
+is what README begins with and what NOTES has of the program, OPTIONS, OUTPUT, EXIT STATUS, FILES and DIAGNOSTICS are tables
+of docs/FORMATS.md, and EXAMPLES are those steps of README's sessions that run the program. The date and the version are those
+of the first heading of CHANGELOG.md.
+
+A table of options begins with "Option of" and the commands that have them, one of statuses with "Status of", and one of files
+with "File of". A column of printed lines, or of causes in them, has a head that ends with "of" and the commands that print
+them, and the column beside it that is no number says what they mean. A table of what stands on standard error begins with
+"Of" and its object, and ends with the programs that say it. Each command of a usage text has exactly one table of statuses, and
+at least one column of lines unless it is in WITHOUT_LINES; its tables of options have each option of its line once, and they may
+have more that a command takes. docs/FORMATS.md has each usage text, word for word, and README.md has of each program the statuses
+of its commands.
 """
 
 import os
@@ -34,6 +40,43 @@ PROGRAMS = {
 # a session reads files of the repository; whoever installed the programs has others
 OTHER_NAMES = {"crates/sblistd/data/journal": "lists", "crates/sblistd/stdin": "request", "demo/recording.jsonl": "recording", "bin/": ""}
 LONGEST_LINE = 120
+
+# commands that print a form which has a section of its own, or what they read
+WITHOUT_LINES = {
+    "generate": "a journal, or a URL a line.",
+    "new": "the first lines of a journal.",
+    "compact": "a whole journal: `sblist 2 EPOCH`, a line `list LIST SIZE` for each list, and records of additions alone.",
+    "sync": "records of a journal, which are to be appended to it: `change LIST A R`, A lines `+HASH` and R lines `-HASH`.",
+    "change": "records of a journal, which are to be appended to it: `change LIST A R`, A lines `+HASH` and R lines `-HASH`.",
+}
+
+# what a page says of its program beside what all pages say
+NOTES = {
+    "sblistd": [
+        "`serve` speaks plain HTTP: before a public server put a front that ends TLS. It answers one request a connection, one after the "
+        "other, and waits for all its peers at once. It ends with 2 at the next connection once its journal is no longer what it "
+        "read, so only append to a journal; other content is another journal with another epoch, for which the server is started anew.",
+    ],
+    "sbupdate": [
+        "`run` waits for up to 60 seconds, at random, before its first request, then between rounds as long as the server bids, and "
+        "after a failure 15 minutes to a day. It goes on until it has made its rounds, or is killed: a killed one leaves the old store "
+        "or the new one. It speaks plain HTTP: let it talk to a front on its own machine that reaches the server over TLS.",
+    ],
+    "sbcheck": [
+        "`judge` reads its input to the end, looks each URL up in the lists of the store, and asks the server if a prefix is listed. "
+        "Before its first question it waits for up to 60 seconds, at random, so give it many URLs at once. Without a store, or with one "
+        "that is ignored, nothing is listed, so each URL is safe.",
+        "A verdict of `judge --update` goes by the lists that its check saw, and not by those that the run brings. URLs are checked in "
+        "milliseconds, and the first round waits for up to a minute: a short input is judged by the lists of the store, and without a "
+        "store each of its URLs is safe. Let `sbupdate run` keep the lists first.",
+        "Undecided is not safe: judge the URL again, and until then warn of it. It speaks plain HTTP: let it talk to a front on its own "
+        "machine that reaches the server over TLS.",
+    ],
+    "sbjournal": [
+        "No command changes a file: whoever runs it appends what it writes, once `check` has read the journal with it. A feed that was "
+        "cut to nothing clears no list: an input without a URL is refused unless `--empty` is given.",
+    ],
+}
 
 
 class Fault(Exception):
@@ -83,15 +126,37 @@ def commands_of(program, usage):
 
 
 class Tables:
-    """The tables of options and statuses, by the commands that their heads name."""
+    """The tables of options, statuses and files, printed lines and what stands on standard error, by the commands or programs that
+    their heads name."""
 
     def __init__(self, page):
-        self.options, self.statuses = [], []
+        self.options, self.statuses, self.files, self.lines, self.said, self.helps = [], [], [], [], [], []
         for table in check_documents.tables_of(page.text):
             head = table[0][0]
-            for begins, tables in (("Option of ", self.options), ("Status of ", self.statuses)):
+            for begins, tables in (("Option of ", self.options), ("Status of ", self.statuses), ("File of ", self.files)):
                 if head.startswith(begins):
                     tables.append((re.findall(r"`([\w-]+)`", head), table[1:]))
+            object_of = re.fullmatch(r"Of (.*), of (`\w+`(?:, | and |`\w+`)*)", head)
+            if object_of:
+                self.said.append((object_of[1], re.findall(r"`(\w+)`", object_of[2]), table[1:]))
+            if table[0] == ["The line has", "So"]:
+                self.helps = table[1:]
+            self.gather_lines(table)
+
+    def gather_lines(self, table):
+        """A column of printed lines or causes, with the column that says what they mean."""
+        for at, head in enumerate(table[0]):
+            found = re.fullmatch(r"((?:Line|Cause|FAULT)\b.*?),? of ((?:`\w+`|, | and )+)", head)
+            if found:
+                other = next(it for it in range(len(table[0])) if it != at and table[0][it] not in ("Order", "Number"))
+                rows = [(row[at], row[other]) for row in table[1:]]
+                self.lines.append((found[1], re.findall(r"`(\w+)`", found[2]), rows))
+
+    def lines_for(self, names):
+        for name in names:
+            if name not in WITHOUT_LINES and not any(name in of for head, of, _ in self.lines if head.startswith("Line")):
+                raise Fault(f"{FORMATS} has no table of the lines of {name}")
+        return [it for it in self.lines if any(name in it[1] for name in names)]
 
     def statuses_for(self, names):
         """The tables of these commands, in order."""
@@ -178,6 +243,57 @@ def status_lines(tables, names):
                 yield f"Printed: {plain(row[2])}."
 
 
+def joined(names):
+    """Names as a sentence has them: with commas, and "and" before the last."""
+    *front, last = names
+    return f"{', '.join(front)} and {last}" if front else last
+
+
+def output_lines(tables, commands):
+    """What each command prints, and then the causes that stand in these lines."""
+    names = [it.name for it in commands]
+    for name in names:
+        if name in WITHOUT_LINES:
+            yield from (f".SS \"Of {name}\"", plain(sentence(WITHOUT_LINES[name])))
+    for first in (True, False):
+        for head, of, rows in tables:
+            if head.startswith("Line") != first:
+                continue
+            known = joined(it for it in of if it in names)
+            what = head.replace("Line", "Lines", 1) + ", of" if head != "Line" else "Of"
+            yield f".SS \"{plain(what)} {known}\""
+            for printed, means in rows:
+                yield from (".TP", plain(printed), plain(sentence(means or "the same")))
+
+
+def file_lines(tables, names):
+    for of, rows in tables:
+        if any(it in names for it in of):
+            for row in rows:
+                yield from (".TP", plain(row[0]), plain(sentence(row[1])))
+
+
+def diagnostic_lines(program, tables):
+    """What the program says on standard error, and what helps."""
+    phrases = set()
+    yield from (
+        f"Before a status that says that something could not be read, written or had, one line says why: \\fB{program}: OBJECT WHAT\\fP,",
+        "and behind it the words of the system, if it refused something. The objects, and what is said of them:",
+    )
+    for name, programs, rows in tables.said:
+        if program not in programs:
+            continue
+        yield f".SS \"{name[:1].upper() + name[1:]}\""
+        for row in rows:
+            phrases.update(re.findall(r"`([^`]+)`", row[0]))
+            yield from (".TP", plain(row[0]), plain(sentence(row[1])))
+    helps = [row for row in tables.helps if any(said.startswith(it) for it in re.findall(r"`([^`]+)`", row[0]) for said in phrases)]
+    if helps:
+        yield '.SS "What helps"'
+        for row in helps:
+            yield from (".TP", plain(row[0]), plain(sentence(row[1])))
+
+
 def sessions_of(text):
     """Each step of README's sessions: the command, and the lines that it prints before the next one is given."""
     for block in re.findall(r"^```console\n(.*?)^```", text, re.M | re.S):
@@ -191,9 +307,10 @@ def sessions_of(text):
 
 
 def example_lines(program, readme):
-    for step in sessions_of(readme.whole):
-        if f"bin/{program} " not in step[0]:
-            continue
+    steps = [step for step in sessions_of(readme.whole) if f"bin/{program} " in step[0]]
+    if any("$list" in line for step in steps for line in step):
+        yield from (".PP", "Here \\fB$list\\fP is \\fBMALWARE/ANY_PLATFORM/URL\\fP.")
+    for step in steps:
         yield from (".PP", ".nf", ".RS 4")
         for line in step:
             for old, new in OTHER_NAMES.items():
@@ -213,6 +330,14 @@ def sentences(text):
     return [plain(it) for it in re.split(r"(?<=[.:]) (?=[A-Z`])", text)]
 
 
+def version_of(changes):
+    """The version and the day of the first heading."""
+    found = re.search(r"^## \[(\d+\.\d+\.\d+)\] - (\d{4}-\d\d-\d\d)$", changes, re.M)
+    if not found:
+        raise Fault("CHANGELOG.md has no heading with a version and its day")
+    return found[1], found[2]
+
+
 def page_of(program, readme, formats):
     crate, constant = PROGRAMS[program]
     commands = commands_of(program, literal_of(crate, constant))
@@ -221,9 +346,10 @@ def page_of(program, readme, formats):
     about = re.match(r"//! (.*)", text_of(f"crates/{program}/src/main.rt"))[1].rstrip(".")
     others = [f"\\fB{it}\\fP(1)" for it in sorted(PROGRAMS) if it != program]
     options = tables.options_for(commands)
+    version, date = version_of(text_of("CHANGELOG.md"))
     lines = [
         '.\\" Written by tools/man_pages.py of the usage text, README.md and docs/FORMATS.md.',
-        f'.TH {program.upper()} 1 "" "Kestrelplumb" "User Commands"',
+        f'.TH {program.upper()} 1 "{date}" "Kestrelplumb {version}" "User Commands"',
         ".nh",
         ".ad l",
         ".SH NAME",
@@ -232,20 +358,25 @@ def page_of(program, readme, formats):
     ]
     for at, command in enumerate(commands):
         lines += ([".br"] if at else []) + [of_line(command.line)]
-    lines += [".SH DESCRIPTION", *sentences(first_paragraph(readme)), ".SH COMMANDS"]
+    lines += [".SH DESCRIPTION", *sentences(first_paragraph(readme))]
+    for note in NOTES[program]:
+        lines += [".PP", *sentences(note)]
+    lines += [".SH COMMANDS"]
     for command in commands:
         lines += [".TP", f"\\fB{escaped(command.name)}\\fP", plain(sentence(command.sentence))]
     if options:
         lines += [".SH OPTIONS", *option_lines(options, commands)]
+    lines += [".SH OUTPUT", *output_lines(tables.lines_for(names), commands)]
     lines += [".SH \"EXIT STATUS\"", *status_lines(tables.statuses_for(names), names)]
+    lines += [".SH FILES", *file_lines(tables.files, names)]
+    lines += [".SH DIAGNOSTICS", *diagnostic_lines(program, tables)]
     examples = list(example_lines(program, readme))
     lines += [".SH EXAMPLES", *examples] if examples else []
     lines += [
         '.SH "SEE ALSO"',
         ", ".join(others),
         ".PP",
-        "Headings in quotes are those of \\fBdocs/FORMATS.md\\fP in the sources of Kestrelplumb, which has the formats,",
-        "the limits and what each line on standard error means.",
+        "Headings in quotes are those of \\fBdocs/FORMATS.md\\fP in the sources of Kestrelplumb, which has the formats and the limits.",
         "\\fBREADME.md\\fP there goes through first uses, and \\fBdocs/PROMISES.md\\fP says what is proved.",
     ]
     return "\n".join(lines) + "\n"

@@ -6,9 +6,10 @@ definition that these words stand for, and to those that these cite. What comes 
 two markers: for each clause the files, each after those that it cites, with how many lines of it the clause takes
 (comments above a definition included), of how many it has.
 
-Types and constants of `src/` (imports of `declared`) and definitions of the toolchain's crates are not followed; the
-latter are named by their crates. A name that a definition binds in sight, as a parameter with its type, is not taken for
-a definition of that name; one that it binds otherwise is, so a list may name a little too much.
+A name that a file passes on (`pub use`) is the definition of the file that it comes from. Types and constants of `src/`
+(imports of `declared`) and definitions of the toolchain's crates are not followed; the latter are named by their crates.
+A name that a definition binds in sight, as a parameter with its type, is not taken for a definition of that name; one
+that it binds otherwise is, so a list may name a little too much.
 
     reading_lists.py            prints the lists
     reading_lists.py --write    puts them into docs/READING.md
@@ -32,7 +33,7 @@ CALLS = (
     ("run_journal", "journal_run", "src/run.rt"),
 )
 
-USE = re.compile(r"^(?:ghost )?use Rattle\.([\w.]+?)(?:\.\{([^}]*)\}| as (\w+))?;?\s*$", re.M)
+USE = re.compile(r"^(?:ghost |pub )?use Rattle\.([\w.]+?)(?:\.\{([^}]*)\}| as (\w+))?;?\s*$", re.M)
 DECLARED = re.compile(r"^(?:abbrev |unfoldable |infixl \d+ )*(?:pub )?(?:abbrev |record |data )?([^\s:({]+)")
 BEGINS = re.compile(r"^(?:abbrev|unfoldable|pub)\b")
 WORD = re.compile(r"(?<![\w.'])[A-Za-z_][\w']*|◌?>>=◌?")
@@ -53,6 +54,7 @@ class Spec:
         lines = text.split("\n")
         self.lines = len(text.splitlines())
         self.imports = imports_of(text)
+        self.passed_on = set(imports_of("\n".join(line for line in lines if line.startswith("pub use"))))
         self.definitions, self.constructors = {}, {}
         starts = [at for at, line in enumerate(lines) if BEGINS.match(line) and not line.startswith(("pub mod", "pub use"))]
         tops = [self.top(lines, at) for at in starts]
@@ -138,6 +140,8 @@ class Reader:
             return (crate, module[0], name), None
         if name in spec.constructors:
             return (crate, module[0], spec.constructors[name]), None
+        if name in spec.passed_on:
+            return self.target(*spec.imports[name])
         return None, None
 
     def of_file(self, word, imports):
@@ -263,7 +267,8 @@ def lists():
                 out.append(f"- `{name}`: the same as `{same[what]}`.")
                 continue
             same[what] = name
-            counts = f"{len(found)} definitions in {len(parts)} files, {lines:,} lines" if len(found) > 1 else f"1 definition, {lines} lines"
+            files = "1 file" if len(parts) == 1 else f"{len(parts)} files"
+            counts = f"{len(found)} definitions in {files}, {lines:,} lines" if len(found) > 1 else f"1 definition, {lines} lines"
             out.append(wrapped(f"- `{name}`: {counts}. {what}."))
         out.append("")
     return "\n".join(out)
