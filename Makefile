@@ -26,7 +26,7 @@ FRONTS := nginx-server.conf nginx-client.conf
 # What the units name, as it stands in deploy/, and where it is put
 PLACES := -e 's|/usr/bin/|$(BINDIR)/|g' -e 's|/usr/share/kestrelplumb/|$(DATADIR)/|g' -e 's|/etc/default/|$(SYSCONFDIR)/default/|g'
 
-.PHONY: all test check gate wrong-bodies install uninstall demo compare try-http try-run try-feeds try-slow try-memory try-readme bench
+.PHONY: all test check gate wrong-bodies install uninstall demo compare try-http try-run try-feeds try-slow try-memory try-faults try-readme bench
 .PHONY: try-front try-units try-deb deb release clean
 
 all:
@@ -144,6 +144,10 @@ try-slow: all
 # Measures the memory that sbupdate and sblistd take for hostile JSON, and fails where it is more than the limits allow.
 try-memory: all
 	python3 try/memory.py
+
+# Lets each allocation and each call of the built programs fail, one in each run, where there is a C compiler. Half a minute.
+try-faults: all
+	python3 try/faults.py
 
 # Runs the sessions of README in a clean clone, with the programs of bin/, and compares what they print. Up to four minutes.
 try-readme: all
