@@ -45,14 +45,7 @@ front() {
   shift 2
   mkdir "$folder/$name"
   sed "$@" "deploy/$file" > "$folder/$name/front.conf"
-  {
-    [ "$(id -u)" != 0 ] || echo 'user root;'
-    echo "daemon off; worker_processes 1; pid $folder/$name/pid; error_log $folder/nginx.log;"
-    echo 'events { worker_connections 512; }'
-    echo "http { include $folder/$name/front.conf;"
-    for kind in client_body proxy fastcgi uwsgi scgi; do echo "${kind}_temp_path $folder/$name/$kind;"; done
-    echo '}'
-  } > "$folder/$name/nginx.conf"
+  settings_of_nginx "$folder/$name" "$folder/nginx.log" "$folder/$name/front.conf" 'daemon off; ' > "$folder/$name/nginx.conf"
   nginx -q -t -c "$folder/$name/nginx.conf" 2> "$folder/said" || fail "nginx does not take deploy/$file: $(< "$folder/said")"
   nginx -c "$folder/$name/nginx.conf" 2> /dev/null &
   started+=($!)

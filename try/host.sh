@@ -107,14 +107,7 @@ else
 fi
 END_OF_SYSTEMCTL
 chmod +x "$folder"/stand/*
-{
-  [ "$(id -u)" != 0 ] || echo 'user root;'
-  echo "worker_processes 1; pid $folder/nginx.pid; error_log $folder/nginx.log;"
-  echo 'events { worker_connections 512; }'
-  echo "http { include $root/etc/nginx/conf.d/*.conf;"
-  for kind in client_body proxy fastcgi uwsgi scgi; do echo "${kind}_temp_path $folder/$kind;"; done
-  echo '}'
-} > "$folder/nginx.conf"
+settings_of_nginx "$folder" "$folder/nginx.log" "$root/etc/nginx/conf.d/*.conf" > "$folder/nginx.conf"
 
 # ---- the commands
 
