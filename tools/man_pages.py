@@ -56,11 +56,14 @@ NOTES = {
         "`serve` speaks plain HTTP: before a public server put a front that ends TLS. It answers one request a connection, one after the "
         "other, and waits for all its peers at once. It ends with 2 at the next connection once its journal is no longer what it "
         "read, so only append to a journal; other content is another journal with another epoch, for which the server is started anew.",
+        "SIGTERM and SIGINT end it at once: answers under way are cut, and a client asks again after its back-off. A run with "
+        "`--connections` that has had them all sends what it has answered for at most 10 seconds more, and ends.",
     ],
     "sbupdate": [
         "`run` waits for up to 60 seconds, at random, before its first request, then between rounds as long as the server bids, and "
         "after a failure 15 minutes to a day. It goes on until it has made its rounds, or is killed: a killed one leaves the old store "
         "or the new one. It speaks plain HTTP: let it talk to a front on its own machine that reaches the server over TLS.",
+        "SIGTERM and SIGINT end it at once. The store is the old or the new one then, and the last line of its output may be cut.",
     ],
     "sbcheck": [
         "`judge` reads its input to the end, looks each URL up in the lists of the store, and asks the server if a prefix is listed. "
@@ -71,10 +74,13 @@ NOTES = {
         "store each of its URLs is safe. Let `sbupdate run` keep the lists first.",
         "Undecided is not safe: judge the URL again, and until then warn of it. It speaks plain HTTP: let it talk to a front on its own "
         "machine that reaches the server over TLS.",
+        "SIGTERM and SIGINT end it at once. The store of `judge --update` is the old or the new one then, and the last line of its output "
+        "may be cut.",
     ],
     "sbjournal": [
         "No command changes a file: whoever runs it appends what it writes, once `check` has read the journal with it. A feed that was "
         "cut to nothing clears no list: an input without a URL is refused unless `--empty` is given.",
+        "SIGTERM and SIGINT end it at once, and what it wrote may be cut: append it only if the status is 0.",
     ],
 }
 

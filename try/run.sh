@@ -1,7 +1,7 @@
 #!/usr/bin/env bash
 # Kills clients in mid-run. The built sblistd serves a journal that grows, with no wait between rounds, and 50 built clients run
-# beside each other over loopback, each with a store of its own. Each is killed (SIGKILL) at a seeded moment, from its start to
-# after its last save: every other within 75 seconds of its start, and the others soon after their first round. Then the next
+# beside each other over loopback, each with a store of its own. Each is ended by SIGKILL, SIGTERM or SIGINT, by turns, at a seeded
+# moment, from its start to after its last save: every other within 75 seconds of its start, and the others soon after their first round. Then the next
 # run of each has to read its store or name why not, and to end with the server's set.
 #
 # A client waits up to 60 seconds before its first request, at random. So the clients are killed within 75 seconds, and the
@@ -17,6 +17,7 @@ readonly CLIENTS=50
 readonly ROUNDS=(3 1024) # of every other client
 readonly LATEST=75000 # milliseconds from the start within which a client of few rounds is killed
 readonly SOON=1500 # milliseconds from its first round within which one of many is
+readonly SIGNALS=(KILL TERM INT) # by turns
 readonly SEED=20
 folder=$(mktemp -d)
 started=()
@@ -57,14 +58,16 @@ sleep 1
 
 client() {
   local number=$1 moment=$2 pid
-  bin/sbupdate run --store "$folder/store-$number" --server "127.0.0.1:$port" --rounds "${ROUNDS[number % 2]}" "$LIST" > "$folder/first-$number" &
+  # a shell has its background programs ignore SIGINT
+  env --default-signal=INT bin/sbupdate run --store "$folder/store-$number" --server "127.0.0.1:$port" --rounds "${ROUNDS[number % 2]}" \
+    "$LIST" > "$folder/first-$number" &
   pid=$!
   if [ $((number % 2)) = 1 ]; then
     while [ ! -s "$folder/first-$number" ] && kill -0 "$pid" 2> /dev/null; do sleep 0.05; done
     moment=$((moment % SOON))
   fi
   sleep "$(printf '%d.%03d' $((moment / 1000)) $((moment % 1000)))"
-  kill -KILL "$pid" 2> /dev/null
+  kill "-${SIGNALS[number % 3]}" "$pid" 2> /dev/null
   wait "$pid"
   echo $? > "$folder/status-$number"
 }
@@ -82,7 +85,7 @@ done
 wait "${clients[@]}"
 waiting=0 within=0 ended=0
 for number in $(seq "$CLIENTS"); do
-  if [ "$(< "$folder/status-$number")" != 137 ]; then
+  if [ "$(< "$folder/status-$number")" -le 128 ]; then
     ended=$((ended + 1))
   elif [ -s "$folder/first-$number" ]; then
     within=$((within + 1))
@@ -193,6 +196,34 @@ status=$?
 grep -qF "does not begin as one" "$folder/said-late" || fail "a journal that appears: it said: $(< "$folder/said-late")"
 cmp "$folder/journal" "$folder/late" || fail "a journal that appeared at the path of a store was replaced"
 echo "a journal that appears at the path of a store stays"
+
+# ---- a server that is ended while it hears a request and while a client does not take its answer
+
+for signal in TERM INT; do
+  port_of_ended=$(free_port)
+  env --default-signal=INT bin/sblistd serve --journal "$folder/journal" --listen "127.0.0.1:$port_of_ended" > "$folder/printed-ended" &
+  ended=$!
+  started+=("$ended")
+  for _ in $(seq 100); do
+    exec 3<> "/dev/tcp/127.0.0.1/$port_of_ended" && break
+    sleep 0.05
+  done 2> /dev/null
+  exec 4<> "/dev/tcp/127.0.0.1/$port_of_ended"
+  printf 'POST /v4/threatListUpdates:fetch HTTP/1.1\r\nContent-Length: 100\r\n\r\n{' >&3
+  printf 'POST /v4/threatListUpdates:fetch HTTP/1.1\r\nContent-Length: %d\r\n\r\n%s' "${#request}" "$request" >&4
+  sleep 0.3
+  kill "-$signal" "$ended"
+  begun=$SECONDS
+  wait "$ended"
+  status=$?
+  [ "$status" -gt 128 ] || fail "a server that SIG$signal ends: status $status"
+  [ $((SECONDS - begun)) -le 1 ] || fail "a server that SIG$signal ends took $((SECONDS - begun)) seconds"
+  [ -z "$(timeout 5 cat <&3)" ] || fail "a request that was not whole had an answer"
+  timeout 5 cat <&4 > "$folder/answer" || fail "the connection of a server that was ended stays"
+  exec 3>&- 4>&-
+  [ ! -s "$folder/answer" ] || head -n 1 "$folder/answer" | grep -q '^HTTP/1.1 200 ' || fail "it answered: $(< "$folder/answer")"
+  echo "a server that SIG$signal ends is gone at once, and its connections are cut"
+done
 
 # ---- a store is flushed before and after it is renamed
 
