@@ -4,8 +4,8 @@
 A run of a case is left out where an object fails at a call with a number, for another program makes other calls, where the host of a
 URL has bytes from 128 on, or where it depends on the threads of a run that judges what it prints. A run of updates is left out, too,
 where a session gives other bytes than a whole response, and a server of a journal of more than 262,144 bytes. What a run that is left
-out keeps is what its case says. Of a run of a client, what its sessions send, their moments and what the keeper is handed are compared
-too, and of a server what is written to each connection. The last case is wrong on purpose, so exactly that one has to differ: else the
+out keeps is what its case says. What the sessions of a client send, their moments and what the keeper is handed are compared
+too, and what a server writes to each connection. The last case is wrong on purpose, so exactly that one has to differ: else the
 exit status is 1.
 """
 
@@ -431,7 +431,7 @@ class Run:
         return judging.Link(plays, self.text(b"journal", cut)[0], times), max(fronts)
 
     def turns(self, cut):
-        """Of each connection what the journal has gained before it, and what it gives; and how many fronts its texts are to be run for."""
+        """For each connection what the journal has gained before it, and what it gives; and how many fronts its texts are to be run for."""
         turns, gained, fronts = [], b"", 0
         for number in self.every(b"connection", b"append"):
             text, more = self.book.text(number, cut)

@@ -12,7 +12,7 @@ of the first heading of CHANGELOG.md.
 A table of options begins with "Option of" and the commands that have them, one of statuses with "Status of", and one of files
 with "File of". A column of printed lines, or of causes in them, has a head that ends with "of" and the commands that print
 them, and the column beside it that is no number says what they mean. A table of what stands on standard error begins with
-"Of" and its object, and ends with the programs that say it. Each command of a usage text has exactly one table of statuses, and
+"Said of" and its object, and ends with the programs that say it. Each command of a usage text has exactly one table of statuses, and
 at least one column of lines unless it is in WITHOUT_LINES; its tables of options have each option of its line once, and they may
 have more that a command takes. docs/FORMATS.md has each usage text, word for word, and README.md has of each program the statuses
 of its commands.
@@ -142,7 +142,7 @@ class Tables:
             for begins, tables in (("Option of ", self.options), ("Status of ", self.statuses), ("File of ", self.files)):
                 if head.startswith(begins):
                     tables.append((re.findall(r"`([\w-]+)`", head), table[1:]))
-            object_of = re.fullmatch(r"Of (.*), of (`\w+`(?:, | and |`\w+`)*)", head)
+            object_of = re.fullmatch(r"Said of (.*), by (`\w+`(?:, | and |`\w+`)*)", head)
             if object_of:
                 self.said.append((object_of[1], re.findall(r"`(\w+)`", object_of[2]), table[1:]))
             if table[0] == ["The line has", "So"]:
@@ -231,7 +231,7 @@ def option_lines(tables, commands):
     placed = {name: value for command in commands for name, value in command.options.items()}
     for of, rows in tables:
         known = [it.name for it in commands if it.name in of]
-        yield f".SS \"Of {' and '.join(known)}\""
+        yield f".SS \"{joined(known)}\""
         for row in rows:
             name = row[0].strip("`")
             value = f" \\fI{escaped(placed[name])}\\fP" if placed.get(name) else ""
@@ -242,7 +242,7 @@ def option_lines(tables, commands):
 
 def status_lines(tables, names):
     for of, rows in tables:
-        yield f".SS \"Of {' and '.join(it for it in of if it in names)}\""
+        yield f".SS \"{joined(it for it in of if it in names)}\""
         for row in rows:
             yield from (".TP", f"\\fB{row[0]}\\fP", plain(sentence(row[1])))
             if len(row) > 2 and row[2]:
@@ -260,14 +260,14 @@ def output_lines(tables, commands):
     names = [it.name for it in commands]
     for name in names:
         if name in WITHOUT_LINES:
-            yield from (f".SS \"Of {name}\"", plain(sentence(WITHOUT_LINES[name])))
+            yield from (f".SS \"{name}\"", plain(sentence(WITHOUT_LINES[name])))
     for first in (True, False):
         for head, of, rows in tables:
             if head.startswith("Line") != first:
                 continue
             known = joined(it for it in of if it in names)
-            what = head.replace("Line", "Lines", 1) + ", of" if head != "Line" else "Of"
-            yield f".SS \"{plain(what)} {known}\""
+            what = head.replace("Line", "Lines", 1) + ", of " if head != "Line" else ""
+            yield f".SS \"{plain(what)}{known}\""
             for printed, means in rows:
                 yield from (".TP", plain(printed), plain(sentence(means or "the same")))
 
