@@ -34,7 +34,7 @@ Begins pair hash = take (length pair.prefix) hash.bytes ≡ pair.prefix
 abbrev pub IsFaithfulFor : List (List ℕ) → Pair → FindResponse → Type 0
 IsFaithfulFor hashes pair response = (hash : FullHash) → Begins pair hash → Contains hashes hash.bytes ↔ HasMatchOf response pair.list hash
 
--- Of the hashes that begin with a pair's prefix, two lists have the same.
+-- Two lists have the same hashes that begin with a pair's prefix.
 abbrev pub AgreeUnder : Pair → List (List ℕ) → List (List ℕ) → Type 0
 AgreeUnder pair hashes others = (hash : FullHash) → Begins pair hash → Contains hashes hash.bytes ↔ Contains others hash.bytes
 

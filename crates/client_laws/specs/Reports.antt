@@ -28,7 +28,7 @@ abbrev pub ArePublishedReplicas : History → Naming → Publications → Type 0
 ArePublishedReplicas history token_at [] = Unit {0}
 ArePublishedReplicas history token_at (lists ∷ more) = AreReplicas history token_at lists × ArePublishedReplicas history token_at more
 
--- Of lines that were judged in order on publications of replicas, from no kept answers on, each verdict holds.
+-- Each verdict holds of lines that were judged in order on publications of replicas, from no kept answers on.
 abbrev pub RowsOfVerdictsHold : Type 0
 RowsOfVerdictsHold = (history : History) (token_at : Naming) (plan : JudgePlan) (published : Publications) (waits : WaitState) (lines : List (List ℕ)) (cases : List Case)
     → IsWellFormed history → ArePublishedReplicas history token_at published → AreCases plan published (first_finds waits) lines cases
@@ -67,7 +67,7 @@ RunsOfVerdictsHold = (history : History) (token_at : Naming) (plan : BesidePlan)
 
 -- ---- what is left open
 
--- Of lines that are seen to have been judged in order, each verdict is decided where its finding was answered, and else names its cause.
+-- Each verdict of lines that are seen to have been judged in order is decided if its finding was answered, and else names its cause.
 abbrev pub JudgedAreComplete : Type 0
 JudgedAreComplete = (plan : JudgePlan) (published : Publications) (finds finds' : FindState) (before after : Outside) (faults faults' : ℕ)
     (lines : List (List ℕ)) (all : List Judged) (judges : JudgesLines plan published finds finds' before after faults faults' lines all)

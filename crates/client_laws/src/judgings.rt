@@ -12,10 +12,10 @@ use sb_round::rounds_are_their_sessions;
 /// out, and where no hit of the URL was left open it equals a look-up of each expression's hash in the full lists. The premise and what
 /// follows are those of one verdict alone. The answers that were kept for it are those that the URLs before it got.
 pub fn rows_of_verdicts_hold()
-    // Of any cases of lines.
+    // It holds of any cases of lines.
     ensures cases { RowsOfVerdictsHold }
 
-    // Of lines that were seen to be judged, wherever the run ended.
+    // It holds of lines that were seen to be judged, wherever the run ended.
     ensures judged { JudgedVerdictsHold }
 {
     resolved_verdicts_are_lookups();

@@ -82,12 +82,12 @@ pub fn right_rulings_are_lookups()
 /// What answers say of a hash is right, as far as those by which it is said are faithful for its one pair. Nothing is asked of any
 /// other answer.
 pub fn faithful_answers_rule_rightly()
-    // Of a hash, by what a cache keeps that began with no pairs.
+    // What a cache that began with no pairs keeps says it of a hash.
     ensures kept { (steps : List Step) (now : Moment) (hashes : List (List ℕ)) (pair : Pair) (hash : FullHash)
         → Begins pair hash → RestsOnFaithful steps now hashes pair hash
         → IsRight (answer_of (after_steps [] steps) now pair hash) hashes hash }
 
-    // Of each hit of a URL, by the same.
+    // The same says it of each hit of a URL.
     ensures kept_hits { (history : History) (token_at : Naming) (lists : List Held) (url : Url) (steps : List Step)
         (now : Moment) → KeptAreFaithful history token_at lists steps now (hits_of lists url)
         → AreRight history token_at lists (hits_of lists url) (said_after steps now) }

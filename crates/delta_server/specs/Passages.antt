@@ -14,7 +14,7 @@ pub record StandsBetween (done run later : List Stretch) (head : ℕ) : Type 0 w
   pub fits : head < 2 ^ 32
   pub heads : HaveHeads later
 
--- Of a prefix it was noted whether an older version has it, and whether a newer one does.
+-- It was noted of a prefix whether an older version has it, and whether a newer one does.
 pub record Passes (before after : Passage) (prefix : List ℕ) (stood stays : Bool) : Type 0 where
   pub rank : after.rank ≡ (if stood then min (before.rank + 1) (2 ^ 32 - 1) else before.rank)
   pub removals : after.removals ≡ before.removals ++ (if stood && not stays then before.rank ∷ [] else [])

@@ -92,7 +92,7 @@ pub(crate) fn closed_ones(stage: &mut Stage<'_>, first: u8, last: u8) -> u128 {
     bits
 }
 
-/// Of some peers, how many got an answer of so many bytes whole.
+/// How many of some peers got an answer of so many bytes whole.
 pub(crate) fn good_ones(stage: &mut Stage<'_>, first: u8, last: u8, length: u64) -> u64 {
     let mut total = 0u64;
     for number in first..=last {
@@ -108,7 +108,7 @@ pub(crate) fn good_ones(stage: &mut Stage<'_>, first: u8, last: u8, length: u64)
     total
 }
 
-/// Of so many turns at the door, how many are answered with so many bytes.
+/// How many of so many turns at the door are answered with so many bytes.
 pub(crate) fn serve_all(stage: &mut Stage<'_>, count: u64, length: u64) -> u64 {
     let mut total = 0u64;
     for _ in 0..count {

@@ -31,7 +31,7 @@ fn is_served(stage: &mut Stage<'_>, number: u8) -> bool {
     }
 }
 
-/// Of so many peers that come one after the other, how many get their answers whole.
+/// How many of so many peers that come one after the other get their answers whole.
 pub(crate) fn quick(stage: &mut Stage<'_>, count: u64) -> u64 {
     let mut total = 0u64;
     let mut number = 101u8;

@@ -51,7 +51,7 @@ abbrev pub Puts : Step → Pair → Type 0
 Puts (Takes at lists asked response) pair = Contains (pairs_asked asked lists) pair
 Puts (Asks now other hash) pair = ⊥
 
--- Of the steps that put a pair, the last one took this answer, which was received at a moment.
+-- The last of the steps that put a pair took this answer, which was received at a moment.
 pub record IsLastPut (steps : List Step) (pair : Pair) (at : Moment) (response : FindResponse) : Type 0 where
   pub before : List Step
   pub lists : List ListName

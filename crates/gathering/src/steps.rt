@@ -61,7 +61,7 @@ fn turn_of(gathered: u64, ending: Ending) -> Step
     }
 }
 
-/// Of one whose request is gathered.
+/// The step of one whose request is gathered.
 fn after_gathering(
     limits: &DoorLimits,
     phase: Phase,
@@ -86,7 +86,7 @@ fn after_gathering(
     }
 }
 
-/// Of one that waits for its turn: it ends where it has failed, or where its time is up.
+/// The step of one that waits for its turn: it ends if it has failed, or if its time is up.
 fn after_waiting(limits: &DoorLimits, phase: Phase, heard: Heard, now: u64) -> Step
     ensures { result ≡ waiting_step limits.now phase heard now }
 {
@@ -96,7 +96,7 @@ fn after_waiting(limits: &DoorLimits, phase: Phase, heard: Heard, now: u64) -> S
     }
 }
 
-/// Of one that is sent its answer.
+/// The step of one that is sent its answer.
 fn after_sending(phase: Phase, heard: Heard) -> Step
     ensures { result ≡ sending_read phase heard }
 {

@@ -25,7 +25,7 @@ AfterFault journal.ReadFault status held held' = IsSilent 2 status held held'
 AfterFault journal.OutOfMemory status held held' = ⊥
 AfterFault fault status held held' = IsWritten (refusal_of fault) status held held'
 
--- Of some replies one was written.
+-- One of some replies was written.
 pub record WritesOne (Replies : Reply → Type 0) (status : ℕ) (held held' : Option (List ℕ)) : Type 0 where
   pub reply : Reply
   pub is : Replies reply

@@ -18,7 +18,7 @@ pub record IsWhole (reply : Reply) (status : ℕ) (held held' : Option (List ℕ
   pub ends : status ≡ reply.status
   pub whole : held' ≡ appended held reply.text
 
--- Of a text a front that lacks something was written: the output failed.
+-- A front of a text that lacks something was written: the output failed.
 pub record IsCutShort (reply : Reply) (status : ℕ) (held held' : Option (List ℕ)) : Type 0 where
   pub ends : status ≡ 3
   pub front : HasFront held held' reply.text

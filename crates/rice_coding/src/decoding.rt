@@ -8,7 +8,7 @@ use std::alloc::Global;
 
 /// The numbers that a record stands for, at most `limit` of them.
 ///
-/// Of a record that stands for none, it answers the first of these faults: `Parameter`,
+/// A record that stands for none is answered with the first of these faults: `Parameter`,
 /// `CountLimit`, `Range(0)`, then for each entry from 1 on `Ended` or else `Range`, and `LeftOver`.
 /// It reserves memory for no more numbers than the bytes of the record can code.
 pub fn decode(alloc: Global, coding: &RiceRecord, limit: u32) -> Result<Row<u32>, RiceFault>

@@ -16,7 +16,7 @@ pub fn code_in(word: u64, valid: u32, parameter: u32) -> Option<Code>
     requires few { parameter ≤ 28 }
     ensures short { IfSome result (λ code. code.length ≤ valid) }
     ensures small { IfSome result (λ code. code.delta < 2 ^ 34) }
-    // Of any bits that begin with these, it is the first code.
+    // It is the first code of any bits that begin with these.
     ensures first { IfSome result (λ code. (bits : List Bool) → valid ≤ length bits
         → ((i : ℕ) → i < valid → slice_index_or bits i false ≡ (bit_at word i == 1))
         → delta_at parameter bits ≡ Some (code.delta, drop code.length bits)) }

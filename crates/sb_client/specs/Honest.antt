@@ -7,7 +7,7 @@ use Rattle.client_laws.specs.Replicas.{KeepsSafely}
 use Rattle.update_run.specs.Run.{Seen}
 use Rattle.update_run.specs.declared.plan.Plan.{Plan}
 
--- Of the bodies that the log's sessions brought so many were taken: all, or with the status 8 all but perhaps the last. Where these are
+-- So many of the bodies that the log's sessions brought were taken: all, or with the status 8 all but perhaps the last. If these are
 -- honest, and the run began with replicas, this holds.
 pub record HoldsWhereHonest (plan : Plan) (status : ℕ) (before after : Seen) (Claim : History → Naming → Plan → Seen → Seen → Type 0) : Type 0 where
   pub taken : ℕ

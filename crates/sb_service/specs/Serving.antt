@@ -39,7 +39,7 @@ pub record Turn : Type 0 where
   pub how : ConnectionEnd
   pub entry : Connection
 
--- Of several turns the last stands first, so that each stands before those that came before it.
+-- The last of several turns stands first, so that each stands before those that came before it.
 
 -- The journal gave its bytes turn by turn, each up to an end.
 abbrev pub Gains : List Turn → (left left' : Option (List (List ℕ))) → Type 0
