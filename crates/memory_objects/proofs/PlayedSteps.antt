@@ -9,11 +9,11 @@ use Rattle.memory_objects.specs.Plays.{SessionInMemory, LinkInMemory, log_of, af
 use Rattle.sb_outside.specs.declared.links.Session.{Session}
 
 -- the next bytes are received
-pub received_next : (before : SessionInMemory) (session : Session) (gives sent bytes failing : List ℕ) (k n room calls : ℕ)
-    → record { session = record session { sent = sent; received = take k gives }; left = drop k gives; room = room; failing = failing; calls = calls } ≡ record before { calls = raised before.calls }
+pub received_next : (before : SessionInMemory) (session : Session) (gives sent bytes failing : List ℕ) (k n room calls asks : ℕ)
+    → record { session = record session { sent = sent; received = take k gives }; left = drop k gives; room = room; failing = failing; calls = calls; asks = asks } ≡ record before { calls = raised before.calls }
     → bytes ≡ take n (drop k gives) → length bytes ≡ n
-    → record { session = record session { sent = sent; received = take (k + n) gives }; left = drop (k + n) gives; room = room; failing = failing; calls = calls } ≡ after_bytes bytes before
-received_next before session gives sent bytes failing k n room calls view front count =
+    → record { session = record session { sent = sent; received = take (k + n) gives }; left = drop (k + n) gives; room = room; failing = failing; calls = calls; asks = asks } ≡ after_bytes bytes before
+received_next before session gives sent bytes failing k n room calls asks view front count =
     let whole : take (k + n) gives ≡ take k gives ++ bytes = take-add k n gives ∙ ap (λ bs. take k gives ++ bs) (sym front) in
     let rest : drop (k + n) gives ≡ drop (length bytes) (drop k gives) = sym (drop-drop n k gives) ∙ ap (λ i. drop i (drop k gives)) (sym count) in
     rw (whole, rest) (ap (λ (s : SessionInMemory). record s { session = with_received bytes s.session; left = drop (length bytes) s.left }) view)

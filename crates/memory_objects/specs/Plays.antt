@@ -1,5 +1,5 @@
 -- The link in memory, as contracts see it.
-use Rattle.std.specs.Prelude.{ℕ, ◌+◌, ◌≤◌, List, [], ◌∷◌, ◌++◌, length, drop, Option, is_none, None, Some, Bool, ◌&&◌, IsTrue, Contains, option_to_list}
+use Rattle.std.specs.Prelude.{ℕ, ◌+◌, ◌-◌, ◌≤◌, ◌==◌, List, [], ◌∷◌, ◌++◌, length, drop, Option, is_none, None, Some, Bool, true, ◌&&◌, IsTrue, Contains, option_to_list}
 use Rattle.std.specs.Option.{option_map}
 use Rattle.sb_outside.specs.Outside.{raised}
 use Rattle.memory_objects.specs.Logs.{logged}
@@ -7,20 +7,24 @@ use Rattle.sb_model.specs.declared.time.Moment.{Moment}
 use Rattle.sb_outside.specs.Sessions.{with_received, with_close}
 use Rattle.sb_outside.specs.declared.links.Session.{Session}
 
--- a session to be played: the bytes that it gives before its end, how many it takes at most, and the numbers of its
--- calls that fail. `begin` is call 1, and `close` is none.
+-- a session to be played: the bytes that it gives before its end, how many it takes at most, the numbers of its calls
+-- that fail, and how often it says first that it is not answered yet. `begin` is call 1, and `close` is none; to ask
+-- whether it is answered is none either.
 pub record PlayInMemory : Type 0 where
   pub gives : List ℕ
   pub room : ℕ
   pub failing : List ℕ
+  pub asks : ℕ
 
--- a session that is played: its entry in the log, what it has left to give, and how many calls there were
+-- a session that is played: its entry in the log, what it has left to give, how many calls there were, and how often it
+-- says yet that it is not answered
 pub record SessionInMemory : Type 0 where
   pub session : Session
   pub left : List ℕ
   pub room : ℕ
   pub failing : List ℕ
   pub calls : ℕ
+  pub asks : ℕ
 
 -- a link in memory
 pub record LinkInMemory : Type 0 where
@@ -71,3 +75,11 @@ after_bytes bytes played = record (after_call (with_received bytes) played) { le
 
 abbrev pub closed_at : Moment → SessionInMemory → SessionInMemory
 closed_at at played = record played { session = with_close at played.session }
+
+-- a session is answered once it was asked so often, and no session is not open for an answer
+abbrev pub is_answered : Option SessionInMemory → Bool
+is_answered None = true
+is_answered (Some played) = played.asks == 0
+
+abbrev pub after_asking : SessionInMemory → SessionInMemory
+after_asking played = record played { asks = played.asks - 1 }

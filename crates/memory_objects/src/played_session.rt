@@ -1,7 +1,7 @@
-ghost use Rattle.std.specs.Prelude.{◌≡◌, ℕ, ◌+◌, ◌<◌, ◌≤◌, ◌↔◌, if◌then◌else◌, min, List, [], length, take, drop, IfOk, IfSome, IsOk, OnOk, OnErr, IsTrue, true, false, Contains};
+ghost use Rattle.std.specs.Prelude.{◌≡◌, ℕ, ◌+◌, ◌<◌, ◌≤◌, ◌==◌, ◌↔◌, if◌then◌else◌, min, List, [], length, take, drop, IfOk, IfSome, IsOk, OnOk, OnErr, IsTrue, true, false, Contains};
 ghost use Rattle.sb_outside.specs.Outside.{raised};
 ghost use Rattle.sb_outside.specs.Sessions.{begun_session, refused_session, with_sent, with_end, with_failure};
-ghost use Rattle.memory_objects.specs.Plays.{PlayInMemory, SessionInMemory, is_open, CanCall, CanSend, after_call, after_bytes, closed_at};
+ghost use Rattle.memory_objects.specs.Plays.{PlayInMemory, SessionInMemory, is_open, CanCall, CanSend, after_call, after_bytes, after_asking, closed_at};
 
 use crate::memory_source::copy_front;
 use sb_model::{Bytes, Moment, OutOfMemory, Row};
@@ -16,6 +16,7 @@ pub struct Play {
     sent: Vec<u8>,
     room: usize,
     failing: Row<u64>,
+    asks: u64,
 }
 
 impl Model for Play {
@@ -24,7 +25,7 @@ impl Model for Play {
 
     ghost Value = { PlayInMemory };
 
-    ghost view = { λ s. record { gives = s.gives; room = s.room; failing = s.failing } };
+    ghost view = { λ s. record { gives = s.gives; room = s.room; failing = s.failing; asks = s.asks } };
 
     ghost invariant = { λ s. (s.sent.items ≡ []) × (s.room ≤ vec_capacity s.sent) };
 }
@@ -38,14 +39,23 @@ impl Play {
         room: usize,
         failing: Row<u64>,
     ) -> Result<Self, OutOfMemory>
-        ensures { IfOk result (λ play. play ≡ record { gives = gives; room = room; failing = failing }) }
+        ensures { IfOk result (λ play. play ≡ record { gives = gives; room = room; failing = failing; asks = 0 }) }
     {
         Ok(Play {
             gives,
             sent: Vec::with_capacity(alloc, room)?,
             room,
             failing,
+            asks: 0,
         })
+    }
+
+    /// The same session, which says `asks` times that it is not answered yet.
+    pub fn with_asks(mut self, asks: u64) -> Self
+        ensures { result ≡ record self { asks = asks } }
+    {
+        self.asks = asks;
+        self
     }
 
     /// The session as it begins at a moment, or as its beginning fails.
@@ -58,6 +68,7 @@ impl Play {
           room = self.room;
           failing = self.failing;
           calls = 1;
+          asks = self.asks;
         } }
     {
         let began = !self.failing.as_slice().contains(&1);
@@ -69,6 +80,7 @@ impl Play {
             room: self.room,
             failing: self.failing,
             calls: 1,
+            asks: self.asks,
         }
     }
 }
@@ -99,6 +111,7 @@ pub(crate) struct PlayedSession {
     room: usize,
     failing: Row<u64>,
     calls: u64,
+    asks: u64,
 }
 
 impl Model for PlayedSession {
@@ -113,6 +126,7 @@ impl Model for PlayedSession {
       room = s.room;
       failing = s.failing;
       calls = s.calls;
+      asks = s.asks;
     } };
 
     ghost invariant = { λ s. (s.given ≤ length s.gives) × (vec_len s.sent ≤ s.room) × (s.room ≤ vec_capacity s.sent) };
@@ -131,6 +145,7 @@ impl PlayedSession {
             room: 0,
             failing: Row::new(alloc),
             calls: 1,
+            asks: 0,
         }
     }
 
@@ -162,6 +177,18 @@ impl PlayedSession {
         }
         self.session.failed = true;
         Err(Failed)
+    }
+
+    /// Says whether it is answered.
+    pub(crate) fn is_answered(&mut self) -> bool
+        ensures answered { result ≡ (self.old.asks == 0) }
+        ensures after { self.new ≡ after_asking self.old }
+    {
+        if self.asks == 0 {
+            return true;
+        }
+        self.asks -= 1;
+        false
     }
 
     pub(crate) fn recv(&mut self, buffer: &mut [u8], step: usize) -> Result<usize, Failed>

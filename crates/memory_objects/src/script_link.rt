@@ -3,7 +3,7 @@ ghost use Rattle.std.specs.Option.{option_map};
 ghost use Rattle.sb_outside.specs.Outside.{Rose, IfTold, raised, with_entry};
 ghost use Rattle.sb_outside.specs.Sessions.{begun_session, refused_session, with_sent, with_received, with_end, with_failure, with_close, last_changed};
 ghost use Rattle.memory_objects.specs.Logs.{logged};
-ghost use Rattle.memory_objects.specs.Plays.{PlayInMemory, LinkInMemory, log_of, past_of, CanBegin, CanCall, CanSend, after_call, after_bytes, closed_at};
+ghost use Rattle.memory_objects.specs.Plays.{PlayInMemory, LinkInMemory, log_of, past_of, CanBegin, CanCall, CanSend, after_call, after_bytes, after_asking, is_answered, closed_at};
 
 use crate::Play;
 use crate::entries::Log;
@@ -108,6 +108,7 @@ fn begin_next(coming: &mut VecDeque<Play>, alloc: Global, at: Moment, kind: Kind
           room = play.room;
           failing = play.failing;
           calls = 1;
+          asks = play.asks;
         }) }
 {
     match coming.pop_front() {
@@ -141,6 +142,7 @@ impl Link for ScriptLink {
               room = play.room;
               failing = play.failing;
               calls = 1;
+              asks = play.asks;
             }))) }
         ensures after { self.new ≡ record self.old {
           coming = drop 1 self.old.coming;
@@ -199,6 +201,21 @@ impl Link for ScriptLink {
                 Err(Failed)
             }
         }
+    }
+
+    fn is_answered(&mut self) -> bool
+        ensures answered { result ≡ is_answered self.old.last }
+        ensures after { self.new ≡ record self.old { last = option_map after_asking self.old.last } }
+
+        ensures faults { self.new.faults ≡ self.old.faults }
+        ensures log { log_of self.new ≡ log_of self.old }
+    {
+        let Some(mut session) = self.last.take() else {
+            return true;
+        };
+        let answered = session.is_answered();
+        self.last = Some(session);
+        answered
     }
 
     fn recv(&mut self, buffer: &mut [u8]) -> Result<usize, Failed>

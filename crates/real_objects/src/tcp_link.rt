@@ -175,6 +175,15 @@ impl<R: Net<Stream = TcpStream> + time::Clock> Link for TcpLink<R> {
         }
     }
 
+    fn is_answered(&mut self) -> bool
+        ensures same { self.new ≡ self.old }
+        ensures yes { result ≡ true }
+
+        ensures faults { self.new.faults ≡ self.old.faults }
+    {
+        true
+    }
+
     fn recv(&mut self, buffer: &mut [u8]) -> Result<usize, Failed>
         ensures closed { self.old.is_open ≡ false → IsErr result }
         ensures stays { (self.new.is_usable ≡ self.old.is_usable) × (self.new.is_open ≡ self.old.is_open) }

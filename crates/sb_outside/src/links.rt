@@ -59,6 +59,12 @@ pub trait Link {
         ensures err { OnErr result ((n : ℕ) × (n ≤ length piece.now) × IfTold (log self.new)
             (last_changed (λ session. with_failure (with_sent (take n piece.now) session)) (log self.old))) };
 
+    /// Says whether what comes next in the session can be received without a wait. It waits for nothing itself. Which of
+    /// both it says is no matter of any contract: a link that cannot tell says yes.
+    fn is_answered(&mut self) -> bool
+        ensures faults { faults self.new ≡ faults self.old }
+        ensures log { log self.new ≡ log self.old };
+
     /// Takes the next bytes into the front of the buffer, and says how many. Zero for a buffer that is
     /// not empty is the session's end. What the buffer holds after the bytes, or after an `Err`, is
     /// not said.

@@ -8,4 +8,4 @@ returns-clause-ok c = λ some.
     let s = c.self.inside in
     let front = rw (take_rest, c.as_slice.ensures) at c.copy_front-count.ensures.front in
     let count : length (take c.copy_front-count.result c.copy_front-count.new.buffer) ≡ c.copy_front-count.result = simp length-take (omega (arith, c.copy_front-count.ensures.count, c.copy_front-count.auto.buffer)) in
-    received_next c.args.self.now s.session s.gives s.sent.items _ s.failing s.given c.copy_front-count.result s.room s.calls (c.self.view_is ∙ c.call.ensures.counted) front count
+    received_next c.args.self.now s.session s.gives s.sent.items _ s.failing s.given c.copy_front-count.result s.room s.calls s.asks (c.self.view_is ∙ c.call.ensures.counted) front count
