@@ -14,55 +14,57 @@ use Rattle.http_edge.specs.declared.messages.Target.{Target}
 use Rattle.http_edge.specs.declared.faults.ExchangeFault.{ExchangeFault}
 use Rattle.http_edge.specs.declared.faults.ExchangeFault.TheVariants as fault
 use Rattle.http_edge.specs.Outcomes.{SessionOutcome, IsUndecided, ReadsToDecision, ReadsNoFurther}
-use Rattle.http_edge.specs.Exchanges.{query_of, request_text, IsTalkOf, IsSessionOf, SendsWhole, HoldsSession, HoldsPart, IsConversation, IsPartOfConversation}
+use Rattle.http_edge.specs.Exchanges.{query_of, request_text, IsTalkOf, IsSessionOf, SendsWhole, HoldsSession, HoldsPart, IsConversation, IsPartOfConversation, IsOpenExchange}
 use Rattle.http_edge.specs.SessionBytes.{Turns, after_receiving, ReadsOnly, ReceivedOutcome, IsReceived, IsPartReceived, SendsFront}
 use Rattle.http_edge.proofs.SessionSteps.{turns_from}
 use Rattle.http_edge.proofs.ReadFacts.{reads_decide, reads_nothing}
 
--- the session after the whole request was sent and so much was received
-abbrev talk_of : Target → Kind → List ℕ → Moment → List ℕ → Bool → Bool → Session
-talk_of target kind body at bytes ended failed = after_receiving bytes ended failed (with_sent (request_text target kind body) (begun_session at kind))
+-- a session after so much of it was received is what it was before
+received_is : (target : Target) (kind : Kind) (body : List ℕ) (at : Moment) (session : Session) (bytes : List ℕ) (ended failed : Bool)
+    → IsTalkOf target kind body at session → IsTalkOf target kind body at (after_receiving bytes ended failed session)
+received_is target kind body at session bytes true true is = record { kind = is.kind; begun = is.begun; not_closed = is.not_closed; unsent = is.unsent; front = is.front }
+received_is target kind body at session bytes true false is = record { kind = is.kind; begun = is.begun; not_closed = is.not_closed; unsent = is.unsent; front = is.front }
+received_is target kind body at session bytes false true is = record { kind = is.kind; begun = is.begun; not_closed = is.not_closed; unsent = is.unsent; front = is.front }
+received_is target kind body at session bytes false false is = record { kind = is.kind; begun = is.begun; not_closed = is.not_closed; unsent = is.unsent; front = is.front }
 
-talk_is : (target : Target) (kind : Kind) (body : List ℕ) (at : Moment) (bytes : List ℕ) (ended failed : Bool) → IsTalkOf target kind body at (talk_of target kind body at bytes ended failed)
-talk_is target kind body at bytes true true = record { kind = refl; begun = refl; not_closed = refl; unsent = []; front = append-nil (request_text target kind body) }
-talk_is target kind body at bytes true false = record { kind = refl; begun = refl; not_closed = refl; unsent = []; front = append-nil (request_text target kind body) }
-talk_is target kind body at bytes false true = record { kind = refl; begun = refl; not_closed = refl; unsent = []; front = append-nil (request_text target kind body) }
-talk_is target kind body at bytes false false = record { kind = refl; begun = refl; not_closed = refl; unsent = []; front = append-nil (request_text target kind body) }
+received_sends : (target : Target) (kind : Kind) (body : List ℕ) (session : Session) (bytes : List ℕ) (ended failed : Bool)
+    → session.sent ≡ request_text target kind body → SendsWhole target kind body (after_receiving bytes ended failed session)
+received_sends target kind body session bytes true true whole = λ _. whole
+received_sends target kind body session bytes true false whole = λ _. whole
+received_sends target kind body session bytes false true whole = λ _. whole
+received_sends target kind body session bytes false false whole = λ _. whole
 
-talk_sends : (target : Target) (kind : Kind) (body : List ℕ) (at : Moment) (bytes : List ℕ) (ended failed : Bool) → SendsWhole target kind body (talk_of target kind body at bytes ended failed)
-talk_sends target kind body at bytes true true = λ _. refl
-talk_sends target kind body at bytes true false = λ _. refl
-talk_sends target kind body at bytes false true = λ _. refl
-talk_sends target kind body at bytes false false = λ _. refl
+received_outcome : (need : Bool) (session : Session) (bytes : List ℕ) (ended failed : Bool) (answer : Result (List ℕ) ExchangeFault)
+    → session.received ≡ [] → session.ended ≡ false → session.failed ≡ false
+    → ReceivedOutcome need bytes ended failed answer → SessionOutcome need (after_receiving bytes ended failed session) answer
+received_outcome need session bytes true true answer nothing not_ended well is = is
+received_outcome need session bytes true false answer nothing not_ended well is = rw (nothing, well) is
+received_outcome need session bytes false true answer nothing not_ended well is = is
+received_outcome need session bytes false false answer nothing not_ended well is = rw (nothing, not_ended, well) is
 
-talk_outcome : (target : Target) (kind : Kind) (body : List ℕ) (at : Moment) (need : Bool) (bytes : List ℕ) (ended failed : Bool) (answer : Result (List ℕ) ExchangeFault)
-    → ReceivedOutcome need bytes ended failed answer → SessionOutcome need (talk_of target kind body at bytes ended failed) answer
-talk_outcome target kind body at need bytes true true answer is = is
-talk_outcome target kind body at need bytes true false answer is = is
-talk_outcome target kind body at need bytes false true answer is = is
-talk_outcome target kind body at need bytes false false answer is = is
-
-talk_reads : (target : Target) (kind : Kind) (body : List ℕ) (at : Moment) (need : Bool) (bytes : List ℕ) (ended failed : Bool)
-    → ReadsOnly (IsUndecided need) bytes ended failed → ReadsNoFurther need (talk_of target kind body at bytes ended failed)
-talk_reads target kind body at need bytes true true reads = reads_decide need bytes true true reads
-talk_reads target kind body at need bytes true false reads = reads_decide need bytes true false reads
-talk_reads target kind body at need bytes false true reads = reads_decide need bytes false true reads
-talk_reads target kind body at need bytes false false reads = reads_decide need bytes false false reads
+received_reads : (need : Bool) (session : Session) (bytes : List ℕ) (ended failed : Bool)
+    → session.received ≡ [] → session.ended ≡ false → session.failed ≡ false
+    → ReadsOnly (IsUndecided need) bytes ended failed → ReadsNoFurther need (after_receiving bytes ended failed session)
+received_reads need session bytes true true nothing not_ended well reads = rw nothing (reads_decide need bytes true true reads)
+received_reads need session bytes true false nothing not_ended well reads = rw (nothing, well) (reads_decide need bytes true false reads)
+received_reads need session bytes false true nothing not_ended well reads = rw (nothing, not_ended) (reads_decide need bytes false true reads)
+received_reads need session bytes false false nothing not_ended well reads = rw (nothing, not_ended, well) (reads_decide need bytes false false reads)
 
 -- nothing was read yet
 pub nothing_read : (need ended failed : Bool) → ReadsToDecision need [] ended failed
 nothing_read need ended failed = reads_decide need [] ended failed (reads_nothing need ended failed)
 
 -- the session did not begin
-pub talk_refused : (target : Target) (kind : Kind) (body : List ℕ) (at : Moment) (need : Bool) (a b : Option (List Session))
-    → IfTold b (with_entry a (refused_session at kind)) → IsConversation target kind body at need a b (Err fault.Link)
-talk_refused target kind body at need a b told = record {
+pub open_refused : (target : Target) (kind : Kind) (body : List ℕ) (at : Moment) (a b : Option (List Session))
+    → IfTold b (with_entry a (refused_session at kind)) → IsOpenExchange target kind body at a b false
+open_refused target kind body at a b told = record {
   session = refused_session at kind;
   told = told;
   is = record { kind = refl; begun = refl; not_closed = refl; unsent = request_text target kind body; front = refl };
   sends = λ void. absurd (cc);
-  outcome = refl;
-  reads = nothing_read need false true;
+  failed = refl;
+  nothing = refl;
+  not_ended = refl;
 }
 
 -- it began, and its request could not be made
@@ -75,40 +77,67 @@ talk_begun target kind body at need a b told = record {
   reads = nothing_read need false false;
 }
 
+-- its request was sent whole
+pub open_sent : (target : Target) (kind : Kind) (body : List ℕ) (at : Moment) (text : List ℕ) (a b c : Option (List Session))
+    → text ≡ request_text target kind body → IfTold b (with_entry a (begun_session at kind)) → Turns (with_sent text) b c → IsOpenExchange target kind body at a c true
+open_sent target kind body at text a b c text-is begun sent = record {
+  session = with_sent text (begun_session at kind);
+  told = sent a (begun_session at kind) begun;
+  is = record { kind = refl; begun = refl; not_closed = refl; unsent = []; front = append-nil text ∙ text-is };
+  sends = λ _. text-is;
+  failed = refl;
+  nothing = refl;
+  not_ended = refl;
+}
+
 -- its request was not sent whole
-pub talk_unsent : (target : Target) (kind : Kind) (body : List ℕ) (at : Moment) (need : Bool) (text : List ℕ) (a b c : Option (List Session))
-    → text ≡ request_text target kind body → IfTold b (with_entry a (begun_session at kind)) → SendsFront text b c → IsConversation target kind body at need a c (Err fault.Link)
-talk_unsent target kind body at need text a b c text-is begun fails = record {
+pub open_unsent : (target : Target) (kind : Kind) (body : List ℕ) (at : Moment) (text : List ℕ) (a b c : Option (List Session))
+    → text ≡ request_text target kind body → IfTold b (with_entry a (begun_session at kind)) → SendsFront text b c → IsOpenExchange target kind body at a c false
+open_unsent target kind body at text a b c text-is begun fails = record {
   session = with_failure (with_sent fails.sent (begun_session at kind));
   told = fails.turns a (begun_session at kind) begun;
   is = record { kind = refl; begun = refl; not_closed = refl; unsent = fails.unsent; front = fails.front ∙ text-is };
   sends = λ void. absurd (cc);
-  outcome = refl;
-  reads = nothing_read need false true;
+  failed = refl;
+  nothing = refl;
+  not_ended = refl;
 }
 
-pub talk_received : (target : Target) (kind : Kind) (body : List ℕ) (at : Moment) (need : Bool) (a b c d : Option (List Session)) (result : Result (Result (List ℕ) ExchangeFault) OutOfMemory)
-    → IfTold b (with_entry a (begun_session at kind)) → Turns (with_sent (request_text target kind body)) b c
+-- the response of one whose request was sent was received to some end
+pub talk_received : (target : Target) (kind : Kind) (body : List ℕ) (at : Moment) (need : Bool) (a c d : Option (List Session)) (result : Result (Result (List ℕ) ExchangeFault) OutOfMemory)
+    → IsOpenExchange target kind body at a c true
     → IfOk result (λ answer. IsReceived need c d answer) → IfOk result (λ answer. IsConversation target kind body at need a d answer)
-talk_received target kind body at need a b c d (Ok answer) begun sent (bytes, ended, failed, receives, reads, is) = record {
-  session = talk_of target kind body at bytes ended failed;
-  told = receives a (with_sent (request_text target kind body) (begun_session at kind)) (sent a (begun_session at kind) begun);
-  is = talk_is target kind body at bytes ended failed;
-  sends = talk_sends target kind body at bytes ended failed;
-  outcome = talk_outcome target kind body at need bytes ended failed answer is;
-  reads = talk_reads target kind body at need bytes ended failed reads;
+talk_received target kind body at need a c d (Ok answer) opens (bytes, ended, failed, receives, reads, is) = record {
+  session = after_receiving bytes ended failed opens.session;
+  told = receives a opens.session opens.told;
+  is = received_is target kind body at opens.session bytes ended failed opens.is;
+  sends = received_sends target kind body opens.session bytes ended failed (opens.sends opens.failed);
+  outcome = received_outcome need opens.session bytes ended failed answer opens.nothing opens.not_ended opens.failed is;
+  reads = received_reads need opens.session bytes ended failed opens.nothing opens.not_ended opens.failed reads;
 }
-talk_received target kind body at need a b c d (Err refused) begun sent says = tt
+talk_received target kind body at need a c d (Err refused) opens says = tt
 
-pub talk_part : (target : Target) (kind : Kind) (body : List ℕ) (at : Moment) (need : Bool) (a b c d : Option (List Session)) (result : Result (Result (List ℕ) ExchangeFault) OutOfMemory)
-    → IfTold b (with_entry a (begun_session at kind)) → Turns (with_sent (request_text target kind body)) b c
+pub talk_part : (target : Target) (kind : Kind) (body : List ℕ) (at : Moment) (need : Bool) (a c d : Option (List Session)) (result : Result (Result (List ℕ) ExchangeFault) OutOfMemory)
+    → IsOpenExchange target kind body at a c true
     → OnErr result (IsPartReceived need c d) → OnErr result (IsPartOfConversation target kind body at need a d)
-talk_part target kind body at need a b c d (Ok answer) begun sent says = tt
-talk_part target kind body at need a b c d (Err refused) begun sent (bytes, ended, failed, receives, reads) = record {
-  session = talk_of target kind body at bytes ended failed;
-  told = receives a (with_sent (request_text target kind body) (begun_session at kind)) (sent a (begun_session at kind) begun);
-  is = talk_is target kind body at bytes ended failed;
-  reads = talk_reads target kind body at need bytes ended failed reads;
+talk_part target kind body at need a c d (Ok answer) opens says = tt
+talk_part target kind body at need a c d (Err refused) opens (bytes, ended, failed, receives, reads) = record {
+  session = after_receiving bytes ended failed opens.session;
+  told = receives a opens.session opens.told;
+  is = received_is target kind body at opens.session bytes ended failed opens.is;
+  reads = received_reads need opens.session bytes ended failed opens.nothing opens.not_ended opens.failed reads;
+}
+
+-- one whose request was not sent has no answer
+pub talk_unsent : (target : Target) (kind : Kind) (body : List ℕ) (at : Moment) (need : Bool) (a c : Option (List Session))
+    → IsOpenExchange target kind body at a c false → IsConversation target kind body at need a c (Err fault.Link)
+talk_unsent target kind body at need a c opens = record {
+  session = opens.session;
+  told = opens.told;
+  is = opens.is;
+  sends = opens.sends;
+  outcome = rw opens.failed refl;
+  reads = rw (opens.nothing, opens.not_ended, opens.failed) (nothing_read need false true);
 }
 
 closed_is : (target : Target) (kind : Kind) (body : List ℕ) (at end : Moment) (session : Session) → IsTalkOf target kind body at session → IsSessionOf target kind body at end (with_close end session)

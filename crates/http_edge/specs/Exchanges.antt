@@ -1,5 +1,5 @@
 -- An exchange: one session, what is sent in it, and when it is begun and closed.
-use Rattle.std.specs.Prelude.{◌≡◌, ◌≢◌, ℕ, ◌==◌, ◌&&◌, not, ◌≤◌, List, [], ◌∷◌, ◌++◌, length, codes, decimal, encode_utf8_all, All, Bool, Option, Some, None, Result, Err, IfOk, OnErr, IsErrOf, IsFalse}
+use Rattle.std.specs.Prelude.{◌≡◌, ◌≢◌, ℕ, ◌==◌, ◌&&◌, not, ◌≤◌, List, [], ◌∷◌, ◌++◌, length, codes, decimal, encode_utf8_all, All, Bool, true, false, Option, Some, None, Result, Err, IfOk, OnErr, IsErrOf, IsFalse}
 use Rattle.sb_outside.specs.Outside.{Rose, IfTold, with_entry}
 use Rattle.http_edge.specs.declared.faults.ExchangeFault.{ExchangeFault}
 use Rattle.http_edge.specs.declared.faults.ExchangeFault.TheVariants.{Link}
@@ -97,6 +97,21 @@ pub record IsPartOfConversation (target : Target) (asked : Kind) (body : List �
   pub told : IfTold after (with_entry before session)
   pub is : IsTalkOf target asked body at session
   pub reads : ReadsNoFurther need session
+
+-- A session is open, and nothing was received in it yet. Its request was sent whole, or the link failed after a front of it.
+pub record IsOpenExchange (target : Target) (asked : Kind) (body : List ℕ) (at : Moment) (before after : Option (List Session)) (sent : Bool) : Type 0 where
+  pub session : Session
+  pub told : IfTold after (with_entry before session)
+  pub is : IsTalkOf target asked body at session
+  pub sends : SendsWhole target asked body session
+  pub failed : session.failed ≡ not sent
+  pub nothing : session.received ≡ []
+  pub not_ended : session.ended ≡ false
+
+-- A fault of the link is counted if the request was not sent, and nothing else is.
+abbrev pub CountsSendFault : Bool → ℕ → ℕ → Type 0
+CountsSendFault true before after = after ≡ before
+CountsSendFault false before after = Rose before after
 
 -- A fault of the link is counted where it is the answer, and nothing else is.
 pub record CountsLinkFault (result : Result (Result (List ℕ) ExchangeFault) OutOfMemory) (before after : ℕ) : Type 0 where

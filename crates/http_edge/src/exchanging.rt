@@ -3,8 +3,10 @@ ghost use Rattle.sb_outside.specs.Outside.{Rose, IfTold, with_entry};
 ghost use Rattle.sb_outside.specs.Sessions.{with_sent, with_failure};
 ghost use Rattle.sb_model.specs.declared.time.Moment.{Moment};
 ghost use Rattle.sb_outside.specs.declared.links.Session.{Session};
+ghost use Rattle.sb_outside.specs.declared.links.Kind.{Kind};
+ghost use Rattle.http_edge.specs.declared.messages.Target.{Target};
 ghost use Rattle.http_edge.specs.Responses.{line};
-ghost use Rattle.http_edge.specs.Exchanges.{CountsLinkFault, path_of, query_of, request_head, IsTarget, HoldsSession, HoldsPart, IsConversation, IsPartOfConversation};
+ghost use Rattle.http_edge.specs.Exchanges.{CountsLinkFault, CountsSendFault, path_of, query_of, request_head, IsTarget, HoldsSession, HoldsPart, IsConversation, IsPartOfConversation, IsOpenExchange};
 ghost use Rattle.http_edge.specs.SessionBytes.{Turns, Receives, ReadsWhile, IsOpenHead, IsResponsePartsOf, IsDigestCompared, IsReceived, IsPartReceived, SendsFront};
 
 use crate::heads::{PIECE, buffer_of};
@@ -142,8 +144,10 @@ fn receive_rest<L: Link>(
     }
 }
 
-/// Receives a whole response.
-fn receive_response<L: Link>(
+/// Receives a whole response over a link whose last session sent its request (RFC 9112), whose body has a length or is
+/// chunked, and has at most 201,326,592 bytes. It reads no further than to what decides the answer: past that come at most
+/// the other bytes of one read, which are 65,535 at most. The session stays open.
+pub fn receive_response<L: Link>(
     alloc: Global,
     link: &mut L,
     need_digest: bool,
@@ -228,29 +232,148 @@ fn request_head(
     Ok(page)
 }
 
-/// Holds a session, and leaves it open.
-fn converse<L: Link>(
+/// Begins a session and sends a request in it, and says whether it was sent whole. The session stays open, also if memory
+/// is refused.
+fn open<L: Link>(
     alloc: Global,
     link: &mut L,
     at: Moment,
     target: &Target,
     kind: Kind,
     body: &[u8],
-    need_digest: bool,
-) -> Result<Received, OutOfMemory>
-    ensures answer { IfOk result (λ answer. IsConversation target.now kind body.now at need_digest (L.log link.old) (L.log link.new) answer) }
-    ensures refused { OnErr result (IsPartOfConversation target.now kind body.now at need_digest (L.log link.old) (L.log link.new)) }
-    ensures counted { CountsLinkFault result (L.faults link.old) (L.faults link.new) }
+) -> Result<bool, OutOfMemory>
+    ensures opened { IfOk result (λ sent. IsOpenExchange target.now kind body.now at (L.log link.old) (L.log link.new) sent) }
+    ensures refused { OnErr result ((need : Bool) → IsPartOfConversation target.now kind body.now at need (L.log link.old) (L.log link.new)) }
+    ensures faults { IfOk result (λ sent. CountsSendFault sent (L.faults link.old) (L.faults link.new)) }
+    ensures unmoved { OnErr result (L.faults link.new ≡ L.faults link.old) }
+    ensures counted { L.faults link.old ≤ L.faults link.new }
 {
     match link.begin(at, kind) {
         Ok(()) => {}
-        Err(Failed) => return Ok(Err(ExchangeFault::Link)),
+        Err(Failed) => return Ok(false),
     }
     let head = request_head(alloc, target, kind, body)?;
     match send_request(link, head.as_slice(), body) {
-        Ok(()) => receive_response(alloc, link, need_digest),
-        Err(Failed) => Ok(Err(ExchangeFault::Link)),
+        Ok(()) => Ok(true),
+        Err(Failed) => Ok(false),
     }
+}
+
+/// Receives the response of a session whose request was sent whole. The others have none.
+fn receive_if<L: Link>(
+    alloc: Global,
+    link: &mut L,
+    sent: bool,
+    need_digest: bool,
+) -> Result<Received, OutOfMemory>
+    ensures answer { (target : Target) (kind : Kind) (body : List ℕ) (at : Moment) (start : Option (List Session))
+        → IsOpenExchange target kind body at start (L.log link.old) sent
+        → IfOk result (λ answer. IsConversation target kind body at need_digest start (L.log link.new) answer) }
+    ensures refused { (target : Target) (kind : Kind) (body : List ℕ) (at : Moment) (start : Option (List Session))
+        → IsOpenExchange target kind body at start (L.log link.old) sent
+        → OnErr result (IsPartOfConversation target kind body at need_digest start (L.log link.new)) }
+    ensures failed { (start : ℕ) → CountsSendFault sent start (L.faults link.old)
+        → IfOk result (λ answer. IsErrOf answer ExchangeFault.Link → Rose start (L.faults link.new)) }
+    ensures kept { (start : ℕ) → CountsSendFault sent start (L.faults link.old)
+        → IfOk result (λ answer. answer ≢ Err ExchangeFault.Link → L.faults link.new ≡ start) }
+    ensures unmoved { (start : ℕ) → CountsSendFault sent start (L.faults link.old)
+        → OnErr result (L.faults link.new ≡ start) }
+    ensures counted { L.faults link.old ≤ L.faults link.new }
+{
+    if !sent {
+        return Ok(Err(ExchangeFault::Link));
+    }
+    receive_response(alloc, link, need_digest)
+}
+
+/// Begins a session and sends a request in it, and says whether it was sent whole. Nothing is received, and the session
+/// stays open: `end_exchange` ends it. The session is begun at `at`, which is the clock's last answer. If memory is refused,
+/// it is closed, at the clock's next answer. Neither the host nor the key may have a CR or an LF.
+pub fn begin_exchange<L: Link, C: Clock>(
+    alloc: Global,
+    link: &mut L,
+    clock: &mut C,
+    at: Moment,
+    target: &Target,
+    kind: Kind,
+    body: &[u8],
+) -> Result<bool, OutOfMemory>
+    requires clock { C.last clock.old ≡ at.0 }
+    requires target { IsTarget target.now }
+
+    // One session more is open, and its request was sent whole or it failed.
+    ensures opened { IfOk result (λ sent. IsOpenExchange target.now kind body.now at (L.log link.old) (L.log link.new) sent) }
+
+    // The clock was not read.
+    ensures unread { OnOk result ((C.answers clock.new ≡ C.answers clock.old) × (C.last clock.new ≡ C.last clock.old)) }
+
+    // If memory is refused, the session was closed at the clock's next answer.
+    ensures refused { OnErr result ((ended : Moment)
+        × ((need : Bool) → HoldsPart target.now kind body.now at need ended (L.log link.old) (L.log link.new))
+        × IfTold (C.answers clock.new) (with_entry (C.answers clock.old) ended)
+        × (at.0 ≤ ended.0) × (C.last clock.new ≡ ended.0)) }
+
+    // The clock is bidden to wait for nothing.
+    ensures no_wait { C.waits clock.new ≡ C.waits clock.old }
+
+    // A fault is counted, and nothing else is.
+    ensures faults { IfOk result (λ sent. CountsSendFault sent (L.faults link.old) (L.faults link.new)) }
+    ensures unmoved { OnErr result (L.faults link.new ≡ L.faults link.old) }
+    ensures counted { L.faults link.old ≤ L.faults link.new }
+{
+    match open(alloc, link, at, target, kind, body) {
+        Ok(sent) => Ok(sent),
+        Err(OutOfMemory) => {
+            let ended = clock.now();
+            link.close(ended);
+            Err(OutOfMemory)
+        }
+    }
+}
+
+/// Receives the response of a session that `begin_exchange` left open (RFC 9112), whose body has a length or is chunked,
+/// and has at most 201,326,592 bytes. `sent` is what `begin_exchange` said. The session is closed at the clock's next
+/// answer, in every case. It is read no further than to what decides the answer, as `exchange` says.
+pub fn end_exchange<L: Link, C: Clock>(
+    alloc: Global,
+    link: &mut L,
+    clock: &mut C,
+    sent: bool,
+    need_digest: bool,
+) -> Result<Exchanged, OutOfMemory>
+    // If the last session is one that was left open, it was held to its end, and this is its outcome. Nothing was read in it
+    // past what decides that.
+    ensures session { (target : Target) (kind : Kind) (body : List ℕ) (at : Moment) (start : Option (List Session))
+        → IsOpenExchange target kind body at start (L.log link.old) sent
+        → IfOk result (λ e. HoldsSession target kind body at need_digest e.ended start (L.log link.new) e.answer) }
+    ensures refused { OnErr result ((ended : Moment)
+        × ((target : Target) (kind : Kind) (body : List ℕ) (at : Moment) (start : Option (List Session))
+        → IsOpenExchange target kind body at start (L.log link.old) sent
+        → HoldsPart target kind body at need_digest ended start (L.log link.new))
+        × IfTold (C.answers clock.new) (with_entry (C.answers clock.old) ended)
+        × (C.last clock.old ≤ ended.0) × (C.last clock.new ≡ ended.0)) }
+
+    // The session was closed at the clock's next answer.
+    ensures ended { IfOk result (λ e. IfTold (C.answers clock.new) (with_entry (C.answers clock.old) e.ended)) }
+    ensures rises { IfOk result (λ e. (C.last clock.old ≤ e.ended.0) × (C.last clock.new ≡ e.ended.0)) }
+
+    // The clock is bidden to wait for nothing.
+    ensures no_wait { C.waits clock.new ≡ C.waits clock.old }
+
+    // Over both parts, from a count at the start, a fault is counted, and nothing else is.
+    ensures failed { (start : ℕ) → CountsSendFault sent start (L.faults link.old)
+        → IfOk result (λ e. IsErrOf e.answer ExchangeFault.Link → Rose start (L.faults link.new)) }
+    ensures kept { (start : ℕ) → CountsSendFault sent start (L.faults link.old)
+        → IfOk result (λ e. e.answer ≢ Err ExchangeFault.Link → L.faults link.new ≡ start) }
+    ensures unmoved { (start : ℕ) → CountsSendFault sent start (L.faults link.old)
+        → OnErr result (L.faults link.new ≡ start) }
+    ensures counted { L.faults link.old ≤ L.faults link.new }
+{
+    let received = receive_if(alloc, link, sent, need_digest);
+    let ended = clock.now();
+    link.close(ended);
+    let answer = received?;
+    Ok(Exchanged { ended, answer })
 }
 
 /// Sends a request in a session of its own and receives the response (RFC 9112), whose body has a length or is
@@ -291,9 +414,6 @@ pub fn exchange<L: Link, C: Clock>(
     ensures unmoved { OnErr result (L.faults link.new ≡ L.faults link.old) }
     ensures counted { L.faults link.old ≤ L.faults link.new }
 {
-    let received = converse(alloc, link, at, target, kind, body, need_digest);
-    let ended = clock.now();
-    link.close(ended);
-    let answer = received?;
-    Ok(Exchanged { ended, answer })
+    let sent = begin_exchange(alloc, link, clock, at, target, kind, body)?;
+    end_exchange(alloc, link, clock, sent, need_digest)
 }

@@ -3,7 +3,7 @@
 #![tactic(auto)]
 
 pub use deciding::RequestWatch;
-pub use exchanging::{Exchanged, exchange};
+pub use exchanging::{Exchanged, begin_exchange, end_exchange, exchange, receive_response};
 pub use faults::{ExchangeFault, RequestFault, ResponseFault};
 pub use fields::{BodyLength, Framing};
 pub use laws::{one_body, passes};
