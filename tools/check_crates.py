@@ -2,10 +2,11 @@
 """Holds the crates to the rules that keep the gate short, as far as a script can.
 
 It fails where a test stands outside the two crates of tests, where there is another crate of tests, where a main has too many
-lines, where the spelling of a message is no `unfoldable` definition, and where a function takes more parameters than it may and is
-not among those of tools/wide_functions.txt. It fails where a crate cites a lemma of another crate of the repository, and where a
-name of a definition stands in more than one file of specs/ and is not among those of tools/names_twice.txt. Both lists only shrink:
-it fails too where one of them has what need not stand there.
+lines, and where the spelling of a message is no `unfoldable` definition. It fails if a function takes more parameters than it may,
+a contract has more lines, or a definition takes more parameters, and is not among those of tools/wide_functions.txt,
+tools/long_contracts.txt or tools/wide_definitions.txt; it prints the ten greatest of each. It fails where a crate cites a lemma of
+another crate of the repository, and where a name of a definition stands in more than one file of specs/ and is not among those of
+tools/names_twice.txt. The lists only shrink: it fails too where one of them has what need not stand there.
 
     check_crates.py
 """
@@ -17,10 +18,14 @@ import sys
 REPOSITORY = os.path.dirname(os.path.dirname(os.path.abspath(__file__)))
 CRATES = os.path.join(REPOSITORY, "crates")
 WIDE = os.path.join(REPOSITORY, "tools", "wide_functions.txt")
+LONG = os.path.join(REPOSITORY, "tools", "long_contracts.txt")
+DEFINED_WIDE = os.path.join(REPOSITORY, "tools", "wide_definitions.txt")
 TWICE = os.path.join(REPOSITORY, "tools", "names_twice.txt")
 OF_TESTS = ("low_tests", "call_tests")
 MOST_LINES = 130
 MOST_PARAMETERS = 8
+MOST_CONTRACT_LINES = 30
+MOST_DEFINED = 9
 
 # A crate, and the crates below it whose lemmas it cites still. `prefix_set` is frozen: what `list_versions` needs of the order of
 # sets and of their places becomes laws there when that crate is opened next.
@@ -118,13 +123,54 @@ def parameters(text, start):
     return count - is_empty
 
 
+def contract_lines(text, start):
+    """How many lines the contract of a function has, but for comments: from the first clause to the body, or to the end of what a
+    trait asks."""
+    depth = 1
+    while depth and start < len(text):
+        depth += (text[start] in "([{") - (text[start] in ")]}")
+        start += 1
+    count = 0
+    for line in map(str.strip, text[start:].split("\n")):
+        is_clause = re.match(r"(requires|ensures)\b", line)
+        if line == "{" or not (count or is_clause) and line.endswith(("{", ";")):
+            break
+        count += bool((count or is_clause) and line and not line.startswith("//"))
+        if count and line.endswith("};"):
+            break
+    return count
+
+
 def functions(text):
-    """The functions of a text that have a name, each with how many parameters it takes."""
+    """The functions of a text that have a name, each with how many parameters it takes and how many lines its contract has."""
     for found in re.finditer(r"\bfn (\w+)\s*(?:<[^({;]*>)?\s*\(", text):
-        yield found[1], parameters(text, found.end())
+        yield found[1], parameters(text, found.end()), contract_lines(text, found.end())
 
 
-def faults_of(name, wide, seen):
+def definitions(text):
+    """The definitions of a text, each with how many parameters it takes."""
+    for found in re.finditer(r"(?m)^pub record ([^\s:({]+)((?: \([^()]*(?:\([^()]*(?:\([^()]*\)[^()]*)*\)[^()]*)*\))*) : ", text):
+        yield found[1], sum(len(names.split()) for names in re.findall(r"\(([^():]+) : ", found[2]))
+    for found in re.finditer(r"(?m)^(?:abbrev|unfoldable) pub ([^\s:({]+) :", text):
+        equation = re.search(rf"(?m)^{re.escape(found[1])}((?: [^\n=]*)?) =", text)
+        if equation:
+            yield found[1], len(re.sub(r"\([^)]*\)", "x", equation[1]).split())
+
+
+def greatest(counted):
+    return ", ".join(f"{name} {count}" for name, count in sorted(counted.items(), key=lambda one: (-one[1], one[0]))[:10])
+
+
+def faults_above(counted, most, known, file, what):
+    """What is above a bound and not listed, and what is listed and not above it."""
+    above = {name for name, count in counted.items() if count > most}
+    for name in sorted(above - known):
+        yield f"{name} {what} ({counted[name]}, of at most {most})"
+    for name in sorted(known - above):
+        yield f"{file} has {name}, which is within its bound"
+
+
+def faults_of(name, wide, seen, counted):
     if name.endswith("_tests") and name not in OF_TESTS:
         yield f"{name} is a further crate of tests: rows are data, and what is left goes to {' or '.join(OF_TESTS)}"
     for spelling in open_spellings(name):
@@ -135,7 +181,10 @@ def faults_of(name, wide, seen):
         lines = text.count("\n")
         if path.endswith("/src/main.rt") and lines > MOST_LINES:
             yield f"{path} has {lines} lines, of at most {MOST_LINES}"
-        for function, count in functions(text):
+        for function, count, length in functions(text):
+            known = f"{name}::{function}"
+            counted["functions"][known] = max(count, counted["functions"].get(known, 0))
+            counted["contracts"][known] = max(length, counted["contracts"].get(known, 0))
             if count > MOST_PARAMETERS:
                 seen.add(f"{name}::{function}")
                 if f"{name}::{function}" not in wide:
@@ -144,13 +193,24 @@ def faults_of(name, wide, seen):
 
 def main():
     wide, seen, crates = set(lines_of(WIDE)), set(), names()
-    faults = [fault for name in crates for fault in faults_of(name, wide, seen)]
+    counted = {"functions": {}, "contracts": {}, "definitions": {}}
+    faults = [fault for name in crates for fault in faults_of(name, wide, seen, counted)]
+    for name in crates:
+        for _, text in texts(name, ("specs",)):
+            for definition, count in definitions(text):
+                known = f"{name}::{definition}"
+                counted["definitions"][known] = max(count, counted["definitions"].get(known, 0))
+    faults += faults_above(counted["contracts"], MOST_CONTRACT_LINES, set(lines_of(LONG)), "tools/long_contracts.txt", "has a longer contract")
+    faults += faults_above(counted["definitions"], MOST_DEFINED, set(lines_of(DEFINED_WIDE)), "tools/wide_definitions.txt", "takes more parameters")
     faults += [f"tools/wide_functions.txt has {it}, which takes no more than it may" for it in sorted(wide - seen)]
     twice = names_twice(crates)
     faults += [*faults_of_lemmas(crates), *faults_of_names(twice, set(lines_of(TWICE)))]
     for fault in faults:
         print(f"crates: {fault}")
     print(f"crates: {len(seen)} functions take more than {MOST_PARAMETERS} parameters, and {len(twice)} names are defined twice, as listed")
+    print(f"crates: most parameters of functions: {greatest(counted['functions'])}")
+    print(f"crates: longest contracts: {greatest(counted['contracts'])}")
+    print(f"crates: most parameters of definitions: {greatest(counted['definitions'])}")
     return 1 if faults else 0
 
 

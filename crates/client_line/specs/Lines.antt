@@ -25,6 +25,14 @@ pub record KeepsLink (before after : LineView) : Type 0 where
   pub faults : after.faults ≡ before.faults
   pub same : after.objects ≡ before.objects
 
+-- The clock and the dice are as they were, and the objects are the same.
+pub record KeepsClock (before after : LineView) : Type 0 where
+  pub answers : after.told.answers ≡ before.told.answers
+  pub waits : after.told.waits ≡ before.told.waits
+  pub words : after.told.words ≡ before.told.words
+  pub last : after.last ≡ before.last
+  pub same : after.objects ≡ before.objects
+
 -- The clock was read, and bidden to wait for nothing.
 pub record ReadsClock (reading : Moment) (before after : LineView) : Type 0 where
   pub read : IfTold after.told.answers (with_entry before.told.answers reading)

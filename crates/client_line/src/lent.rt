@@ -1,5 +1,5 @@
 use crate::Line;
-use http_edge::{Exchanged, Target, exchange};
+use http_edge::{Exchanged, Target, begin_exchange, end_exchange};
 use sb_model::{Moment, OutOfMemory};
 use sb_outside::{Clock, Dice, Kind, Link};
 use std::alloc::Global;
@@ -41,24 +41,27 @@ impl<'l, 'c, 'd, L: Link, C: Clock, D: Dice> Line for LentLine<'l, 'c, 'd, L, C,
         self.dice.word()
     }
 
-    fn exchange(
+    fn is_answered(&mut self) -> bool {
+        self.link.is_answered()
+    }
+
+    fn begin_exchange(
         &mut self,
         alloc: Global,
         at: Moment,
         target: &Target,
         kind: Kind,
         body: &[u8],
+    ) -> Result<bool, OutOfMemory> {
+        begin_exchange(alloc, self.link, self.clock, at, target, kind, body)
+    }
+
+    fn end_exchange(
+        &mut self,
+        alloc: Global,
+        sent: bool,
         need_digest: bool,
     ) -> Result<Exchanged, OutOfMemory> {
-        exchange(
-            alloc,
-            self.link,
-            self.clock,
-            at,
-            target,
-            kind,
-            body,
-            need_digest,
-        )
+        end_exchange(alloc, self.link, self.clock, sent, need_digest)
     }
 }

@@ -81,5 +81,5 @@ abbrev pub is_answered : Option SessionInMemory → Bool
 is_answered None = true
 is_answered (Some played) = played.asks == 0
 
-abbrev pub after_asking : SessionInMemory → SessionInMemory
-after_asking played = record played { asks = played.asks - 1 }
+abbrev pub after_ask : SessionInMemory → SessionInMemory
+after_ask played = record played { asks = played.asks - 1 }

@@ -1,7 +1,7 @@
 ghost use Rattle.std.specs.Prelude.{◌≡◌, ℕ, ◌+◌, ◌<◌, ◌≤◌, ◌==◌, ◌↔◌, if◌then◌else◌, min, List, [], length, take, drop, IfOk, IfSome, IsOk, OnOk, OnErr, IsTrue, true, false, Contains};
 ghost use Rattle.sb_outside.specs.Outside.{raised};
 ghost use Rattle.sb_outside.specs.Sessions.{begun_session, refused_session, with_sent, with_end, with_failure};
-ghost use Rattle.memory_objects.specs.Plays.{PlayInMemory, SessionInMemory, is_open, CanCall, CanSend, after_call, after_bytes, after_asking, closed_at};
+ghost use Rattle.memory_objects.specs.Plays.{PlayInMemory, SessionInMemory, is_open, CanCall, CanSend, after_call, after_bytes, after_ask, closed_at};
 
 use crate::memory_source::copy_front;
 use sb_model::{Bytes, Moment, OutOfMemory, Row};
@@ -182,7 +182,7 @@ impl PlayedSession {
     /// Says whether it is answered.
     pub(crate) fn is_answered(&mut self) -> bool
         ensures answered { result ≡ (self.old.asks == 0) }
-        ensures after { self.new ≡ after_asking self.old }
+        ensures after { self.new ≡ after_ask self.old }
     {
         if self.asks == 0 {
             return true;

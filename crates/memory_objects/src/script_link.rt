@@ -3,7 +3,7 @@ ghost use Rattle.std.specs.Option.{option_map};
 ghost use Rattle.sb_outside.specs.Outside.{Rose, IfTold, raised, with_entry};
 ghost use Rattle.sb_outside.specs.Sessions.{begun_session, refused_session, with_sent, with_received, with_end, with_failure, with_close, last_changed};
 ghost use Rattle.memory_objects.specs.Logs.{logged};
-ghost use Rattle.memory_objects.specs.Plays.{PlayInMemory, LinkInMemory, log_of, past_of, CanBegin, CanCall, CanSend, after_call, after_bytes, after_asking, is_answered, closed_at};
+ghost use Rattle.memory_objects.specs.Plays.{PlayInMemory, LinkInMemory, log_of, past_of, CanBegin, CanCall, CanSend, after_call, after_bytes, after_ask, is_answered, closed_at};
 
 use crate::Play;
 use crate::entries::Log;
@@ -205,7 +205,7 @@ impl Link for ScriptLink {
 
     fn is_answered(&mut self) -> bool
         ensures answered { result ≡ is_answered self.old.last }
-        ensures after { self.new ≡ record self.old { last = option_map after_asking self.old.last } }
+        ensures after { self.new ≡ record self.old { last = option_map after_ask self.old.last } }
 
         ensures faults { self.new.faults ≡ self.old.faults }
         ensures log { log_of self.new ≡ log_of self.old }

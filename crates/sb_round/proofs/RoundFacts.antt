@@ -1,7 +1,7 @@
 -- What the steps of a round come to together.
 use Rattle.std.proofs.Common.{◌≡◌, ℕ, List, [], ◌∷◌, ◌++◌, Bool, Option, Some, None, refl, sym, ap, ◌∙◌, subst, append_assoc}
 use Rattle.std.proofs.lemmas.List.{append-nil}
-use Rattle.std.specs.Prelude.{Result, Ok, Err, IfOk}
+use Rattle.std.specs.Prelude.{Result, Ok, Err, IfOk, OnErr}
 use Rattle.sb_model.specs.declared.time.Moment.{Moment}
 use Rattle.sb_model.specs.declared.memory.OutOfMemory.{OutOfMemory}
 use Rattle.sb_outside.specs.Outside.{IfTold, with_entry}
@@ -14,13 +14,14 @@ use Rattle.update_messages.specs.declared.response.FetchResponse.{FetchResponse}
 use Rattle.wait_rules.specs.declared.waits.WaitState.{WaitState}
 use Rattle.client_line.specs.Lines.{LineView, ReadsClock, Draws}
 use Rattle.timed_sessions.specs.Told.{Outside, Grows, with_more}
-use Rattle.timed_sessions.specs.Timed.{TimedSession, HoldsTimed, HoldsTimedPart, IsTold, moments_after, waits_from, trace_of}
+use Rattle.timed_sessions.specs.declared.timing.Opening.{Opening}
+use Rattle.timed_sessions.specs.Timed.{TimedSession, IsTimedOpening, HoldsTimed, HoldsTimedPart, IsTold, moments_after, waits_from, trace_of}
 use Rattle.timed_sessions.specs.Waiting.{HasSettled, words_of}
 use Rattle.timed_sessions.specs.declared.timing.Talk.{Talk}
 use Rattle.sb_round.specs.declared.rounds.RoundEnd.{RoundEnd}
 use Rattle.sb_round.specs.declared.rounds.RoundFault.{RoundFault}
 use Rattle.sb_round.specs.declared.rounds.Taken.{Taken}
-use Rattle.sb_round.specs.Round.{body_asked, named_results, HoldsRoundSession, MakesRound}
+use Rattle.sb_round.specs.Round.{body_asked, named_results, IsAnswerOf, IsOpenRound, HoldsRoundSession, MakesRound}
 use Rattle.sb_round.specs.Taking.{HasTalked, HasAsked, HasTaken}
 use Rattle.sb_round.specs.declared.asking.Asked.{Asked}
 
@@ -100,16 +101,45 @@ held_part waits read target body before between after first holds = record {
   told = grows waits holds.session before between after (subst (λ moment. ReadsClock moment before between) (sym holds.reading) first) holds.told;
 }
 
-pub talked_if : (waits : WaitState) (read : Moment) (target : Target) (body : List ℕ) (need : Bool) (before between : LineView) (after : Outside) (result : Result Talk OutOfMemory)
-    → ReadsClock read before between → IfOk result (λ talk. HoldsTimed waits read target Update body need between.told after talk)
-    → IfOk result (λ talk. HasTalked waits target body need before.told after talk)
-talked_if waits read target body need before between after (Ok talk) first holds = talked waits read target body need before between after talk first holds
-talked_if waits read target body need before between after (Err refused) first holds = tt
+-- a session that is opens after the clock was read
+pub open_if : (waits : WaitState) (read : Moment) (target : Target) (body : List ℕ) (before between after : LineView) (result : Result Opening OutOfMemory)
+    → ReadsClock read before between → IfOk result (λ opening. IsTimedOpening waits read target Update body between.told after.told opening)
+    → IfOk result (λ opening. after.last ≡ opening.begun.0) → IfOk result (λ opening. IsOpenRound waits target body before after opening)
+open_if waits read target body before between after (Ok opening) first opened last = record { read = read; between = between; reads = first; opened = opened; last = last }
+open_if waits read target body before between after (Err refused) first opened last = tt
+
+-- its outcome was heard, and read
+pub heard : (waits : WaitState) (target : Target) (body : List ℕ) (need : Bool) (start before : LineView) (after : Outside) (opening : Opening) (talk : Talk) (answer : Result FetchResponse RoundFault)
+    → IsOpenRound waits target body start before opening
+    → ((read : Moment) (between : Outside) → IsTimedOpening waits read target Update body between before.told opening → HoldsTimed waits read target Update body need between after talk)
+    → IsAnswerOf talk.answer answer → HasAsked waits target body need start.told after (record { begun = talk.begun; closed = talk.closed; answer = answer })
+heard waits target body need start before after opening talk answer opens holds answers = record {
+  outcome = talk.answer;
+  talked = talked waits opens.read target body need start opens.between after talk opens.reads (holds opens.read opens.between.told opens.opened);
+  answers = answers;
+}
 
 -- a session that was held to its end, of which no more is said
 pub held_whole : (waits : WaitState) (target : Target) (body : List ℕ) (need : Bool) (before after : Outside) (talk : Talk)
     → HasTalked waits target body need before after talk → HoldsRoundSession waits target body before after
 held_whole waits target body need before after talk talked = record { session = talked.session; is = talked.is; told = talked.told }
+
+-- it was broken off
+pub heard_part : (waits : WaitState) (target : Target) (body : List ℕ) (start before : LineView) (after : Outside) (opening : Opening)
+    → IsOpenRound waits target body start before opening
+    → ((read : Moment) (between : Outside) → IsTimedOpening waits read target Update body between before.told opening → HoldsTimedPart waits read target Update body between after)
+    → HoldsRoundSession waits target body start.told after
+heard_part waits target body start before after opening opens holds =
+    held_part waits opens.read target body start opens.between after opens.reads (holds opens.read opens.between.told opens.opened)
+
+-- it was held to its end, and then memory was refused
+pub heard_whole : (waits : WaitState) (target : Target) (body : List ℕ) (need : Bool) (start before : LineView) (after : Outside) (opening : Opening) (talk : Talk)
+    → IsOpenRound waits target body start before opening
+    → ((read : Moment) (between : Outside) → IsTimedOpening waits read target Update body between before.told opening → HoldsTimed waits read target Update body need between after talk)
+    → HoldsRoundSession waits target body start.told after
+heard_whole waits target body need start before after opening talk opens holds =
+    held_whole waits target body need start.told after talk
+    (talked waits opens.read target body need start opens.between after talk opens.reads (holds opens.read opens.between.told opens.opened))
 
 -- ---- rounds
 
@@ -159,3 +189,17 @@ pub made_if : (lists lists' : List Held) (waits waits' : WaitState) (options : F
 made_if lists lists' waits waits' options target need before between after asked (Ok end) has taken =
     made lists lists' waits waits' options target need before between after asked end has taken
 made_if lists lists' waits waits' options target need before between after asked (Err refused) has taken = tt
+
+-- what is known wherever a call answers is known after an `Err`
+pub err_says : {A E : Type 0} (result : Result A E) (Known : Type 0) → Known → OnErr result Known
+err_says (Ok value) Known known = tt
+err_says (Err fault) Known known = known
+
+-- a round whose session was held, and whose answer could not be taken
+pub asked_part : (waits : WaitState) (target : Target) (body : List ℕ) (need : Bool) (before : Outside) (between after : LineView) (asked : Asked) (result : Result RoundEnd OutOfMemory)
+    → HasAsked waits target body need before between.told asked → OnErr result (after ≡ between)
+    → OnErr result (HoldsRoundSession waits target body before after.told)
+asked_part waits target body need before between after asked (Ok end) has same = tt
+asked_part waits target body need before between after asked (Err refused) has same =
+    subst (λ (last : LineView). HoldsRoundSession waits target body before last.told) (sym same)
+    (held_whole waits target body need before between.told (record { begun = asked.begun; closed = asked.closed; answer = has.outcome }) has.talked)

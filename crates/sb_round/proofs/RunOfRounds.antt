@@ -9,7 +9,7 @@ use Rattle.update_client.specs.Held.{Held}
 use Rattle.update_client.specs.Step.{after_updates}
 use Rattle.update_client.specs.declared.options.FetchOptions.{FetchOptions}
 use Rattle.wait_rules.specs.declared.waits.WaitState.{WaitState}
-use Rattle.timed_sessions.specs.Told.{Outside, Trace, Grows, no_trace, then_trace}
+use Rattle.timed_sessions.specs.Told.{Trace, Grows, no_trace, then_trace}
 use Rattle.timed_sessions.specs.Law.{BeginsTrace, GoesOnWithTrace}
 use Rattle.sb_round.specs.Run.{lists_after}
 use Rattle.sb_round.specs.Round.{Round, IsRound, lists_after_round, trace_of_round, waits_after_round}

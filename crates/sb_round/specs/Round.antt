@@ -1,7 +1,7 @@
 -- A round of updates: a client asks in one session for updates of all its lists, and takes the answer.
-use Rattle.std.specs.Prelude.{◌≡◌, ℕ, ◌≤◌, ◌⊎◌, if◌then◌else◌, Bool, List, [], ◌∷◌, ◌++◌, Option, Some, None, Result, Ok, Err, IsSome, MatchBool}
-use Rattle.std.specs.Option.{option_map}
+use Rattle.std.specs.Prelude.{◌≡◌, ℕ, ◌⊎◌, Bool, List, [], ◌∷◌, Option, Some, None, Result, Ok, Err}
 use Rattle.sb_model.specs.declared.time.Duration.{Duration}
+use Rattle.sb_model.specs.declared.time.Moment.{Moment}
 use Rattle.sb_outside.specs.declared.links.Kind.TheVariants.{Update}
 use Rattle.sb_json.specs.Values.{value_of}
 use Rattle.update_messages.specs.Messages.{UpdatedList}
@@ -18,7 +18,9 @@ use Rattle.http_edge.specs.declared.faults.ExchangeFault.{ExchangeFault}
 use Rattle.http_edge.specs.declared.messages.Target.{Target}
 use Rattle.wait_rules.specs.declared.waits.WaitState.{WaitState}
 use Rattle.timed_sessions.specs.Told.{Outside, Trace, Grows}
-use Rattle.timed_sessions.specs.Timed.{TimedSession, IsTimedSession, IsHeld, trace_of}
+use Rattle.client_line.specs.Lines.{LineView, ReadsClock}
+use Rattle.timed_sessions.specs.Timed.{TimedSession, IsTimedSession, IsTimedOpening, IsHeld, trace_of}
+use Rattle.timed_sessions.specs.declared.timing.Opening.{Opening}
 use Rattle.timed_sessions.specs.Waiting.{ClosedSession, IsDrawnFor, words_of, waits_after}
 use Rattle.sb_round.specs.declared.rounds.RoundEnd.{RoundEnd}
 use Rattle.sb_round.specs.declared.rounds.RoundFault.{RoundFault}
@@ -101,6 +103,15 @@ pub record MakesRound (lists : List Held) (waits : WaitState) (options : FetchOp
   pub waits_after : new_waits ≡ waits_after_round waits round
   pub begun : end.begun ≡ round.session.begun
   pub taken : end.taken ≡ taken_from lists round.answer
+
+-- The session of a round is open: after the clock was read, it begins when it may, it asks for this body, and nothing was received in
+-- it yet.
+pub record IsOpenRound (waits : WaitState) (target : Target) (body : List ℕ) (before after : LineView) (opening : Opening) : Type 0 where
+  pub read : Moment
+  pub between : LineView
+  pub reads : ReadsClock read before between
+  pub opened : IsTimedOpening waits read target Update body between.told after.told opening
+  pub last : after.last ≡ opening.begun.0
 
 -- A session for this body was held and closed, if it was not held to its end.
 pub record HoldsRoundSession (waits : WaitState) (target : Target) (body : List ℕ) (before after : Outside) : Type 0 where

@@ -1,5 +1,5 @@
 -- A run of rounds, from any lists and any state of waiting.
-use Rattle.std.specs.Prelude.{◌≡◌, ℕ, ◌≤◌, Bool, List, [], ◌∷◌, ◌++◌, map, fold}
+use Rattle.std.specs.Prelude.{◌≡◌, Bool, List, [], ◌∷◌, ◌++◌, map, fold}
 use Rattle.sb_outside.specs.declared.links.Session.{Session}
 use Rattle.http_edge.specs.declared.messages.Target.{Target}
 use Rattle.update_client.specs.Held.{Held}

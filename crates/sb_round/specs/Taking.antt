@@ -1,5 +1,5 @@
 -- What is known of a round on the way through it.
-use Rattle.std.specs.Prelude.{◌≡◌, ℕ, ◌⊎◌, Bool, List, [], Result}
+use Rattle.std.specs.Prelude.{◌≡◌, ℕ, Bool, List, [], Result}
 use Rattle.sb_outside.specs.declared.links.Kind.TheVariants.{Update}
 use Rattle.update_client.specs.Held.{Held}
 use Rattle.update_client.specs.Step.{after_updates}
@@ -11,7 +11,7 @@ use Rattle.timed_sessions.specs.Told.{Outside, Grows}
 use Rattle.timed_sessions.specs.Timed.{TimedSession, IsTimedSession, IsHeld, trace_of}
 use Rattle.timed_sessions.specs.Waiting.{HasSettled}
 use Rattle.timed_sessions.specs.declared.timing.Talk.{Talk}
-use Rattle.sb_round.specs.Round.{HoldsRoundSession, IsAnswerOf, bids_of, updates_of, taken_from}
+use Rattle.sb_round.specs.Round.{IsAnswerOf, bids_of, updates_of, taken_from}
 use Rattle.sb_round.specs.declared.rounds.RoundEnd.{RoundEnd}
 use Rattle.sb_round.specs.declared.asking.Asked.{Asked}
 
@@ -29,10 +29,6 @@ pub record HasAsked (waits : WaitState) (target : Target) (body : List ℕ) (nee
   pub outcome : Result (List ℕ) ExchangeFault
   pub talked : HasTalked waits target body need before after (record { begun = asked.begun; closed = asked.closed; answer = outcome })
   pub answers : IsAnswerOf outcome asked.answer
-
--- Memory was wanting before the clock was read, or after a session for this body was closed.
-abbrev pub StopsAsking : WaitState → Target → List ℕ → Outside → Outside → Type 0
-StopsAsking waits target body before after = (after ≡ before) ⊎ HoldsRoundSession waits target body before after
 
 -- The answer of a round was taken, and its session settled.
 pub record HasTaken (lists new_lists : List Held) (waits new_waits : WaitState) (before after : LineView) (asked : Asked) (end : RoundEnd) : Type 0 where

@@ -1,8 +1,11 @@
-ghost use Rattle.std.specs.Prelude.{◌≡◌, ◌≢◌, ◌≤◌, ◌↔◌, Ok, Err, IfOk, OnErr, IsErrOf};
+ghost use Rattle.std.specs.Prelude.{◌≡◌, ◌≢◌, ℕ, ◌≤◌, ◌↔◌, List, Ok, Err, IfOk, OnErr};
 ghost use Rattle.sb_outside.specs.Outside.{Rose};
-ghost use Rattle.http_edge.specs.Exchanges.{IsTarget};
-ghost use Rattle.sb_round.specs.Round.{IsAnswerOf, HoldsRoundSession, body_asked};
-ghost use Rattle.sb_round.specs.Taking.{HasAsked, HasTalked, StopsAsking};
+ghost use Rattle.http_edge.specs.Exchanges.{CountsSendFault, IsTarget};
+ghost use Rattle.http_edge.specs.declared.messages.Target.{Target};
+ghost use Rattle.wait_rules.specs.declared.waits.WaitState.{WaitState};
+ghost use Rattle.client_line.specs.Lines.{LineView};
+ghost use Rattle.sb_round.specs.Round.{IsAnswerOf, IsOpenRound, HoldsRoundSession, BreaksOff, body_asked};
+ghost use Rattle.sb_round.specs.Taking.{HasAsked};
 
 use crate::rounds::RoundFault;
 use client_line::Line;
@@ -11,7 +14,7 @@ use sb_json::MessageFault;
 use sb_model::{Bytes, Moment, OutOfMemory};
 use sb_outside::Kind;
 use std::alloc::Global;
-use timed_sessions::{Talk, hold_session};
+use timed_sessions::{Opening, Talk, begin_session, end_session};
 use update_client::{ClientLists, FetchOptions};
 use update_messages::{FetchResponse, read_response, write_request};
 use wait_rules::WaitState;
@@ -24,39 +27,27 @@ pub(crate) struct Asked {
     pub(crate) answer: Result<FetchResponse, RoundFault>,
 }
 
-// Reads the clock, and holds a session for this body at the first moment that is allowed.
-fn hold_now<N: Line>(
+// Reads the clock, and begins a session for this body at the first moment that is allowed.
+fn begin_now<N: Line>(
     alloc: Global,
     waits: WaitState,
     target: &Target,
     body: &[u8],
-    need_digest: bool,
     line: &mut N,
-) -> Result<Talk, OutOfMemory>
+) -> Result<Opening, OutOfMemory>
     requires target { IsTarget target.now }
-    ensures talked { IfOk result (λ talk. HasTalked waits target.now body.now need_digest
-        (N.view line.old).told (N.view line.new).told talk) }
+    ensures opened { IfOk result (λ opening. IsOpenRound waits target.now body.now
+        (N.view line.old) (N.view line.new) opening) }
     ensures refused { OnErr result (HoldsRoundSession waits target.now body.now
         (N.view line.old).told (N.view line.new).told) }
-    ensures failed { IfOk result (λ talk. IsErrOf talk.answer ExchangeFault.Link
-        → Rose (N.view line.old).faults (N.view line.new).faults) }
-    ensures kept { IfOk result (λ talk. talk.answer ≢ Err ExchangeFault.Link
-        → (N.view line.new).faults ≡ (N.view line.old).faults) }
+    ensures faults { IfOk result (λ opening.
+        CountsSendFault opening.sent (N.view line.old).faults (N.view line.new).faults) }
     ensures unmoved { OnErr result ((N.view line.new).faults ≡ (N.view line.old).faults) }
     ensures counted { (N.view line.old).faults ≤ (N.view line.new).faults }
     ensures same { (N.view line.new).objects ≡ (N.view line.old).objects }
 {
     let read = line.now();
-    hold_session(
-        alloc,
-        waits,
-        read,
-        target,
-        Kind::Update,
-        body,
-        need_digest,
-        line,
-    )
+    begin_session(alloc, waits, read, target, Kind::Update, body, line)
 }
 
 // Reads a body that passed.
@@ -92,43 +83,6 @@ fn answer_of(
     }
 }
 
-// Holds a session for this body, and reads what comes.
-fn ask_for<N: Line>(
-    alloc: Global,
-    waits: WaitState,
-    target: &Target,
-    body: &[u8],
-    need_digest: bool,
-    line: &mut N,
-) -> Result<Asked, OutOfMemory>
-    requires target { IsTarget target.now }
-    ensures asked { IfOk result (λ asked. HasAsked waits target.now body.now need_digest
-        (N.view line.old).told (N.view line.new).told asked) }
-    ensures refused { OnErr result (HoldsRoundSession waits target.now body.now
-        (N.view line.old).told (N.view line.new).told) }
-    ensures no_memory { IfOk result (λ asked.
-        asked.answer ≢ Err (RoundFault.Message MessageFault.OutOfMemory)) }
-    ensures failed { IfOk result (λ asked. asked.answer ≡ Err (RoundFault.Exchange ExchangeFault.Link)
-        → Rose (N.view line.old).faults (N.view line.new).faults) }
-    ensures kept { IfOk result (λ asked. asked.answer ≢ Err (RoundFault.Exchange ExchangeFault.Link)
-        → (N.view line.new).faults ≡ (N.view line.old).faults) }
-    ensures unmoved { OnErr result ((N.view line.new).faults ≡ (N.view line.old).faults) }
-    ensures counted { (N.view line.old).faults ≤ (N.view line.new).faults }
-    ensures same { (N.view line.new).objects ≡ (N.view line.old).objects }
-{
-    let Talk {
-        begun,
-        closed,
-        answer: outcome,
-    } = hold_now(alloc, waits, target, body, need_digest, line)?;
-    let answer = answer_of(alloc, outcome)?;
-    Ok(Asked {
-        begun,
-        closed,
-        answer,
-    })
-}
-
 // The body of a request for updates of these lists.
 fn body_for(
     alloc: Global,
@@ -141,32 +95,74 @@ fn body_for(
     write_request(alloc, &request)
 }
 
-/// Asks for updates of all lists, at the first moment that is allowed.
-pub(crate) fn ask<N: Line>(
+/// Begins a round of updates: asks for updates of all lists in one session, which begins at the first moment that is allowed, and
+/// waits until then ("Request Frequency" of the Safe Browsing Update API, version 4). Nothing is received, and the session stays
+/// open: `end_round` ends it. If memory is refused, no session is open.
+pub fn begin_round<N: Line>(
     alloc: Global,
     lists: &ClientLists,
     waits: WaitState,
     options: &FetchOptions,
     target: &Target,
-    need_digest: bool,
     line: &mut N,
-) -> Result<Asked, OutOfMemory>
+) -> Result<Opening, OutOfMemory>
     requires target { IsTarget target.now }
-    ensures asked { IfOk result (λ asked. HasAsked waits target.now
-        (body_asked lists.now options.now) need_digest
-        (N.view line.old).told (N.view line.new).told asked) }
-    ensures refused { OnErr result (StopsAsking waits target.now (body_asked lists.now options.now)
+
+    // The session of a round is open, which asks for these lists and begins when it may.
+    ensures opened { IfOk result (λ opening. IsOpenRound waits target.now
+        (body_asked lists.now options.now) (N.view line.old) (N.view line.new) opening) }
+    ensures broken_off { OnErr result (BreaksOff lists.now waits options.now target.now
         (N.view line.old).told (N.view line.new).told) }
-    ensures no_memory { IfOk result (λ asked.
-        asked.answer ≢ Err (RoundFault.Message MessageFault.OutOfMemory)) }
-    ensures failed { IfOk result (λ asked. asked.answer ≡ Err (RoundFault.Exchange ExchangeFault.Link)
-        → Rose (N.view line.old).faults (N.view line.new).faults) }
-    ensures kept { IfOk result (λ asked. asked.answer ≢ Err (RoundFault.Exchange ExchangeFault.Link)
-        → (N.view line.new).faults ≡ (N.view line.old).faults) }
+
+    // A fault of the link is counted, and nothing else is.
+    ensures faults { IfOk result (λ opening.
+        CountsSendFault opening.sent (N.view line.old).faults (N.view line.new).faults) }
     ensures unmoved { OnErr result ((N.view line.new).faults ≡ (N.view line.old).faults) }
     ensures counted { (N.view line.old).faults ≤ (N.view line.new).faults }
+
+    // The line's objects are the same.
     ensures same { (N.view line.new).objects ≡ (N.view line.old).objects }
 {
     let body = body_for(alloc, lists, options)?;
-    ask_for(alloc, waits, target, body.as_slice(), need_digest, line)
+    begin_now(alloc, waits, target, body.as_slice(), line)
+}
+
+/// Ends the session of a round that was begun, and reads what came.
+pub(crate) fn hear<N: Line>(
+    alloc: Global,
+    opening: Opening,
+    need_digest: bool,
+    line: &mut N,
+) -> Result<Asked, OutOfMemory>
+    requires last { (N.view line.old).last ≡ opening.begun.0 }
+    ensures asked { (waits : WaitState) (target : Target) (body : List ℕ) (start : LineView)
+        → IsOpenRound waits target body start (N.view line.old) opening
+        → IfOk result (λ asked. HasAsked waits target body need_digest start.told (N.view line.new).told asked) }
+    ensures refused { (waits : WaitState) (target : Target) (body : List ℕ) (start : LineView)
+        → IsOpenRound waits target body start (N.view line.old) opening
+        → OnErr result (HoldsRoundSession waits target body start.told (N.view line.new).told) }
+    ensures no_memory { IfOk result (λ asked.
+        asked.answer ≢ Err (RoundFault.Message MessageFault.OutOfMemory)) }
+    ensures failed { (start : ℕ) → CountsSendFault opening.sent start (N.view line.old).faults
+        → IfOk result (λ asked. asked.answer ≡ Err (RoundFault.Exchange ExchangeFault.Link)
+        → Rose start (N.view line.new).faults) }
+    ensures kept { (start : ℕ) → CountsSendFault opening.sent start (N.view line.old).faults
+        → IfOk result (λ asked. asked.answer ≢ Err (RoundFault.Exchange ExchangeFault.Link)
+        → (N.view line.new).faults ≡ start) }
+    ensures unmoved { (start : ℕ) → CountsSendFault opening.sent start (N.view line.old).faults
+        → OnErr result ((N.view line.new).faults ≡ start) }
+    ensures counted { (N.view line.old).faults ≤ (N.view line.new).faults }
+    ensures same { (N.view line.new).objects ≡ (N.view line.old).objects }
+{
+    let Talk {
+        begun,
+        closed,
+        answer: outcome,
+    } = end_session(alloc, opening, need_digest, line)?;
+    let answer = answer_of(alloc, outcome)?;
+    Ok(Asked {
+        begun,
+        closed,
+        answer,
+    })
 }

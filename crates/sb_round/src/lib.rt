@@ -6,6 +6,7 @@
 //! updates as they are printed. How a session keeps to its wait is defined in `timed_sessions`.
 #![tactic(auto)]
 
+pub use asking::begin_round;
 pub use laws::{
     logs_have_one_list_of_bodies, replicas_stay, rounds_are_their_sessions, rounds_go_on,
     rounds_keep_to_waits,
@@ -13,7 +14,7 @@ pub use laws::{
 pub use printing::{push_name, push_taken};
 pub use round_lines::{push_round, push_round_line, push_update_line};
 pub use rounds::{RoundEnd, RoundFault, Taken};
-pub use running::run_round;
+pub use running::{end_round, run_round};
 
 mod asking;
 mod laws;

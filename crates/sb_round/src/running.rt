@@ -1,12 +1,15 @@
-ghost use Rattle.std.specs.Prelude.{◌≡◌, ◌≢◌, ◌≤◌, Some, Ok, Err, IfOk, OnOk, OnErr};
+ghost use Rattle.std.specs.Prelude.{◌≡◌, ◌≢◌, ℕ, ◌≤◌, Some, Ok, Err, IfOk, OnOk, OnErr};
 ghost use Rattle.sb_outside.specs.Outside.{Rose};
 ghost use Rattle.update_client.specs.Step.{after_updates, results_of};
-ghost use Rattle.http_edge.specs.Exchanges.{IsTarget};
+ghost use Rattle.update_client.specs.declared.options.FetchOptions.{FetchOptions};
+ghost use Rattle.http_edge.specs.Exchanges.{CountsSendFault, IsTarget};
+ghost use Rattle.http_edge.specs.declared.messages.Target.{Target};
+ghost use Rattle.client_line.specs.Lines.{LineView};
 ghost use Rattle.timed_sessions.specs.Waiting.{HasSettled};
-ghost use Rattle.sb_round.specs.Round.{named_results, taken_from, MakesRound, BreaksOff};
+ghost use Rattle.sb_round.specs.Round.{body_asked, named_results, taken_from, IsOpenRound, HoldsRoundSession, MakesRound, BreaksOff};
 ghost use Rattle.sb_round.specs.Taking.{HasTaken};
 
-use crate::asking::{Asked, ask};
+use crate::asking::{Asked, begin_round, hear};
 use crate::rounds::{RoundEnd, RoundFault, Taken};
 use crate::taking::take_message;
 use client_line::Line;
@@ -14,7 +17,7 @@ use http_edge::{ExchangeFault, Target};
 use sb_json::MessageFault;
 use sb_model::{Moment, OutOfMemory, Row};
 use std::alloc::Global;
-use timed_sessions::settle;
+use timed_sessions::{Opening, settle};
 use update_client::{ClientLists, FetchOptions};
 use update_messages::FetchResponse;
 use wait_rules::WaitState;
@@ -44,8 +47,8 @@ fn succeed<N: Line>(
     Ok(taken)
 }
 
-// Ends a round after its session.
-fn end_round<N: Line>(
+// Takes the answer of a round after its session.
+fn take_answer<N: Line>(
     alloc: Global,
     lists: &mut ClientLists,
     waits: &mut WaitState,
@@ -82,6 +85,55 @@ fn end_round<N: Line>(
             })
         }
     }
+}
+
+/// Ends a round that `begin_round` left open, and takes the answer. In between nothing of the line may be used, and neither the
+/// lists nor the state of waiting change.
+///
+/// A message is a success, with the wait that it bids. Anything else is a failure with one drawn word, and
+/// changes no list. After an `Err` the lists and the state of waiting are as before.
+pub fn end_round<N: Line>(
+    alloc: Global,
+    lists: &mut ClientLists,
+    waits: &mut WaitState,
+    opening: Opening,
+    need_digest: bool,
+    line: &mut N,
+) -> Result<RoundEnd, OutOfMemory>
+    requires last { (N.view line.old).last ≡ opening.begun.0 }
+
+    // If these lists were asked for with this state of waiting, one round was made, and this is what it left.
+    ensures made { (options : FetchOptions) (target : Target) (start : LineView)
+        → IsOpenRound waits.old target (body_asked lists.old options) start (N.view line.old) opening
+        → IfOk result (λ end. MakesRound lists.old waits.old options target need_digest
+        start.told (N.view line.new).told lists.new waits.new end) }
+    ensures broken_off { (options : FetchOptions) (target : Target) (start : LineView)
+        → IsOpenRound waits.old target (body_asked lists.old options) start (N.view line.old) opening
+        → OnErr result (HoldsRoundSession waits.old target (body_asked lists.old options)
+        start.told (N.view line.new).told) }
+
+    // Want of memory is no cause of a failed round. It breaks a round off.
+    ensures no_memory { IfOk result (λ end.
+        end.taken ≢ Err (RoundFault.Message MessageFault.OutOfMemory)) }
+    ensures lists_kept { OnErr result (lists.new ≡ lists.old) }
+    ensures waits_kept { OnErr result (waits.new ≡ waits.old) }
+
+    // Over both parts, from a count at the start, a fault of the link is counted, and nothing else is.
+    ensures failed { (start : ℕ) → CountsSendFault opening.sent start (N.view line.old).faults
+        → IfOk result (λ end. end.taken ≡ Err (RoundFault.Exchange ExchangeFault.Link)
+        → Rose start (N.view line.new).faults) }
+    ensures kept { (start : ℕ) → CountsSendFault opening.sent start (N.view line.old).faults
+        → IfOk result (λ end. end.taken ≢ Err (RoundFault.Exchange ExchangeFault.Link)
+        → (N.view line.new).faults ≡ start) }
+    ensures unmoved { (start : ℕ) → CountsSendFault opening.sent start (N.view line.old).faults
+        → OnErr result ((N.view line.new).faults ≡ start) }
+    ensures counted { (N.view line.old).faults ≤ (N.view line.new).faults }
+
+    // The line's objects are the same.
+    ensures same { (N.view line.new).objects ≡ (N.view line.old).objects }
+{
+    let asked = hear(alloc, opening, need_digest, line)?;
+    take_answer(alloc, lists, waits, asked, line)
 }
 
 /// Makes one round of updates: waits until the moment that is allowed, asks for updates of all lists in one
@@ -124,6 +176,6 @@ pub fn run_round<N: Line>(
     // The line's objects are the same.
     ensures same { (N.view line.new).objects ≡ (N.view line.old).objects }
 {
-    let asked = ask(alloc, lists, *waits, options, target, need_digest, line)?;
-    end_round(alloc, lists, waits, asked, line)
+    let opening = begin_round(alloc, lists, *waits, options, target, line)?;
+    end_round(alloc, lists, waits, opening, need_digest, line)
 }

@@ -1,7 +1,7 @@
 -- What is told, and by how much more.
-use Rattle.std.proofs.Common.{◌≡◌, List, [], ◌∷◌, ◌++◌, Option, Some, None, sym, ap, ◌∙◌, append_assoc}
+use Rattle.std.proofs.Common.{◌≡◌, List, [], ◌++◌, Option, Some, None, sym, ap, ◌∙◌, append_assoc}
 use Rattle.std.proofs.lemmas.List.{append-nil}
-use Rattle.sb_outside.specs.Outside.{IfTold, with_entry}
+use Rattle.sb_outside.specs.Outside.{IfTold}
 use Rattle.timed_sessions.specs.Told.{with_more}
 use Rattle.timed_sessions.specs.Law.{BeginsTrace, GoesOnWithTrace}
 

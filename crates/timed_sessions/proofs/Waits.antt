@@ -1,5 +1,5 @@
 -- Sessions that keep to their waits, and one more; and what a session that was closed leaves.
-use Rattle.std.proofs.Common.{◌≡◌, ℕ, List, [], ◌∷◌, ◌++◌, Some, None, refl}
+use Rattle.std.proofs.Common.{◌≡◌, ℕ, [], ◌∷◌, Some, None, refl}
 use Rattle.sb_model.specs.declared.time.Moment.{Moment}
 use Rattle.sb_model.specs.declared.time.Duration.{Duration}
 use Rattle.wait_rules.specs.Waits.{after_success, after_failure}

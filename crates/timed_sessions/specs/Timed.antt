@@ -4,7 +4,7 @@ use Rattle.sb_model.specs.declared.time.Moment.{Moment}
 use Rattle.sb_outside.specs.Outside.{IfTold, with_entry}
 use Rattle.sb_outside.specs.declared.links.Kind.{Kind}
 use Rattle.sb_outside.specs.declared.links.Session.{Session}
-use Rattle.http_edge.specs.Exchanges.{IsSessionOf, SendsWhole}
+use Rattle.http_edge.specs.Exchanges.{IsSessionOf, IsOpenExchange, SendsWhole}
 use Rattle.http_edge.specs.Outcomes.{SessionOutcome, ReadsNoFurther}
 use Rattle.http_edge.specs.declared.faults.ExchangeFault.{ExchangeFault}
 use Rattle.http_edge.specs.declared.messages.Target.{Target}
@@ -12,6 +12,7 @@ use Rattle.wait_rules.specs.Waits.{may_send_at}
 use Rattle.wait_rules.specs.declared.waits.WaitState.{WaitState}
 use Rattle.client_line.specs.Lines.{LineView, KeepsLink}
 use Rattle.timed_sessions.specs.Told.{Outside, with_more, Trace}
+use Rattle.timed_sessions.specs.declared.timing.Opening.{Opening}
 use Rattle.timed_sessions.specs.declared.timing.Talk.{Talk}
 
 -- What the clock read before a session, when this began and when it was closed, and its entry in the link's log.
@@ -78,6 +79,15 @@ pub record HasBegun (waits : WaitState) (read : Moment) (before after : LineView
   pub bade : IfTold after.told.waits (with_more before.told.waits (waits_from waits read))
   pub last : after.last ≡ begun.0
   pub others : KeepsLink before after
+
+-- A session begins when it may and is open, its request was sent whole or the link failed, and nothing was received in it yet. No
+-- word was drawn.
+pub record IsTimedOpening (waits : WaitState) (read : Moment) (target : Target) (kind : Kind) (body : List ℕ) (before after : Outside) (opening : Opening) : Type 0 where
+  pub begins : IsBeginning waits read opening.begun
+  pub opened : IsOpenExchange target kind body opening.begun before.log after.log opening.sent
+  pub answered : IfTold after.answers (with_more before.answers (moments_before waits read opening.begun))
+  pub bade : IfTold after.waits (with_more before.waits (waits_from waits read))
+  pub undrawn : after.words ≡ before.words
 
 -- The link has a session more, the clock has its answers, and was bidden to wait until the allowed moment or not at all. No word was
 -- drawn.

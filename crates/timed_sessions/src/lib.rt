@@ -8,7 +8,7 @@
 
 pub use laws::{sessions_keep_to_waits, traces_go_on};
 pub use settling::settle;
-pub use timing::{Talk, hold_session};
+pub use timing::{Opening, Talk, begin_session, end_session, hold_session};
 
 mod laws;
 mod settling;

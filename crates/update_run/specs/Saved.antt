@@ -61,3 +61,12 @@ pub record FailsToSave (lists : List Held) (before after : Keeping) : Type 0 whe
 -- all of them, or all but the last
 abbrev pub MayLackLast : List (List Held) → List (List Held) → Type 0
 MayLackLast all some = (some ≡ all) ⊎ ((last : List Held) × (some ++ last ∷ [] ≡ all))
+
+-- Nothing is saved at first.
+abbrev pub BeginsSaving : Type 0
+BeginsSaving = (keeper : Keeping) → HasSaved [] keeper keeper
+
+-- What is saved and then saved is saved in this order.
+abbrev pub GoesOnWithSaves : Type 0
+GoesOnWithSaves = (before between after : Keeping) (first next : List (List Held))
+    → HasSaved first before between → HasSaved next between after → HasSaved (first ++ next) before after

@@ -1,3 +1,4 @@
+ghost use Rattle.update_run.specs.Saved.{BeginsSaving, GoesOnWithSaves};
 ghost use Rattle.update_run.specs.Stepping.{GoesOnSaving, StopsAfterSteps};
 ghost use Rattle.update_run.specs.Steps.{BeginsSteps, GoesOnWriting, GoesOnTaking};
 
@@ -13,6 +14,12 @@ pub fn steps_go_on()
 {
     rounds_go_on();
 }
+
+/// The law of what is saved, whatever lies between: nothing is saved at first, and what is saved and then saved is saved in this order.
+pub fn saves_go_on()
+    ensures none { BeginsSaving }
+    ensures more { GoesOnWithSaves }
+{}
 
 /// What rounds that are taken one by one save with each further one, and where a client stops that stops in the next: after rounds,
 /// as one that takes all of them does.

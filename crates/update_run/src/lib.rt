@@ -7,12 +7,13 @@
 #![tactic(auto)]
 
 pub use client::Client;
-pub use laws::{steps_go_on, steps_save_and_stop};
-pub use opening::open_store;
+pub use laws::{saves_go_on, steps_go_on, steps_save_and_stop};
+pub use opening::{load_lists, open_store};
 pub use plan::Plan;
 pub use printing::push_list_line;
 pub use rounding::{RoundTold, make_round, take_round, write_page};
 pub use running::run;
+pub use saving::tell_round;
 pub use stop::RunStop;
 
 mod client;

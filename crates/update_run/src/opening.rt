@@ -67,8 +67,9 @@ fn lists_of(
     }
 }
 
-/// Loads the lists that a run begins with. The line of a store that is ignored waits in the page.
-fn load_lists<K: Keeper>(
+/// Loads the lists that a run begins with: those of these names that the keeper keeps, and nothing of the others. If the text that is
+/// kept is no store, all are empty, and the line that tells so waits in the page.
+pub fn load_lists<K: Keeper>(
     alloc: Global,
     names: &[ListName],
     keep: &mut K,

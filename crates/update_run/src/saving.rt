@@ -111,9 +111,10 @@ fn save_installed<O: Sink, K: Keeper>(
     Ok(())
 }
 
-/// Tells of a round that was made, where nothing waits to be written, and saves the lists where it installed one. Behind all this
-/// it tells of the lists for which the round's answer had no update.
-pub(crate) fn tell_round<O: Sink, K: Keeper>(
+/// Tells of the round of this number that was made, and saves the lists if it installed one. Behind all this it tells of the lists for
+/// which the round's answer had no update. Nothing waits to be written before it. What was printed goes to the output before the
+/// keeper is handed a store, and the last of the lines wait in the page.
+pub fn tell_round<O: Sink, K: Keeper>(
     alloc: Global,
     number: u64,
     end: &RoundEnd,

@@ -4,6 +4,7 @@ use Rattle.std.specs.Prelude.{◌≢◌, IfOk, OnOk, OnErr}
 use Rattle.sb_model.specs.declared.time.Moment.{Moment}
 use Rattle.sb_model.specs.declared.memory.OutOfMemory.{OutOfMemory}
 use Rattle.sb_outside.specs.Outside.{Rose, IfTold}
+use Rattle.sb_outside.specs.declared.links.Kind.TheVariants.{Find}
 use Rattle.full_hash_cache.specs.Cache.{Pairs}
 use Rattle.hash_messages.specs.Messages.{AskedHashes}
 use Rattle.http_edge.specs.declared.faults.ExchangeFault.TheVariants.{Link}
@@ -11,15 +12,18 @@ use Rattle.http_edge.specs.declared.messages.Target.{Target}
 use Rattle.wait_rules.specs.declared.waits.WaitState.{WaitState}
 use Rattle.client_line.specs.Lines.{LineView, Draws}
 use Rattle.timed_sessions.specs.Told.{Outside, Grows, with_more}
-use Rattle.timed_sessions.specs.Timed.{TimedSession, IsTold, trace_after}
+use Rattle.timed_sessions.specs.Timed.{TimedSession, IsTimedOpening, HoldsTimed, HoldsTimedPart, IsTold, trace_after}
 use Rattle.timed_sessions.specs.Waiting.{HasSettled, words_of}
 use Rattle.verdict_report.specs.declared.verdicts.Cause.TheVariants.{Exchange}
 use Rattle.verdict_report.specs.declared.verdicts.Verdict.{Verdict}
 use Rattle.url_checker.specs.declared.findings.Hit.{Hit}
 use Rattle.url_checker.specs.declared.asking.Answered.{Answered}
 use Rattle.url_checker.specs.declared.looking.Looks.{Looks}
+use Rattle.timed_sessions.specs.declared.timing.Opening.{Opening}
+use Rattle.timed_sessions.specs.declared.timing.Talk.{Talk}
+use Rattle.http_edge.specs.Exchanges.{CountsSendFault}
 use Rattle.url_checker.specs.Resolving.{lists_hit, find_asked, kept_by, bids_of, body_of, body_asked}
-use Rattle.url_checker.specs.Looking.{HasAsked, StopsAsking, MakesFind, verdict_after}
+use Rattle.url_checker.specs.Looking.{HasAsked, IsOpenFind, StopsAsking, MakesFind, verdict_after}
 
 pub on_err : {A E : Type 0} (P : Type 0) (r : Result A E) → P → OnErr r P
 on_err P (Ok a) p = tt
@@ -93,3 +97,27 @@ pub stopped_for : (states : List (List ℕ)) (target : Target) (now : Moment) (a
     → StopsAsking waits now target (body_asked states asked) before after
 stopped_for states target now asked waits before after request same stops =
     subst (λ (text : AskedHashes). StopsAsking waits now target (body_of text) before after) same stops
+
+-- a find that is open
+pub opened_if : (states : List (List ℕ)) (target : Target) (now : Moment) (asked : List Hit) (waits : WaitState) (before after : LineView) (request : AskedHashes) (opening : Opening)
+    → request ≡ find_asked states asked → IsTimedOpening waits now target Find (body_of request) before.told after.told opening
+    → after.last ≡ opening.begun.0 → CountsSendFault opening.sent before.faults after.faults
+    → IsOpenFind states target now asked waits before after (record { request = request; opening = opening })
+opened_if states target now asked waits before after request opening same opens last counts = record {
+  request = same;
+  opened = subst (λ (text : AskedHashes). IsTimedOpening waits now target Find (body_of text) before.told after.told opening) same opens;
+  last = last;
+  counts = counts;
+}
+
+-- what was asked is what the request of an open find says
+pub asked_for : (states : List (List ℕ)) (target : Target) (need : Bool) (now : Moment) (asked : List Hit) (waits : WaitState) (before between : Outside) (request : AskedHashes) (answered : Answered)
+    → request ≡ find_asked states asked → HasAsked waits now target (body_asked states asked) need before between answered
+    → HasAsked waits now target (body_of request) need before between answered
+asked_for states target need now asked waits before between request answered same has =
+    subst (λ (text : AskedHashes). HasAsked waits now target (body_of text) need before between answered) (sym same) has
+
+-- a session that was held to its end was held
+pub held_so_far : (waits : WaitState) (now : Moment) (target : Target) (body : List ℕ) (need : Bool) (before after : Outside) (talk : Talk)
+    → HoldsTimed waits now target Find body need before after talk → HoldsTimedPart waits now target Find body before after
+held_so_far waits now target body need before after talk holds = record { session = holds.session; is = holds.is; told = holds.told; reading = holds.reading }

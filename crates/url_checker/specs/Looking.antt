@@ -8,8 +8,9 @@ use Rattle.full_hash_cache.specs.Cache.{Pairs}
 use Rattle.hash_messages.specs.declared.response.FindResponse.{FindResponse}
 use Rattle.http_edge.specs.declared.faults.ExchangeFault.{ExchangeFault}
 use Rattle.http_edge.specs.declared.messages.Target.{Target}
+use Rattle.http_edge.specs.Exchanges.{CountsSendFault}
 use Rattle.wait_rules.specs.declared.waits.WaitState.{WaitState}
-use Rattle.timed_sessions.specs.Timed.{HoldsTimed, HoldsTimedPart, trace_after}
+use Rattle.timed_sessions.specs.Timed.{IsTimedOpening, HoldsTimed, HoldsTimedPart, trace_after}
 use Rattle.verdict_report.specs.declared.verdicts.Cause.{Cause}
 use Rattle.http_edge.specs.declared.faults.ExchangeFault.TheVariants.{Link}
 use Rattle.sb_outside.specs.Outside.{Rose}
@@ -18,9 +19,10 @@ use Rattle.timed_sessions.specs.Told.{Outside, Grows}
 use Rattle.timed_sessions.specs.Waiting.{words_of, waits_after}
 use Rattle.verdict_report.specs.declared.verdicts.Cause.TheVariants.{Exchange}
 use Rattle.verdict_report.specs.declared.verdicts.Verdict.{Verdict}
-use Rattle.url_checker.specs.Resolving.{said_of, is_ask, is_unsafe_by, lists_hit, IsAnswerOf, verdict_from, FindTalk, IsFindTalk, find_asked, kept_by, closed_of}
+use Rattle.url_checker.specs.Resolving.{said_of, is_ask, is_unsafe_by, lists_hit, IsAnswerOf, verdict_from, FindTalk, IsFindTalk, find_asked, body_asked, kept_by, closed_of}
 use Rattle.url_checker.specs.declared.findings.Hit.{Hit}
 use Rattle.url_checker.specs.declared.asking.Answered.{Answered}
+use Rattle.url_checker.specs.declared.asking.OpenFind.{OpenFind}
 use Rattle.url_checker.specs.declared.looking.Looked.{Looked}
 use Rattle.url_checker.specs.declared.looking.Looks.{Looks}
 
@@ -39,6 +41,13 @@ pub record HasAsked (waits : WaitState) (now : Moment) (target : Target) (body :
   pub outcome : Result (List ℕ) ExchangeFault
   pub holds : HoldsTimed waits now target Find body need before after (record { begun = begun; closed = answered.closed; answer = outcome })
   pub answers_it : IsAnswerOf outcome answered.answer
+
+-- The session of a find for these hits is open: it begins when it may, and nothing was received in it yet. A fault of the link is counted.
+pub record IsOpenFind (states : List (List ℕ)) (target : Target) (now : Moment) (asked : List Hit) (waits : WaitState) (before after : LineView) (find : OpenFind) : Type 0 where
+  pub request : find.request ≡ find_asked states asked
+  pub opened : IsTimedOpening waits now target Find (body_asked states asked) before.told after.told find.opening
+  pub last : after.last ≡ find.opening.begun.0
+  pub counts : CountsSendFault find.opening.sent before.faults after.faults
 
 -- Memory was wanting before a session for this body, or after it.
 abbrev pub StopsAsking : WaitState → Moment → Target → List ℕ → Outside → Outside → Type 0

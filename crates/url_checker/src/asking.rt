@@ -1,6 +1,11 @@
-ghost use Rattle.std.specs.Prelude.{◌≡◌, ◌≢◌, ◌≤◌, ◌↔◌, Ok, Err, IfOk, OnErr};
+ghost use Rattle.std.specs.Prelude.{◌≡◌, ◌≢◌, ℕ, ◌≤◌, ◌↔◌, List, Ok, Err, IfOk, OnErr};
 ghost use Rattle.sb_outside.specs.Outside.{Rose};
-ghost use Rattle.http_edge.specs.Exchanges.{IsTarget};
+ghost use Rattle.http_edge.specs.Exchanges.{CountsSendFault, IsTarget};
+ghost use Rattle.http_edge.specs.declared.messages.Target.{Target};
+ghost use Rattle.sb_model.specs.declared.time.Moment.{Moment};
+ghost use Rattle.wait_rules.specs.declared.waits.WaitState.{WaitState};
+ghost use Rattle.timed_sessions.specs.Told.{Outside};
+ghost use Rattle.timed_sessions.specs.Timed.{IsTimedOpening, HoldsTimedPart};
 ghost use Rattle.url_checker.specs.Resolving.{IsAnswerOf, body_of};
 ghost use Rattle.url_checker.specs.Looking.{HasAsked, StopsAsking};
 
@@ -11,7 +16,7 @@ use sb_json::MessageFault;
 use sb_model::{Bytes, Moment, OutOfMemory};
 use sb_outside::Kind;
 use std::alloc::Global;
-use timed_sessions::{Talk, hold_session};
+use timed_sessions::{Opening, Talk, begin_session, end_session};
 use verdict_report::Cause;
 use wait_rules::WaitState;
 
@@ -50,27 +55,62 @@ fn answer_of(
     }
 }
 
-// Holds a session for this body from a clock that was read already, and reads what comes.
-fn ask_for<N: Line>(
+/// A find whose session is open: what it asks for, and its session.
+#[derive(Debug, Drop)]
+pub struct OpenFind {
+    pub request: FindRequest,
+    pub opening: Opening,
+}
+
+/// Begins a find, from a clock that was read already.
+#[tactic(auto, unfolding(crate::specs::Resolving::body_of))]
+pub(crate) fn begin_for<N: Line>(
     alloc: Global,
     waits: WaitState,
     now: Moment,
     target: &Target,
-    body: &[u8],
+    request: &FindRequest,
+    line: &mut N,
+) -> Result<Opening, OutOfMemory>
+    requires read { (N.view line.old).last ≡ now.0 }
+    requires target { IsTarget target.now }
+    ensures opened { IfOk result (λ opening. IsTimedOpening waits now target.now Kind.Find (body_of request.now)
+        (N.view line.old).told (N.view line.new).told opening) }
+    ensures refused { OnErr result (StopsAsking waits now target.now (body_of request.now)
+        (N.view line.old).told (N.view line.new).told) }
+    ensures last { IfOk result (λ opening. (N.view line.new).last ≡ opening.begun.0) }
+    ensures faults { IfOk result (λ opening.
+        CountsSendFault opening.sent (N.view line.old).faults (N.view line.new).faults) }
+    ensures unmoved { OnErr result ((N.view line.new).faults ≡ (N.view line.old).faults) }
+    ensures counted { (N.view line.old).faults ≤ (N.view line.new).faults }
+    ensures same { (N.view line.new).objects ≡ (N.view line.old).objects }
+{
+    let body = write_find(alloc, request)?;
+    begin_session(alloc, waits, now, target, Kind::Find, body.as_slice(), line)
+}
+
+/// Ends the session of a find that was begun, and reads what came.
+pub(crate) fn hear<N: Line>(
+    alloc: Global,
+    opening: Opening,
     need_digest: bool,
     line: &mut N,
 ) -> Result<Answered, OutOfMemory>
-    requires read { (N.view line.old).last ≡ now.0 }
-    requires target { IsTarget target.now }
-    ensures asked { IfOk result (λ found. HasAsked waits now target.now body.now need_digest
-        (N.view line.old).told (N.view line.new).told found) }
-    ensures refused { OnErr result (StopsAsking waits now target.now body.now
-        (N.view line.old).told (N.view line.new).told) }
-    ensures failed { IfOk result (λ found. found.answer ≡ Err (Cause.Exchange ExchangeFault.Link)
-        → Rose (N.view line.old).faults (N.view line.new).faults) }
-    ensures kept { IfOk result (λ found. found.answer ≢ Err (Cause.Exchange ExchangeFault.Link)
-        → (N.view line.new).faults ≡ (N.view line.old).faults) }
-    ensures unmoved { OnErr result ((N.view line.new).faults ≡ (N.view line.old).faults) }
+    requires last { (N.view line.old).last ≡ opening.begun.0 }
+    ensures asked { (waits : WaitState) (now : Moment) (target : Target) (body : List ℕ) (start : Outside)
+        → IsTimedOpening waits now target Kind.Find body start (N.view line.old).told opening
+        → IfOk result (λ found. HasAsked waits now target body need_digest start (N.view line.new).told found) }
+    ensures refused { (waits : WaitState) (now : Moment) (target : Target) (body : List ℕ) (start : Outside)
+        → IsTimedOpening waits now target Kind.Find body start (N.view line.old).told opening
+        → OnErr result (HoldsTimedPart waits now target Kind.Find body start (N.view line.new).told) }
+    ensures failed { (start : ℕ) → CountsSendFault opening.sent start (N.view line.old).faults
+        → IfOk result (λ found. found.answer ≡ Err (Cause.Exchange ExchangeFault.Link)
+        → Rose start (N.view line.new).faults) }
+    ensures kept { (start : ℕ) → CountsSendFault opening.sent start (N.view line.old).faults
+        → IfOk result (λ found. found.answer ≢ Err (Cause.Exchange ExchangeFault.Link)
+        → (N.view line.new).faults ≡ start) }
+    ensures unmoved { (start : ℕ) → CountsSendFault opening.sent start (N.view line.old).faults
+        → OnErr result ((N.view line.new).faults ≡ start) }
     ensures counted { (N.view line.old).faults ≤ (N.view line.new).faults }
     ensures same { (N.view line.new).objects ≡ (N.view line.old).objects }
 {
@@ -78,53 +118,7 @@ fn ask_for<N: Line>(
         begun: _,
         closed,
         answer: outcome,
-    } = hold_session(
-        alloc,
-        waits,
-        now,
-        target,
-        Kind::Find,
-        body,
-        need_digest,
-        line,
-    )?;
+    } = end_session(alloc, opening, need_digest, line)?;
     let answer = answer_of(alloc, outcome)?;
     Ok(Answered { closed, answer })
-}
-
-/// Makes a find, from a clock that was read already.
-#[tactic(auto, unfolding(crate::specs::Resolving::body_of))]
-pub(crate) fn ask<N: Line>(
-    alloc: Global,
-    waits: WaitState,
-    now: Moment,
-    target: &Target,
-    request: &FindRequest,
-    need_digest: bool,
-    line: &mut N,
-) -> Result<Answered, OutOfMemory>
-    requires read { (N.view line.old).last ≡ now.0 }
-    requires target { IsTarget target.now }
-    ensures asked { IfOk result (λ found. HasAsked waits now target.now (body_of request.now) need_digest
-        (N.view line.old).told (N.view line.new).told found) }
-    ensures refused { OnErr result (StopsAsking waits now target.now (body_of request.now)
-        (N.view line.old).told (N.view line.new).told) }
-    ensures failed { IfOk result (λ found. found.answer ≡ Err (Cause.Exchange ExchangeFault.Link)
-        → Rose (N.view line.old).faults (N.view line.new).faults) }
-    ensures kept { IfOk result (λ found. found.answer ≢ Err (Cause.Exchange ExchangeFault.Link)
-        → (N.view line.new).faults ≡ (N.view line.old).faults) }
-    ensures unmoved { OnErr result ((N.view line.new).faults ≡ (N.view line.old).faults) }
-    ensures counted { (N.view line.old).faults ≤ (N.view line.new).faults }
-    ensures same { (N.view line.new).objects ≡ (N.view line.old).objects }
-{
-    let body = write_find(alloc, request)?;
-    ask_for(
-        alloc,
-        waits,
-        now,
-        target,
-        body.as_slice(),
-        need_digest,
-        line,
-    )
 }

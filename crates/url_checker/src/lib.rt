@@ -5,11 +5,13 @@
 //! findings.
 #![tactic(auto)]
 
+pub use asking::OpenFind;
 pub use fault::CheckFault;
 pub use findings::{Checked, Finding, Hit};
 pub use hits::{local_check_on, local_check_with};
 pub use laws::{findings_go_on, findings_keep_to_waits};
-pub use resolving::resolve;
+pub use looking::{Looked, Looks, look};
+pub use resolving::{begin_find, end_find, resolve};
 pub use sizes::{Sizes, sizes_on};
 
 mod asking;

@@ -17,20 +17,20 @@ use std::alloc::Global;
 
 /// A hit, and what the kept answers say of it.
 #[derive(Clone, Copy, Debug)]
-pub(crate) struct Looked {
-    pub(crate) hit: Hit,
-    pub(crate) said: Cached,
+pub struct Looked {
+    pub hit: Hit,
+    pub said: Cached,
 }
 
 /// The hits of a finding once they are looked up.
 #[derive(Drop)]
-pub(crate) struct Looks {
+pub struct Looks {
     /// Each hit with what is said of it.
-    pub(crate) looked: Row<Looked>,
+    pub looked: Row<Looked>,
     /// The hits of which the server has to be asked.
-    pub(crate) asked: Row<Hit>,
+    pub asked: Row<Hit>,
     /// The lists of those that the kept answers say to be unsafe, in the order of their names.
-    pub(crate) told: Row<ListName>,
+    pub told: Row<ListName>,
 }
 
 // Looks a hit up.
@@ -140,8 +140,8 @@ pub(crate) fn unsafe_names(
     lists_of(alloc, hits.as_slice())
 }
 
-/// Looks the hits of a finding up.
-pub(crate) fn look(
+/// Looks the hits of a finding up in the kept answers, as they stand at a moment.
+pub fn look(
     alloc: Global,
     now: Moment,
     hits: &[Hit],

@@ -1,14 +1,17 @@
-ghost use Rattle.std.specs.Prelude.{◌≡◌, ◌≢◌, ◌≤◌, length, Some, None, Err, IfOk, OnOk, OnErr};
+ghost use Rattle.std.specs.Prelude.{◌≡◌, ◌≢◌, ℕ, ◌≤◌, List, length, Some, None, Err, IfOk, OnOk, OnErr};
 ghost use Rattle.hash_messages.specs.Messages.{most_prefixes};
 ghost use Rattle.full_hash_cache.specs.Cache.{taken};
-ghost use Rattle.http_edge.specs.Exchanges.{IsTarget};
+ghost use Rattle.http_edge.specs.Exchanges.{CountsSendFault, IsTarget};
+ghost use Rattle.http_edge.specs.declared.messages.Target.{Target};
+ghost use Rattle.sb_model.specs.declared.time.Moment.{Moment};
+ghost use Rattle.client_line.specs.Lines.{LineView};
 ghost use Rattle.timed_sessions.specs.Waiting.{HasSettled};
 ghost use Rattle.url_checker.specs.Hits.{AreAskable, prefixes_hit};
 ghost use Rattle.url_checker.specs.Resolving.{verdict_from, lists_hit, bids_of, kept_by, cause_of, body_asked, makes_find};
-ghost use Rattle.url_checker.specs.Looking.{unsafe_in, verdict_after, MakesFind, StopsAsking};
+ghost use Rattle.url_checker.specs.Looking.{unsafe_in, verdict_after, IsOpenFind, MakesFind, StopsAsking};
 ghost use Rattle.url_checker.specs.Resolved.{Resolves, StopsResolving};
 
-use crate::asking::{Answered, ask};
+use crate::asking::{Answered, OpenFind, begin_for, hear};
 use crate::looking::{Looked, Looks, look, unsafe_names};
 use crate::naming::lists_of;
 use crate::request::find_for;
@@ -107,6 +110,73 @@ fn conclude<N: Line>(
     }
 }
 
+/// Begins a find for the hits of which the server has to be asked, from a clock that was read already: its session begins at the first
+/// moment that is allowed, and is waited for until then. Nothing is received, and the session stays open: `end_find` ends it. If memory
+/// is refused, no session is open.
+pub fn begin_find<N: Line>(
+    alloc: Global,
+    now: Moment,
+    looks: &Looks,
+    states: &Row<Bytes>,
+    waits: WaitState,
+    target: &Target,
+    line: &mut N,
+) -> Result<OpenFind, OutOfMemory>
+    requires read { (N.view line.old).last ≡ now.0 }
+    requires target { IsTarget target.now }
+    requires few { length (prefixes_hit looks.now.asked) ≤ most_prefixes }
+
+    // The session is open of a find that asks for these hits, and begins when it may. A fault of the link is counted.
+    ensures opened { IfOk result (IsOpenFind states.now target.now now looks.now.asked waits
+        (N.view line.old) (N.view line.new)) }
+    ensures stopped { OnErr result (StopsAsking waits now target.now (body_asked states.now looks.now.asked)
+        (N.view line.old).told (N.view line.new).told) }
+    ensures unmoved { OnErr result ((N.view line.new).faults ≡ (N.view line.old).faults) }
+    ensures counted { (N.view line.old).faults ≤ (N.view line.new).faults }
+
+    // The line's objects are the same.
+    ensures same { (N.view line.new).objects ≡ (N.view line.old).objects }
+{
+    let request = find_for(alloc, states, looks.asked.as_slice())?;
+    let opening = begin_for(alloc, waits, now, target, &request, line)?;
+    Ok(OpenFind { request, opening })
+}
+
+/// Ends a find that `begin_find` left open, and says what comes of the finding. In between nothing of the line may be used, and the
+/// state of waiting may not change. What is kept may: it is what the answer is put to.
+pub fn end_find<N: Line>(
+    alloc: Global,
+    looks: Looks,
+    find: OpenFind,
+    cache: &mut FullHashCache,
+    waits: &mut WaitState,
+    need_digest: bool,
+    line: &mut N,
+) -> Result<Verdict, OutOfMemory>
+    requires last { (N.view line.old).last ≡ find.opening.begun.0 }
+
+    // If these hits were asked for with this state of waiting, one find was made, and this is what it left and came to.
+    ensures made { (states : List (List ℕ)) (target : Target) (now : Moment) (start : LineView)
+        → IsOpenFind states target now looks.asked waits.old start (N.view line.old) find
+        → IfOk result (MakesFind states target need_digest now looks
+        cache.old cache.new waits.old waits.new start (N.view line.new)) }
+    ensures stopped { (states : List (List ℕ)) (target : Target) (now : Moment) (start : LineView)
+        → IsOpenFind states target now looks.asked waits.old start (N.view line.old) find
+        → OnErr result (StopsAsking waits.old now target (body_asked states looks.asked)
+        start.told (N.view line.new).told) }
+    ensures waits_kept { OnErr result (waits.new ≡ waits.old) }
+    ensures unmoved { (start : ℕ) → CountsSendFault find.opening.sent start (N.view line.old).faults
+        → OnErr result ((N.view line.new).faults ≡ start) }
+    ensures counted { (N.view line.old).faults ≤ (N.view line.new).faults }
+
+    // The line's objects are the same.
+    ensures same { (N.view line.new).objects ≡ (N.view line.old).objects }
+{
+    let OpenFind { request, opening } = find;
+    let answered = hear(alloc, opening, need_digest, line)?;
+    conclude(alloc, looks, &request, answered, cache, waits, line)
+}
+
 // Makes a find for the hits of which the server has to be asked, and ends it.
 fn find<N: Line>(
     alloc: Global,
@@ -131,9 +201,8 @@ fn find<N: Line>(
     ensures counted { (N.view line.old).faults ≤ (N.view line.new).faults }
     ensures same { (N.view line.new).objects ≡ (N.view line.old).objects }
 {
-    let request = find_for(alloc, states, looks.asked.as_slice())?;
-    let answered = ask(alloc, *waits, now, target, &request, need_digest, line)?;
-    conclude(alloc, looks, &request, answered, cache, waits, line)
+    let find = begin_find(alloc, now, &looks, states, *waits, target, line)?;
+    end_find(alloc, looks, find, cache, waits, need_digest, line)
 }
 
 // Whether a find is made for these hits.

@@ -1,7 +1,5 @@
 use Rattle.std.proofs.Common.{◌≡◌, length, ◌∙◌, ap, arith}
 use Rattle.update_client.specs.Step.{results_of}
-use Rattle.update_client.specs.declared.fault.ListResult.{ListResult}
-use Rattle.sb_round.specs.Round.{named_results}
 use Rattle.sb_round.proofs.Results.{result_count}
 use Rattle.sb_round.proofs.taking.take_message.Goals as goal
 
