@@ -1,6 +1,6 @@
 -- An address at which connections come in, cut at its first colon or at its closing bracket.
 use Rattle.std.proofs.Common.{◌≡◌, ◌≢◌, ◌<◌, ◌==◌, ◌∷◌, ap, ap₂, sym, ◌∙◌, refl, ℕ, Bool, List, [], length, Option, None, lt-ltb, le-ltb, le_refl, nat_lt, ne_eqb, false, if◌then◌else◌}
-use Rattle.std.specs.List.{list_any, position_or_len, before_first, after_first}
+use Rattle.std.specs.List.{position_or_len, before_first, after_first}
 use Rattle.sb_words.specs.Values.{cut_at, is_closing, is_colon, listen_address_of, listening_at, listening_in, number_of, port_after_colon}
 use Rattle.sb_words.proofs.Barring.{any_is}
 

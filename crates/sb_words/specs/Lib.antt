@@ -4,3 +4,4 @@ pub mod Barred
 pub mod Rows
 pub mod ClapCommand
 pub mod Values
+pub mod About
