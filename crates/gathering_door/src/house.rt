@@ -8,6 +8,7 @@ use crate::answers::Answers;
 use crate::door_time::begun_millis;
 use crate::guests::{Guest, is_held};
 use crate::line::Line;
+use crate::losses::Untold;
 use gathering::{
     Address, Candidate, Crowd, DoorLimits, Ending, Gathered, GatheredWire, Heard, HouseRoom,
     InLine, Outgoing, Phase, Rows, Step, after_answer, after_no_room, after_read, after_write,
@@ -91,6 +92,8 @@ pub(crate) struct House {
     // the number of the next connection that is admitted
     serial: u64,
     buffer: Vec<u8>,
+    // who was lost, and was not yet told of
+    pub(crate) untold: Untold,
 }
 
 impl House {
@@ -110,6 +113,7 @@ impl House {
             answers: Answers::new(alloc),
             serial: 0,
             buffer: Vec::from_elem(alloc, 0, READ_A_TURN)?,
+            untold: Untold::default(),
         })
     }
 
@@ -184,6 +188,7 @@ impl House {
         ensures { OnlyCloses self.old.guests self.new.guests }
     {
         if let Some(slot) = self.first_to_yield() {
+            self.untold.give_way();
             self.close(slot);
         }
     }
@@ -391,7 +396,10 @@ impl House {
     {
         'drops: for _ in 0..self.guests.len() {
             match self.rows.first_to_drop(&self.limits, self.gathered, count) {
-                Some(longest) => self.close(longest),
+                Some(longest) => {
+                    self.untold.give_way();
+                    self.close(longest);
+                }
                 None => return,
             }
         }
@@ -430,8 +438,11 @@ impl House {
         ensures { Settles self.old.guests self.new.guests slot }
     {
         if let Some(guest) = self.guests.get(slot) {
-            let gathered = guest.held;
-            let step = after_read(&self.limits, guest.phase, heard, is_decided, gathered, now);
+            let (phase, gathered) = (guest.phase, guest.held);
+            let step = after_read(&self.limits, phase, heard, is_decided, gathered, now);
+            if step == Step::Close || step == Step::HandOut(Ending::Fault) {
+                self.untold.look_at(&self.limits, phase, now);
+            }
             self.settle(slot, step, now);
         }
     }
@@ -449,7 +460,9 @@ impl House {
         let before = guest.owned();
         let sent = guest.send();
         self.answers.move_on(before, guest.owned());
-        let step = after_write(&self.limits, guest.phase, sent, guest.left(), now);
+        let left = guest.left();
+        let step = after_write(&self.limits, guest.phase, sent, left, now);
+        self.untold.look_at_sending(step, sent, left);
         self.settle(slot, step, now);
     }
 
@@ -663,7 +676,10 @@ impl House {
     {
         'cuts: for _ in 0..self.guests.len() {
             match self.rows.first_to_cut(&self.limits, self.answers.bytes()) {
-                Some(slot) => self.close(slot),
+                Some(slot) => {
+                    self.untold.cut();
+                    self.close(slot);
+                }
                 None => return,
             }
         }

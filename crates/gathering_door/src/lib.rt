@@ -4,6 +4,7 @@
 #![tactic(auto)]
 
 pub use door::GatheringDoor;
+pub use losses::Losses;
 pub use teller::Teller;
 pub use why::DoorFault;
 
@@ -13,6 +14,7 @@ mod door_time;
 mod guests;
 mod house;
 mod line;
+mod losses;
 mod open;
 mod port;
 mod teller;

@@ -238,7 +238,11 @@ impl OpenDoor {
             Some(wait) => Some(wait.min(LONGEST_WAIT)),
             None => None,
         };
-        shorter(left, shorter(longest, until(self.rests_until, now)))
+        let told = self.house.untold.wait(self.time.passed());
+        shorter(
+            told,
+            shorter(left, shorter(longest, until(self.rests_until, now))),
+        )
     }
 
     /// One turn: it waits at most so many milliseconds, and works for each connection that has something.
@@ -280,6 +284,7 @@ impl OpenDoor {
             self.tell(teller);
             self.time.look(rt);
             let (now, passed) = (self.time.now(), self.time.passed());
+            self.house.untold.tell(passed, teller);
             if let Some(wire) = self.house.hand_out(number, now, passed) {
                 return Ok(Some(wire));
             }
