@@ -1,10 +1,12 @@
 //! The outside over the standard library: standard input and output, files, sockets, the system's clock and its random
-//! numbers. They tell nothing of content. Each counts its faults, and says why the last one came.
+//! numbers. They tell nothing of content. Each counts its faults, and says why the last one came; a link also tells when its server goes
+//! out of reach and comes back.
 #![tactic(auto)]
 
 pub use descriptors::hold_descriptors;
 pub use file_keeper::{FileKeeper, KeptForm};
 pub use journal_file::JournalFile;
+pub use link_teller::{LinkTeller, Nobody};
 pub use standard::{StdSink, StdSource};
 pub use system_clock::SystemClock;
 pub use system_dice::SystemDice;
@@ -15,6 +17,7 @@ pub use why::Why;
 mod descriptors;
 mod file_keeper;
 mod journal_file;
+mod link_teller;
 mod regular_files;
 mod standard;
 mod system_clock;

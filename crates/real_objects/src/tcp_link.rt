@@ -1,10 +1,10 @@
-ghost use Rattle.std.specs.Prelude.{◌≡◌, ◌≤◌, length, None, true, false, IsErr, IfOk, OnOk, OnErr};
+ghost use Rattle.std.specs.Prelude.{◌≡◌, ◌≤◌, length, is_some, None, true, false, IsErr, IfOk, OnOk, OnErr};
 ghost use Rattle.sb_outside.specs.Outside.{Rose};
 ghost use Rattle.real_objects.specs.Tcp.{TcpSession};
 
 use crate::tcp_calls::{Term, read_within, send_within};
 use crate::tcp_limits::time_left;
-use crate::{TcpLimits, Why};
+use crate::{LinkTeller, Nobody, TcpLimits, Why};
 use sb_model::{Moment, OutOfMemory};
 use sb_outside::{Failed, Kind, Link};
 use std::alloc::Global;
@@ -16,15 +16,19 @@ use std::{io, time};
 
 /// A link that holds each session on a TCP connection of its own. Its times count from `begin`, whatever
 /// moments it is told. Looking up a host's name has no limit of time. Contracts see it as whether it has an
-/// address, whether a session is open, and its count of faults.
+/// address, whether a session is open, and its count of faults. Its teller hears once that a call to the server failed, and once
+/// that the server has answered since.
 #[derive(Drop)]
-pub struct TcpLink<R> {
+pub struct TcpLink<R, T = Nobody> {
     rt: R,
     address: Option<String>,
     limits: TcpLimits,
     session: Option<Open>,
     faults: u64,
     why: Option<Why>,
+    teller: T,
+    // whether it was told that the server is out of reach, and not yet that it is back
+    is_lost: bool,
 }
 
 /// An open session.
@@ -34,7 +38,7 @@ struct Open {
     term: Term,
 }
 
-impl<R> Model for TcpLink<R> {
+impl<R, T> Model for TcpLink<R, T> {
     ghost use Rattle.std.specs.Prelude.{is_some};
     ghost use Rattle.real_objects.specs.Tcp.{TcpSession};
 
@@ -44,18 +48,11 @@ impl<R> Model for TcpLink<R> {
 }
 
 impl<R: Drop> TcpLink<R> {
-    /// A link to this address: a host's name or IP address, and a port, as in `127.0.0.1:80`.
+    /// A link to this address, which nobody hears from: a host's name or IP address, and a port, as in `127.0.0.1:80`.
     pub fn new(rt: R, alloc: Global, address: &str, limits: TcpLimits) -> Result<Self, OutOfMemory>
         ensures { IfOk result (λ link. link ≡ record { is_usable = true; is_open = false; faults = 0 }) }
     {
-        Ok(TcpLink {
-            rt,
-            address: Some(String::from_str(alloc, address)?),
-            limits,
-            session: None,
-            faults: 0,
-            why: None,
-        })
+        TcpLink::telling(rt, alloc, Some(address), limits, Nobody)
     }
 
     /// A link that has no address. Each call but `close` fails.
@@ -69,7 +66,38 @@ impl<R: Drop> TcpLink<R> {
             session: None,
             faults: 0,
             why: None,
+            teller: Nobody,
+            is_lost: false,
         }
+    }
+}
+
+impl<R: Drop, T: Drop> TcpLink<R, T> {
+    /// The same with a teller. Without an address each call but `close` fails, and nothing is told.
+    pub fn telling(
+        rt: R,
+        alloc: Global,
+        address: Option<&str>,
+        limits: TcpLimits,
+        teller: T,
+    ) -> Result<Self, OutOfMemory>
+        ensures { IfOk result (λ link. link
+            ≡ record { is_usable = is_some address.entry; is_open = false; faults = 0 }) }
+    {
+        let address = match address {
+            Some(text) => Some(String::from_str(alloc, text)?),
+            None => None,
+        };
+        Ok(TcpLink {
+            rt,
+            address,
+            limits,
+            session: None,
+            faults: 0,
+            why: None,
+            teller,
+            is_lost: false,
+        })
     }
 
     /// How many calls failed.
@@ -85,7 +113,7 @@ impl<R: Drop> TcpLink<R> {
     }
 }
 
-impl<R> TcpLink<R> {
+impl<R, T> TcpLink<R, T> {
     /// Counts a call that failed, and keeps why.
     fn fail(&mut self, why: Why) -> Failed
         ensures rose { Rose self.old.faults self.new.faults }
@@ -95,6 +123,31 @@ impl<R> TcpLink<R> {
         self.faults = self.faults.saturating_add(1);
         self.why = Some(why);
         Failed
+    }
+}
+
+impl<R, T: LinkTeller> TcpLink<R, T> {
+    /// The same of a call to the server. The teller hears it if it has not heard since the server last answered.
+    fn lose(&mut self, why: Why) -> Failed
+        ensures rose { Rose self.old.faults self.new.faults }
+        ensures counted { self.old.faults ≤ self.new.faults }
+        ensures same { self.new ≡ record self.old { faults = self.new.faults } }
+    {
+        if !self.is_lost {
+            self.is_lost = true;
+            self.teller.out_of_reach(why);
+        }
+        self.fail(why)
+    }
+
+    /// The server sent so many bytes. The teller hears it if it was told before that the server is out of reach.
+    fn hear(&mut self, count: usize)
+        ensures same { self.new ≡ self.old }
+    {
+        if self.is_lost && count > 0 {
+            self.is_lost = false;
+            self.teller.in_reach();
+        }
     }
 }
 
@@ -130,7 +183,7 @@ fn no_session() -> Why {
     Why::refusal("has no open connection")
 }
 
-impl<R: Net<Stream = TcpStream> + time::Clock> Link for TcpLink<R> {
+impl<R: Net<Stream = TcpStream> + time::Clock, T: LinkTeller> Link for TcpLink<R, T> {
     ghost faults = { λ s. s.faults };
 
     ghost log = { λ _. None };
@@ -154,7 +207,7 @@ impl<R: Net<Stream = TcpStream> + time::Clock> Link for TcpLink<R> {
                 self.session = Some(session);
                 Ok(())
             }
-            Err(e) => Err(self.fail(Why::system("cannot be connected to", e))),
+            Err(e) => Err(self.lose(Why::system("cannot be connected to", e))),
         }
     }
 
@@ -171,7 +224,7 @@ impl<R: Net<Stream = TcpStream> + time::Clock> Link for TcpLink<R> {
         };
         match send_within(&self.rt, &mut session.stream, session.term, piece) {
             Ok(()) => Ok(()),
-            Err(why) => Err(self.fail(why)),
+            Err(why) => Err(self.lose(why)),
         }
     }
 
@@ -200,8 +253,11 @@ impl<R: Net<Stream = TcpStream> + time::Clock> Link for TcpLink<R> {
             return Ok(0);
         }
         match read_within(&self.rt, &mut session.stream, session.term, buffer) {
-            Ok(n) => Ok(n),
-            Err(why) => Err(self.fail(why)),
+            Ok(n) => {
+                self.hear(n);
+                Ok(n)
+            }
+            Err(why) => Err(self.lose(why)),
         }
     }
 
