@@ -183,7 +183,7 @@ SERVED = {"connections": 1_000_000, "peers": 4_096, "answers": 4_096}
 def serve_words(words):
     """What the words of `sblistd serve` plan, or None."""
     options = ("journal", "listen", *SERVED, "wait", "find-wait", "cache", "negative")
-    found = options_of(words, ["--" + name for name in options], ("--hold",))
+    found = options_of(words, ["--" + name for name in options], ("--hold", "--quiet"))
     if found is None or found[1] or not {"--journal", "--listen"} <= set(found[0]):
         return None
     said, times = found[0], times_of(found[0])
@@ -194,7 +194,8 @@ def serve_words(words):
         text = said.get("--" + name, "1")
         if re.fullmatch(NUMBER, text) is None or not 1 <= int(text) <= most:
             return None
-    return {"times": times, "connections": int(said.get("--connections", NO_COUNT)), "hold": "--hold" in said}
+    plan = {"times": times, "connections": int(said.get("--connections", NO_COUNT))}
+    return plan | {"hold": "--hold" in said, "quiet": "--quiet" in said}
 
 
 NO_COUNT = 4_294_967_295
@@ -323,6 +324,10 @@ def answer(words, text, journal, make):
 
 # ---- cases
 
+PROGRAMS = {"client": ("sbupdate", "sbcheck"), "server": ("sblistd",), "maker": ("sbjournal",)}
+ASKING = ("--help", "-h", "--version")
+VERSION = "0.1.0"
+
 KNOWN = (
     ["sbupdate", "replay"],
     ["sbupdate", "run"],
@@ -359,9 +364,17 @@ class Run:
     def rest(self, number):
         return self.book.lines[number].partition(b" ")[2]
 
-    def words(self):
+    def line_of_words(self):
         spans = (self.own, self.before, self.group)
-        number = max(self.find(name, spans) or -1 for name in (b"client", b"server", b"maker"))
+        return max(self.find(name, spans) or -1 for name in (b"client", b"server", b"maker"))
+
+    def asks(self):
+        """Whether the words ask about their program."""
+        kind, words = self.book.lines[self.line_of_words()].split(b" ")[0].decode(), self.words()
+        return len(words) == 2 and words[0] in PROGRAMS[kind] and words[1] in ASKING
+
+    def words(self):
+        number = self.line_of_words()
         words = self.rest(number).decode().split(" ")
         return ["" if word == '""' else word for word in words]
 
@@ -475,7 +488,11 @@ class Run:
             came.extend(zip(self.told(cut), (report.sent, report.moments, report.handed)))
             return report.printed, report.status
 
-        printed, found = answer(self.words(), text, journal, make)
+        words = self.words()
+        if self.asks():
+            printed, found = f"{words[0]} {VERSION}\n".encode() if words[1] == "--version" else None, 0
+        else:
+            printed, found = answer(words, text, journal, make)
         usage = printed is None and wanted.startswith(b"usage: ")
         same = status == found and (usage or printed == wanted)
         fronts = max(more, further, *(fronts for _, fronts in texts))

@@ -149,7 +149,8 @@ def serve(plan, journal, turns):
                     printed.append(f"journal {fault}")
             response, ending = turn(good, given, plan["times"])
             written[-1] = response
-            printed.append(f"connection {number} answered {ending}")
+            if not plan["quiet"]:
+                printed.append(f"connection {number} answered {ending}")
     except server.BadJournal as fault:
         printed.append(f"journal {fault}")
         return Served("".join(line + "\n" for line in printed).encode("ascii"), 7, written)

@@ -12,7 +12,7 @@ trap '[ -n "$server" ] && kill "$server" 2> /dev/null; rm -rf "$folder"' EXIT
 port=$(free_port)
 
 : > "$folder/printed"
-cp crates/sblistd/data/journal "$folder/lists"
+cp demo/journal "$folder/lists"
 bin/sblistd serve --journal "$folder/lists" --listen "127.0.0.1:$port" --connections 2 --wait 5 &
 server=$!
 sleep 1

@@ -227,7 +227,8 @@ def faults_of_clause_lists(page, code):
 def known_options():
     """The options in the shapes of the commands, as the definitions of any crate have them."""
     texts = (Code.texts(it, "specs", "antt") for it in os.listdir(CRATES))
-    return {f"--{it}" for text in texts for it in re.findall(r'\b(?:needed|optional|flag) \(codes "([a-z-]+)"\)', text)}
+    named = {f"--{it}" for text in texts for it in re.findall(r'\b(?:needed|optional|flag) \(codes "([a-z-]+)"\)', text)}
+    return named | set(re.findall(r'bytes_eq word \(codes "(--[a-z]+)"\)', Code.texts("sb_words", "specs", "antt")))
 
 
 def statuses_of(end):

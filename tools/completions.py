@@ -4,7 +4,7 @@
     completions.py write    writes them
     completions.py check    fails if one is another, or if bash proposes something else by it
 
-First come the commands of a program. Behind a command come its options, each until it is given, and if the command takes lists
+First come the commands of a program, and what asks about it. Behind a command come its options, each until it is given, and if the command takes lists
 their names, of the table of docs/FORMATS.md. Behind an option come files, if it takes a PATH, or its words, as those of
 `fetch|find|lookup`. Nothing is proposed for a number, an address or a key.
 """
@@ -100,7 +100,7 @@ def text_of(program):
     commands = commands_of(program)
     return TEXT.format(
         program=program,
-        commands=" ".join(it.name for it in commands),
+        commands=" ".join([*(it.name for it in commands), *man_pages.ASKING]),
         values="\n".join(value_lines(commands)) or "    *) ;;",
         words="\n".join(word_lines(commands)) or "    *) ;;",
     )
@@ -118,7 +118,7 @@ def proposed(program, text, lines):
 
 def faults_of_proposals(program, text):
     commands = commands_of(program)
-    wanted = [([""], [it.name for it in commands])]
+    wanted = [([""], [*(it.name for it in commands), *man_pages.ASKING]), (["--"], [it for it in man_pages.ASKING if it[1] == "-"])]
     for command in commands:
         lists = list_names() if takes_lists(command) else []
         wanted.append(([command.name, "-"], list(command.options)))

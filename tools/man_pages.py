@@ -38,8 +38,12 @@ PROGRAMS = {
 }
 
 # a session reads files of the repository; whoever installed the programs has others
-OTHER_NAMES = {"crates/sblistd/data/journal": "lists", "crates/sblistd/stdin": "request", "demo/recording.jsonl": "recording", "bin/": ""}
+OTHER_NAMES = {"demo/journal": "lists", "demo/request.json": "request", "demo/recording.jsonl": "recording", "bin/": ""}
 LONGEST_LINE = 120
+WIDEST_USAGE = 100
+
+# what asks about a program itself, each as the only word after its name
+ASKING = ("--help", "-h", "--version")
 
 # commands that print a form which has a section of its own, or what they read
 WITHOUT_LINES = {
@@ -104,31 +108,46 @@ def literal_of(crate, name):
 
 
 class Command:
-    """A command of a usage text: its line, and the sentence below it."""
+    """A command of a usage text: its line, which goes on with lines that begin with a bracket, and the sentence below it."""
 
-    def __init__(self, line, sentence):
-        self.line, self.sentence = line, sentence
+    def __init__(self, line):
+        self.line, self.sentence = line, ""
         self.name = line.split()[1]
-        self.options = {found[1]: found[2] for found in re.finditer(r"(--[a-z-]+)(?: ([^\s\]-][^\s\]]*))?", line)}
+
+    @property
+    def options(self):
+        return {found[1]: found[2] for found in re.finditer(r"(--[a-z-]+)(?: ([^\s\]-][^\s\]]*))?", self.line)}
 
 
-def commands_of(program, usage):
-    """The commands of a usage text: `usage: PROGRAM COMMAND`, an empty line, and for each its line and its sentence."""
+def entries_of(program, usage):
+    """The entries of a usage text: `usage: PROGRAM COMMAND`, an empty line, and for each its line and its sentence. The last says what
+    may be asked about the program itself."""
     first, *rest = usage.rstrip("\n").split("\n")
     if first != f"usage: {program} COMMAND" or not rest or rest[0]:
         raise Fault(f"the usage text of {program} does not begin with its line and an empty one")
     commands = []
     for line in rest[1:]:
         if re.match(rf"  {program} \S", line):
-            commands.append(Command(line.strip(), ""))
+            commands.append(Command(line.strip()))
+        elif re.match(r" {6}\[", line) and commands and not commands[-1].sentence:
+            commands[-1].line += f" {line.strip()}"
         elif re.match(r" {6}\S", line) and commands:
             commands[-1].sentence = f"{commands[-1].sentence} {line.strip()}".strip()
         else:
             raise Fault(f"the usage text of {program} has a line that is no command and no sentence: {line}")
+        if len(line) > WIDEST_USAGE:
+            raise Fault(f"the usage text of {program} has a line of more than {WIDEST_USAGE} columns: {line}")
     for command in commands:
         if not command.sentence:
             raise Fault(f"the usage text of {program} says nothing of {command.name}")
+    if not commands or commands[-1].line != f"{program} {' | '.join(ASKING)}":
+        raise Fault(f"the usage text of {program} does not end with {' | '.join(ASKING)}")
     return commands
+
+
+def commands_of(program, usage):
+    """The commands of a usage text."""
+    return entries_of(program, usage)[:-1]
 
 
 class Tables:
@@ -346,7 +365,7 @@ def version_of(changes):
 
 def page_of(program, readme, formats):
     crate, constant = PROGRAMS[program]
-    commands = commands_of(program, literal_of(crate, constant))
+    *commands, asking = entries_of(program, literal_of(crate, constant))
     names = [it.name for it in commands]
     tables = Tables(formats)
     about = re.match(r"//! (.*)", text_of(f"crates/{program}/src/main.rt"))[1].rstrip(".")
@@ -362,7 +381,7 @@ def page_of(program, readme, formats):
         f"{program} \\- {plain(about[:1].lower() + about[1:])}",
         ".SH SYNOPSIS",
     ]
-    for at, command in enumerate(commands):
+    for at, command in enumerate([*commands, asking]):
         lines += ([".br"] if at else []) + [of_line(command.line)]
     lines += [".SH DESCRIPTION", *sentences(first_paragraph(readme))]
     for note in NOTES[program]:
@@ -370,6 +389,7 @@ def page_of(program, readme, formats):
     lines += [".SH COMMANDS"]
     for command in commands:
         lines += [".TP", f"\\fB{escaped(command.name)}\\fP", plain(sentence(command.sentence))]
+    lines += [".TP", ", ".join(f"\\fB{escaped(it)}\\fP" for it in ASKING), plain(sentence(asking.sentence))]
     if options:
         lines += [".SH OPTIONS", *option_lines(options, commands)]
     lines += [".SH OUTPUT", *output_lines(tables.lines_for(names), commands)]
@@ -394,6 +414,13 @@ def faults_of_quotes(program, formats):
         yield f"{FORMATS} has not the usage text of {program}, word for word, between fences of its own"
 
 
+def faults_of_version():
+    """The version that the programs tell is that of the first heading of CHANGELOG."""
+    told, headed = literal_of("sb_words", "VERSION"), version_of(text_of("CHANGELOG.md"))[0]
+    if told != headed:
+        yield f"the programs tell the version {told}, and CHANGELOG.md begins with {headed}"
+
+
 def faults_of_statuses(program, readme, formats):
     """README's table of statuses has for a program those of its commands."""
     names = [it.name for it in commands_of(program, literal_of(*PROGRAMS[program]))]
@@ -416,6 +443,7 @@ def faults():
     readme, formats = check_documents.Page(README), check_documents.Page(FORMATS)
     try:
         made = pages()
+        yield from faults_of_version()
         for program in PROGRAMS:
             yield from faults_of_quotes(program, formats)
             yield from faults_of_statuses(program, readme, formats)

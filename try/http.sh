@@ -378,3 +378,23 @@ ends "a journal as store" 4 "does not begin as one" \
   bin/sbupdate run --store "$folder/journal" --server 127.0.0.1:1 --rounds 1 "$LIST"
 cmp "$folder/first" "$folder/journal" || fail "the journal was changed"
 [ ! -e "$folder/journal.lock" ] || fail "the journal has a lock"
+
+# ---- words that ask about a program, and a quiet run
+
+version=$(sed -n 's/^## \[\([0-9.]*\)\].*/\1/p' CHANGELOG.md | head -1)
+for program in sbupdate sbcheck sblistd sbjournal; do
+  [ "$("bin/$program" --version)" = "$program $version" ] || fail "the version of $program is $("bin/$program" --version)"
+  [ "$("bin/$program" --help | head -1)" = "usage: $program COMMAND" ] || fail "$program --help prints $("bin/$program" --help)"
+  "bin/$program" -h > "$folder/help" || fail "$program -h ended with status $?"
+  cmp -s "$folder/help" <("bin/$program" --help) || fail "-h and --help of $program differ"
+done
+echo "each program tells its version, $version, and its usage"
+ends "a version that cannot be written" 3 "standard output cannot be written: No space left on device" \
+  bash -c 'exec "$@" > /dev/full' - bin/sblistd --version
+port=$(free_port)
+bin/sblistd serve --journal "$folder/journal" --listen "127.0.0.1:$port" --connections 2 --quiet > "$folder/printed" &
+server=$!
+expect "a fetch from a quiet server" 200 --data "$request" "http://127.0.0.1:$port/v4/threatListUpdates:fetch"
+expect "what it has no answer to" 404 "http://127.0.0.1:$port/other"
+ended
+[ ! -s "$folder/printed" ] || fail "a quiet server printed $(< "$folder/printed")"

@@ -1,6 +1,7 @@
 -- What the words of a command line give.
 use Rattle.std.proofs.Common.{◌≡◌, ℕ, suc, ◌≤◌, List, [], ◌∷◌, Bool, true, false, length, refl, ap, subst, arith, Option, Some, None}
 use Rattle.std.specs.Prelude.{⊤, ◌&&◌, IfSome, if◌then◌else◌, codes, nat_le, nat_lt, option_and_then, option_map, unwrap_or}
+use Rattle.std.specs.Option.{option_or}
 use Rattle.std.specs.Result.{result_ok}
 use Rattle.std.specs.Str.{bytes_eq}
 use Rattle.std.specs.Str.Parse.{digits_value}
@@ -12,8 +13,8 @@ use Rattle.sb_words.specs.CommandLine.{Given, Text, given_of, value_among}
 use Rattle.sb_words.specs.Values.{different, few_names_of, has_each_once, is_numeral, lists_of, names_of, number_of, within}
 use Rattle.journal_run.specs.declared.command.Call.{Call}
 use Rattle.journal_run.specs.declared.command.Command.{Command}
-use Rattle.journal_run.specs.declared.command.Command.TheVariants.{New, Change, Check, Compact}
-use Rattle.journal_run.specs.Command.{call_named, call_of, change_given, change_shape, command_of, has_given, has_shape, list_given, new_given, new_shape, plain_call, plain_shape, size_given, size_of, sync_given, sync_shape}
+use Rattle.journal_run.specs.declared.command.Command.TheVariants.{New, Change, Check, Compact, Tell}
+use Rattle.journal_run.specs.Command.{call_behind, call_named, call_of, change_given, change_shape, command_of, has_given, has_shape, list_given, new_given, new_shape, plain_call, plain_shape, size_given, size_of, sync_given, sync_shape, asks_of_maker}
 
 -- ---- what may be there
 
@@ -36,6 +37,10 @@ some_mapped Q P f (Some a) h k = k a h
 some_of_any : {A B : Type 0} (P : B → Type 0) (f : A → B) (o : Option A) → ((a : A) → P (f a)) → IfSome (option_map f o) P
 some_of_any P f None h = tt
 some_of_any P f (Some a) h = h a
+
+some_either : {A : Type 0} (P : A → Type 0) (x y : Option A) → IfSome x P → IfSome y P → IfSome (option_or x y) P
+some_either P None y h k = k
+some_either P (Some a) y h k = h
 
 both : (a b : Bool) → (a && b) ≡ true → (a ≡ true) × (b ≡ true)
 both true b e = (refl, e)
@@ -133,11 +138,16 @@ named_is name words =
     (some_if IsGivenCall (bytes_eq name (codes "check")) _ _ (λ e. some_of_any IsGivenCall (λ _. plain_call Check) (given_of plain_shape words) (λ given. tt))
     (some_if IsGivenCall (bytes_eq name (codes "compact")) _ None (λ e. some_of_any IsGivenCall (λ _. plain_call Compact) (given_of plain_shape words) (λ given. tt)) tt)))))
 
+call_behind_is : (words : List Text) → IfSome (call_behind words) IsGivenCall
+call_behind_is [] = tt
+call_behind_is (program ∷ []) = tt
+call_behind_is (program ∷ name ∷ words) = some_if IsGivenCall (bytes_eq program (codes "sbjournal")) (call_named name words) None (λ e. named_is name words) tt
+
 call_is : (words : List Text) → IfSome (call_of words) IsGivenCall
 unfolding call_of
-call_is [] = tt
-call_is (program ∷ []) = tt
-call_is (program ∷ name ∷ words) = some_if IsGivenCall (bytes_eq program (codes "sbjournal")) (call_named name words) None (λ e. named_is name words) tt
+call_is words =
+    some_either IsGivenCall (option_map (λ about. plain_call (Tell about)) (asks_of_maker words)) (call_behind words)
+    (some_of_any IsGivenCall (λ about. plain_call (Tell about)) (asks_of_maker words) (λ about. tt)) (call_behind_is words)
 
 command_has : (call : Option Call) (command : Command) → IfSome call IsGivenCall → option_map (λ (c : Call). c.command) call ≡ Some command → HasGiven command
 command_has None command h e = absurd (cc)

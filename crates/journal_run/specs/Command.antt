@@ -1,5 +1,6 @@
 -- The command lines that the program takes.
 use Rattle.std.specs.Prelude.{ℕ, Bool, true, false, if◌then◌else◌, List, [], ◌∷◌, Option, Some, None, is_some, option_map, option_and_then, unwrap_or, codes}
+use Rattle.std.specs.Option.{option_or}
 use Rattle.std.specs.Result.{result_ok}
 use Rattle.std.specs.Str.{bytes_eq, chars}
 use Rattle.sb_model.specs.declared.names.ListName.{ListName}
@@ -7,9 +8,11 @@ use Rattle.sb_model.specs.Names.{name_of}
 use Rattle.sb_words.specs.declared.shape.OptionKind.TheVariants.{Needed, Optional, Flag}
 use Rattle.sb_words.specs.CommandLine.{Text, CommandOption, CommandShape, Given, given_of, value_among}
 use Rattle.sb_words.specs.Values.{lists_of, number_of}
+use Rattle.sb_words.specs.About.{about_of}
+use Rattle.sb_words.specs.declared.asking.About.{About}
 use Rattle.journal_run.specs.declared.command.Call.{Call}
 use Rattle.journal_run.specs.declared.command.Command.{Command}
-use Rattle.journal_run.specs.declared.command.Command.TheVariants.{New, Sync, Change, Check, Has, Compact}
+use Rattle.journal_run.specs.declared.command.Command.TheVariants.{New, Sync, Change, Check, Has, Compact, Tell}
 
 abbrev pub needed : Text → CommandOption
 needed name = record { name = name; kind = Needed }
@@ -100,10 +103,18 @@ call_named name words =
     else if bytes_eq name (codes "compact") then option_map (λ _. plain_call Compact) (given_of plain_shape words)
     else None
 
+-- what words say behind the program's name and the name of a command
+abbrev pub call_behind : List Text → Option Call
+call_behind (program ∷ name ∷ words) = if bytes_eq program (codes "sbjournal") then call_named name words else None
+call_behind words = None
+
+-- what the words `sbjournal --help`, `sbjournal -h` or `sbjournal --version` ask about the program
+abbrev pub asks_of_maker : List Text → Option About
+asks_of_maker words = about_of (codes "sbjournal") words
+
 -- what the words of a command line say, of which the first is the program's name
 unfoldable pub call_of : List Text → Option Call
-call_of (program ∷ name ∷ words) = if bytes_eq program (codes "sbjournal") then call_named name words else None
-call_of words = None
+call_of words = option_or (option_map (λ about. plain_call (Tell about)) (asks_of_maker words)) (call_behind words)
 
 -- the command that the words are, and the path of the journal that it needs
 abbrev pub command_of : List Text → Option Command
@@ -126,4 +137,5 @@ reads_journal command = false
 
 abbrev pub reads_input : Command → Bool
 reads_input (New line) = false
+reads_input (Tell about) = false
 reads_input command = true

@@ -1,9 +1,11 @@
 ghost use Rattle.std.specs.Prelude.{◌≡◌, IfOk, IsTrue, map, is_some, option_map, option_and_then, string_bytes};
 ghost use Rattle.sb_words.specs.CommandLine.{Given, given_of};
-ghost use Rattle.journal_run.specs.Command.{call_named as call_named_by, call_of, change_given, change_shape, has_given, has_shape, list_given, new_given, new_shape, plain_call, plain_shape, size_given, sync_given, sync_shape};
+ghost use Rattle.journal_run.specs.Command.{call_behind, call_named as call_named_by, call_of, change_given, change_shape, has_given, has_shape, list_given, new_given, new_shape, plain_call, plain_shape, size_given, sync_given, sync_shape};
 
 use sb_model::{ListName, OutOfMemory, Row, Text, read_list_name};
-use sb_words::{OptionKind, OptionShape, Shape, Words, lists, number, read_words};
+use sb_words::{
+    About, OptionKind, OptionShape, Shape, Words, asked_about, lists, number, read_words,
+};
 use std::alloc::Global;
 
 /// The words of `new`.
@@ -106,6 +108,8 @@ pub(crate) enum Command {
     Check,
     Has(ListName),
     Compact,
+    /// What is asked about the program.
+    Tell(About),
 }
 
 /// What a command line says.
@@ -305,10 +309,9 @@ fn call_named(alloc: Global, name: &str, words: &[String]) -> Result<Option<Call
     }
 }
 
-/// What the words of a command line say; `None` if they are none. The first is the program's name.
-#[tactic(auto, unfolding(crate::specs::Command::call_of))]
-pub(crate) fn call_of(alloc: Global, words: &[String]) -> Result<Option<Call>, OutOfMemory>
-    ensures { IfOk result (λ call. call ≡ call_of (map string_bytes words.now)) }
+/// What words say behind the program's name and the name of a command.
+fn call_behind(alloc: Global, words: &[String]) -> Result<Option<Call>, OutOfMemory>
+    ensures { IfOk result (λ call. call ≡ call_behind (map string_bytes words.now)) }
 {
     let [program, name, rest @ ..] = words else {
         return Ok(None);
@@ -317,4 +320,18 @@ pub(crate) fn call_of(alloc: Global, words: &[String]) -> Result<Option<Call>, O
         return Ok(None);
     }
     call_named(alloc, name.as_str(), rest)
+}
+
+/// What the words of a command line say; `None` if they are none. The first is the program's name.
+#[tactic(auto, unfolding(crate::specs::Command::call_of))]
+pub(crate) fn call_of(alloc: Global, words: &[String]) -> Result<Option<Call>, OutOfMemory>
+    ensures { IfOk result (λ call. call ≡ call_of (map string_bytes words.now)) }
+{
+    match asked_about(words, "sbjournal") {
+        Some(about) => Ok(Some(Call {
+            command: Command::Tell(about),
+            journal: None,
+        })),
+        None => call_behind(alloc, words),
+    }
 }

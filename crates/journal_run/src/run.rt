@@ -1,4 +1,4 @@
-ghost use Rattle.std.specs.Prelude.{◌≡◌, ◌≢◌, ◌⊎◌, ◌<◌, ◌^◌, ℕ, false, length, map, string_bytes, None, Ok, Some, IfOk, OnErr};
+ghost use Rattle.std.specs.Prelude.{◌≡◌, ◌≢◌, ◌⊎◌, ◌<◌, ◌^◌, ℕ, false, length, map, string_bytes, codes, None, Ok, Some, IfOk, OnErr};
 ghost use Rattle.sb_model.specs.declared.names.ListName.{ListName as Name};
 ghost use Rattle.sb_outside.specs.Outside.{Rose};
 ghost use Rattle.journal_run.specs.Changed.{IsChangeReply};
@@ -10,7 +10,10 @@ ghost use Rattle.journal_run.specs.Fresh.{IsNewRun};
 ghost use Rattle.journal_run.specs.Runs.{AfterFault, AreCounted, IsFeedRun, IsInputRun, IsJournalRun, IsStatus};
 ghost use Rattle.journal_run.specs.Stops.{EndsCommand, status_of};
 ghost use Rattle.journal_run.specs.Synced.{IsSyncReply};
-ghost use Rattle.journal_run.specs.Written.{TellsUsage};
+ghost use Rattle.journal_run.specs.Printed.{done_with};
+ghost use Rattle.journal_run.specs.Written.{IsWritten, TellsUsage};
+ghost use Rattle.sb_words.specs.About.{about_text};
+ghost use Rattle.sb_words.specs.declared.asking.About.{About as Asking};
 ghost use Rattle.journal_run.specs.declared.command.Command.{Command as Asked};
 ghost use Rattle.journal_run.specs.declared.command.ChangeLine.{ChangeLine as Changing};
 ghost use Rattle.journal_run.specs.declared.command.NewLine.{NewLine as Making};
@@ -29,6 +32,7 @@ use list_versions::{History, JournalFault};
 use sb_journal::read_urls;
 use sb_model::{ListName, OutOfMemory};
 use sb_outside::{Dice, Failed, InputFault, Sink, Source, write_all};
+use sb_words::{About, about_text};
 use std::alloc::Global;
 
 /// What is printed if the words are no command line.
@@ -44,7 +48,9 @@ pub const USAGE: &str = "usage: sbjournal COMMAND\n\n  \
     sbjournal has LIST --journal PATH\n      \
     reads URLs, and writes for each which of its expressions the list has\n  \
     sbjournal compact\n      \
-    reads a journal, and writes one with a new epoch that has what its lists have now\n";
+    reads a journal, and writes one with a new epoch that has what its lists have now\n  \
+    sbjournal --help | -h | --version\n      \
+    writes this text, or the version\n";
 
 /// Tells how the program is used.
 fn tell_usage<O: Sink>(out: &mut O) -> u8
@@ -55,6 +61,20 @@ fn tell_usage<O: Sink>(out: &mut O) -> u8
         Ok(()) => status_of(Stop::NoCommand),
         Err(Failed) => status_of(Stop::NoCommand),
     }
+}
+
+/// Prints what is asked about the program.
+fn tell<O: Sink>(alloc: Global, about: About, out: &mut O) -> Result<Stop, OutOfMemory>
+    ensures written { IfOk result (λ stop. IsWritten (done_with (about_text about (codes "sbjournal") USAGE.now)) (status_of stop)
+        (O.contents out.old) (O.contents out.new)) }
+    ensures ends { IfOk result EndsCommand }
+    ensures read { result ≢ Ok Stop.ReadFault }
+    ensures failed { result ≡ Ok Stop.WriteFault → Rose (O.faults out.old) (O.faults out.new) }
+    ensures kept { result ≢ Ok Stop.WriteFault → O.faults out.new ≡ O.faults out.old }
+    ensures memory { OnErr result (out.new ≡ out.old) }
+{
+    let reply = Reply::done(about_text(alloc, about, "sbjournal", USAGE)?);
+    Ok(reply.print(out))
 }
 
 /// Says why a journal is no history.
@@ -286,6 +306,8 @@ fn run_command<J: Source, S: Source, O: Sink, D: Dice>(
     ensures compacts { IfOk result (λ stop. command.now ≡ Command.Compact
         → IsCompactRun (status_of stop) (D.given dice.old) (D.given dice.new) (S.left input.old) (S.left input.new)
         (O.contents out.old) (O.contents out.new)) }
+    ensures tells { IfOk result (λ stop. (about : Asking) → command.now ≡ Command.Tell about
+        → IsWritten (done_with (about_text about (codes "sbjournal") USAGE.now)) (status_of stop) (O.contents out.old) (O.contents out.new)) }
     ensures no_journal { reads_journal command.now ≡ false → journal.new ≡ journal.old }
     ensures no_input { reads_input command.now ≡ false → input.new ≡ input.old }
     ensures no_draw { draws_epoch command.now ≡ false → dice.new ≡ dice.old }
@@ -305,6 +327,7 @@ fn run_command<J: Source, S: Source, O: Sink, D: Dice>(
         Command::Check => check(alloc, input, out),
         Command::Has(list) => has(alloc, *list, journal, input, out),
         Command::Compact => compact(alloc, input, out, dice),
+        Command::Tell(about) => tell(alloc, *about, out),
     }
 }
 
@@ -316,6 +339,8 @@ fn run_command<J: Source, S: Source, O: Sink, D: Dice>(
 /// records that they say. `sync` and `has` read URLs from the input, and then the journal: `sync` writes the records after
 /// which a list has exactly these URLs, and `has` which of their expressions a list has. `compact` draws an epoch, reads a
 /// journal from the input, and writes a journal 2 with this epoch, in which each list has what it has now, by additions alone.
+///
+/// `--help`, `-h` and `--version`, each as the only word after the name, write the usage text or the version. Nothing is read.
 ///
 /// | Status | Comes |
 /// |---|---|
@@ -365,6 +390,10 @@ pub fn run_journal<J: Source, S: Source, O: Sink, D: Dice>(
     ensures compacts { command_of (map string_bytes words.now) ≡ Some Command.Compact → result ≢ 8
         → IsCompactRun result (D.given dice.old) (D.given dice.new) (S.left input.old) (S.left input.new)
         (O.contents out.old) (O.contents out.new) }
+
+    // Words that ask about the program: the usage text, or a line of the program's name and its version.
+    ensures tells { (about : Asking) → command_of (map string_bytes words.now) ≡ Some (Command.Tell about) → result ≢ 8
+        → IsWritten (done_with (about_text about (codes "sbjournal") USAGE.now)) result (O.contents out.old) (O.contents out.new) }
 
     // What a command does not use stays as it was.
     ensures no_journal { (command : Asked) → command_of (map string_bytes words.now) ≡ Some command

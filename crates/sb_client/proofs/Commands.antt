@@ -16,9 +16,13 @@ use Rattle.http_edge.specs.declared.messages.Target.{Target}
 use Rattle.judge_beside.specs.declared.plan.BesidePlan.{BesidePlan}
 use Rattle.sb_client.specs.declared.command.Command.{Command}
 use Rattle.update_run.specs.declared.plan.Plan.{Plan}
-use Rattle.sb_client.specs.declared.command.Command.TheVariants.{Replay, Run, Judge, Show, Vectors}
+use Rattle.sb_client.specs.declared.command.Command.TheVariants.{Replay, Run, Judge, Show, Vectors, Tell}
 use Rattle.sb_client.proofs.OneLines.{server_line, key_line, no_key_line}
-use Rattle.sb_client.specs.Command.{replay_shape, run_shape, judge_shape, bare_shape, given_to, lists_given, server_given, rounds_given, key_of, key_given, options_given, number_or, patience_given, updates_given, workers_given, has_flag, Asking, asking_of, asking_given, target_of, run_with, run_given, RunWords, run_words, judge_with, judge_given, JudgeWords, judge_words, replay_of, run_of, judge_of, asks_show, asks_vectors, IsNoCommand, IsCommandOf, AreFew, AreWorkers, IsSound}
+use Rattle.sb_client.specs.Command.{replay_shape, run_shape, judge_shape, bare_shape, given_to, lists_given, server_given, rounds_given, key_of, key_given, options_given, number_or, patience_given, updates_given, workers_given, has_flag, Asking, asking_of, asking_given, target_of, run_with, run_given, RunWords, run_words, judge_with, judge_given, JudgeWords, judge_words, replay_of, run_of, judge_of, asks_show, asks_vectors, asked_text_of, MakesItsText, IsNoCommand, IsCommandOf, AreFew, AreWorkers, IsSound}
+use Rattle.sb_client.specs.declared.texts.TheConstants.{CHECK_USAGE, UPDATE_USAGE}
+use Rattle.sb_words.specs.About.{about_of, about_text, asked_by}
+use Rattle.sb_words.specs.declared.asking.About.{About}
+use Rattle.std.specs.Option.{option_or}
 
 -- what is known of a value
 pub ok_same : {T E A : Type 0} (r : Result T E) (f : T → A) (a b : A) → a ≡ b → IfOk r (λ x. f x ≡ a) → IfOk r (λ x. f x ≡ b)
@@ -223,6 +227,7 @@ is_sound words (Judge plan) e =
     subst (λ (plan : BesidePlan). AreFew plan.names × IsTarget plan.target × AreWorkers plan.workers) line.2 (sound_judge words line.0 line.1)
 is_sound words Show e = tt
 is_sound words Vectors e = tt
+is_sound words (Tell text) e = tt
 
 -- ---- a word is no other
 
@@ -248,15 +253,15 @@ and_false_then true b h = h
 
 -- ---- the words of a run, and of a judging
 
-by_line : (words : List (List ℕ)) (line : Option RunWords) → run_of words ≡ line → replay_of words ≡ None → judge_of words ≡ None → asks_show words ≡ false → asks_vectors words ≡ false
+by_line : (words : List (List ℕ)) (line : Option RunWords) → run_of words ≡ line → replay_of words ≡ None → judge_of words ≡ None → asks_show words ≡ false → asks_vectors words ≡ false → asked_text_of words ≡ None
     → IsCommandOf words (option_map Run (option_map (λ (line : RunWords). line.plan) line))
-by_line words None e r j s v = record { replay = r; run = e; judge = j; show = s; vectors = v }
-by_line words (Some line) e r j s v = ap (option_map (λ (line : RunWords). line.plan)) e
+by_line words None e r j s v t = record { replay = r; run = e; judge = j; show = s; vectors = v; told = t }
+by_line words (Some line) e r j s v t = ap (option_map (λ (line : RunWords). line.plan)) e
 
-by_judge_line : (words : List (List ℕ)) (line : Option JudgeWords) → judge_of words ≡ line → replay_of words ≡ None → run_of words ≡ None → asks_show words ≡ false → asks_vectors words ≡ false
+by_judge_line : (words : List (List ℕ)) (line : Option JudgeWords) → judge_of words ≡ line → replay_of words ≡ None → run_of words ≡ None → asks_show words ≡ false → asks_vectors words ≡ false → asked_text_of words ≡ None
     → IsCommandOf words (option_map Judge (option_map (λ (line : JudgeWords). line.plan) line))
-by_judge_line words None e r u s v = record { replay = r; run = u; judge = e; show = s; vectors = v }
-by_judge_line words (Some line) e r u s v = ap (option_map (λ (line : JudgeWords). line.plan)) e
+by_judge_line words None e r u s v t = record { replay = r; run = u; judge = e; show = s; vectors = v; told = t }
+by_judge_line words (Some line) e r u s v t = ap (option_map (λ (line : JudgeWords). line.plan)) e
 
 -- whether two words are these
 abbrev are : List ℕ → List ℕ → List ℕ → List ℕ → Bool
@@ -285,21 +290,21 @@ module _ (first second : List ℕ) (rest : List (List ℕ)) where
   no_bare : (command : List ℕ) → are (codes "sbcheck") command first second ≡ false → is_some (given_to (codes "sbcheck") command bare_shape (first ∷ second ∷ rest)) ≡ false
   no_bare command e = ap (λ (b : Bool). is_some (cond b (given_of bare_shape rest) None)) e
 
-  run_words_are : IsRunTold first second
+  run_words_are : IsRunTold first second → asked_text_of (first ∷ second ∷ rest) ≡ None
       → IsCommandOf (first ∷ second ∷ rest) (option_map Run (option_map (λ (line : RunWords). line.plan) (option_and_then run_given (given_of run_shape rest))))
-  run_words_are told =
+  run_words_are told t =
       let check : bytes_eq first (codes "sbcheck") ≡ false = differs first (codes "sbupdate") (codes "sbcheck") (λ e. absurd (cc)) (and_true _ _ told.1).0 in
       by_line (first ∷ second ∷ rest) _ (run_words_by true told.1) (replay_words false told.0) (judge_words_by false (and_false _ _ check))
-      (no_bare (codes "show") (and_false _ _ check)) (no_bare (codes "vectors") (and_false _ _ check))
+      (no_bare (codes "show") (and_false _ _ check)) (no_bare (codes "vectors") (and_false _ _ check)) t
 
-  judge_words_are : IsJudgeTold first second
+  judge_words_are : IsJudgeTold first second → asked_text_of (first ∷ second ∷ rest) ≡ None
       → IsCommandOf (first ∷ second ∷ rest) (option_map Judge (option_map (λ (line : JudgeWords). line.plan) (option_and_then judge_given (given_of judge_shape rest))))
-  judge_words_are told =
+  judge_words_are told t =
       let command : bytes_eq second (codes "judge") ≡ true = (and_true _ _ told.2).1 in
       let show : bytes_eq second (codes "show") ≡ false = differs second (codes "judge") (codes "show") (λ e. absurd (cc)) command in
       let vectors : bytes_eq second (codes "vectors") ≡ false = differs second (codes "judge") (codes "vectors") (λ e. absurd (cc)) command in
       by_judge_line (first ∷ second ∷ rest) _ (judge_words_by true told.2) (replay_words false told.0) (run_words_by false told.1)
-      (no_bare (codes "show") (and_false_then _ _ show)) (no_bare (codes "vectors") (and_false_then _ _ vectors))
+      (no_bare (codes "show") (and_false_then _ _ show)) (no_bare (codes "vectors") (and_false_then _ _ vectors)) t
 
 ok_gives : {T E : Type 0} (P Q : T → Type 0) (r : Result T E) → ((x : T) → P x → Q x) → IfOk r P → IfOk r Q
 ok_gives P Q (Ok x) f h = f x h
@@ -307,37 +312,38 @@ ok_gives P Q (Err e) f h = tt
 
 -- the same of words that a slice holds
 module _ (Told : List ℕ → List ℕ → Type 0) (asked : List (List ℕ) → Option Command)
-    (meant : (first second : List ℕ) (rest : List (List ℕ)) → Told first second → IsCommandOf (first ∷ second ∷ rest) (asked rest)) where
+    (meant : (first second : List ℕ) (rest : List (List ℕ)) → Told first second → asked_text_of (first ∷ second ∷ rest) ≡ None
+    → IsCommandOf (first ∷ second ∷ rest) (asked rest)) where
   words_asked : {S E : Type 0} (text : S → List ℕ) (words : List S) (first second : S) (n : ℕ) (result : Result (Option Command) E)
       → 2 ≤ length words → n ≡ length words - 2 → first ≡ get_or words 0 first → second ≡ get_or words 1 second
-      → Told (text first) (text second)
+      → Told (text first) (text second) → asked_text_of (map text words) ≡ None
       → IfOk result (λ command. command ≡ asked (map text (take n (drop 2 words))))
       → IfOk result (λ command. IsCommandOf (map text words) command)
-  words_asked text [] first second n result two count at0 at1 told h = absurd (omega (arith, two))
-  words_asked text (a ∷ []) first second n result two count at0 at1 told h = absurd (omega (arith, two))
-  words_asked {S = S} text (a ∷ b ∷ rest) first second n result two count at0 at1 told h =
+  words_asked text [] first second n result two count at0 at1 told t h = absurd (omega (arith, two))
+  words_asked text (a ∷ []) first second n result two count at0 at1 told t h = absurd (omega (arith, two))
+  words_asked {S = S} text (a ∷ b ∷ rest) first second n result two count at0 at1 told t h =
       let here : Told (text a) (text b) = subst (λ (x : S). Told (text x) (text b)) at0 (subst (λ (y : S). Told (text first) (text y)) at1 told) in
       let all : take n rest ≡ rest = take_all n rest (omega (arith, count)) in
       ok_gives _ _ result (λ command is. subst (IsCommandOf (text a ∷ text b ∷ map text rest)) (sym is)
-      (subst (λ (more : List S). IsCommandOf (text a ∷ text b ∷ map text rest) (asked (map text more))) (sym all) (meant (text a) (text b) (map text rest) here))) h
+      (subst (λ (more : List S). IsCommandOf (text a ∷ text b ∷ map text rest) (asked (map text more))) (sym all) (meant (text a) (text b) (map text rest) here t))) h
 
 pub run_asked : {S E : Type 0} (text : S → List ℕ) (words : List S) (first second : S) (n : ℕ) (result : Result (Option Command) E)
     → 2 ≤ length words → n ≡ length words - 2 → first ≡ get_or words 0 first → second ≡ get_or words 1 second
-    → IsRunTold (text first) (text second)
+    → IsRunTold (text first) (text second) → asked_text_of (map text words) ≡ None
     → IfOk result (λ command. command ≡ option_map Run (option_map (λ (line : RunWords). line.plan) (option_and_then run_given (given_of run_shape (map text (take n (drop 2 words)))))))
     → IfOk result (λ command. IsCommandOf (map text words) command)
-run_asked text words first second n result two count at0 at1 told h =
+run_asked text words first second n result two count at0 at1 told t h =
     words_asked IsRunTold (λ rest. option_map Run (option_map (λ (line : RunWords). line.plan) (option_and_then run_given (given_of run_shape rest))))
-    run_words_are text words first second n result two count at0 at1 told h
+    run_words_are text words first second n result two count at0 at1 told t h
 
 pub judge_asked : {S E : Type 0} (text : S → List ℕ) (words : List S) (first second : S) (n : ℕ) (result : Result (Option Command) E)
     → 2 ≤ length words → n ≡ length words - 2 → first ≡ get_or words 0 first → second ≡ get_or words 1 second
-    → IsJudgeTold (text first) (text second)
+    → IsJudgeTold (text first) (text second) → asked_text_of (map text words) ≡ None
     → IfOk result (λ command. command ≡ option_map Judge (option_map (λ (line : JudgeWords). line.plan) (option_and_then judge_given (given_of judge_shape (map text (take n (drop 2 words)))))))
     → IfOk result (λ command. IsCommandOf (map text words) command)
-judge_asked text words first second n result two count at0 at1 told h =
+judge_asked text words first second n result two count at0 at1 told t h =
     words_asked IsJudgeTold (λ rest. option_map Judge (option_map (λ (line : JudgeWords). line.plan) (option_and_then judge_given (given_of judge_shape rest))))
-    judge_words_are text words first second n result two count at0 at1 told h
+    judge_words_are text words first second n result two count at0 at1 told t h
 
 -- ---- words are one command
 
@@ -389,66 +395,104 @@ show_command words e = bare_command (codes "sbcheck") (codes "show") words e
 vectors_command : (words : List (List ℕ)) → asks_vectors words ≡ true → HasCommand (codes "vectors") words
 vectors_command words e = bare_command (codes "sbcheck") (codes "vectors") words e
 
+-- no command is named as a word that asks about a program
+about_if : (test : Bool) (asked : Option About) → asked ≡ None → cond test asked None ≡ None
+about_if true asked none = none
+about_if false asked none = refl
+
+told_if : (a b : Option About) (text : List ℕ) → a ≡ None → b ≡ None
+    → option_or (option_map (λ about. about_text about (codes "sbupdate") UPDATE_USAGE.now) a) (option_map (λ about. about_text about (codes "sbcheck") CHECK_USAGE.now) b) ≡ Some text → ⊥
+told_if None None text none nothing e = cc
+told_if (Some a) b text none nothing e = cc
+told_if None (Some b) text none nothing e = cc
+
+told_apart : (words : List (List ℕ)) (text command : List ℕ) → asked_by command ≡ None → HasCommand command words → asked_text_of words ≡ Some text → ⊥
+told_apart [] text command none has e = has
+told_apart (first ∷ []) text command none has e = has
+told_apart (first ∷ second ∷ []) text command none has e =
+    let asked : asked_by second ≡ None = ap asked_by has ∙ none in
+    told_if _ _ text (about_if (bytes_eq first (codes "sbupdate")) (asked_by second) asked) (about_if (bytes_eq first (codes "sbcheck")) (asked_by second) asked) e
+told_apart (first ∷ second ∷ third ∷ words) text command none has e = cc
+
+abbrev IsNamed : Command → Type 0
+IsNamed (Tell text) = ⊥
+IsNamed command = Unit {0}
+
 abbrev word_of : Command → List ℕ
 word_of (Replay names) = codes "replay"
 word_of (Run plan) = codes "run"
 word_of (Judge plan) = codes "judge"
 word_of Show = codes "show"
 word_of Vectors = codes "vectors"
+word_of (Tell text) = []
 
-has_word : (words : List (List ℕ)) (command : Command) → IsCommandOf words (Some command) → HasCommand (word_of command) words
-has_word words (Replay names) h = replay_command words names h
-has_word words (Run plan) h = let line = planned (run_of words) plan h in run_command words line.0 line.1
-has_word words (Judge plan) h = let line = judge_planned (judge_of words) plan h in judge_command words line.0 line.1
-has_word words Show h = show_command words h
-has_word words Vectors h = vectors_command words h
+has_word : (words : List (List ℕ)) (command : Command) → IsNamed command → IsCommandOf words (Some command) → HasCommand (word_of command) words
+has_word words (Replay names) named h = replay_command words names h
+has_word words (Run plan) named h = let line = planned (run_of words) plan h in run_command words line.0 line.1
+has_word words (Judge plan) named h = let line = judge_planned (judge_of words) plan h in judge_command words line.0 line.1
+has_word words Show named h = show_command words h
+has_word words Vectors named h = vectors_command words h
+has_word words (Tell text) named h = absurd named
 
 -- a command is the one whose word stands there
-same_word : (words : List (List ℕ)) (command : Command) (word : List ℕ) → IsCommandOf words (Some command) → HasCommand word words → word_of command ≡ word
-same_word words command word h k = one_command _ _ words (has_word words command h) k
+same_word : (words : List (List ℕ)) (command : Command) (word : List ℕ) → IsNamed command → IsCommandOf words (Some command) → HasCommand word words → word_of command ≡ word
+same_word words command word named h k = one_command _ _ words (has_word words command named h) k
 
 pub is_replay : (words : List (List ℕ)) (command : Command) → IsCommandOf words (Some command) → (names : List ListName) → replay_of words ≡ Some names → command ≡ Replay names
 is_replay words (Replay found) h names e = let same : found ≡ names = cc in ap Replay same
-is_replay words (Run plan) h names e = absurd (let other : codes "run" ≡ codes "replay" = same_word words (Run plan) _ h (replay_command words names e) in cc)
-is_replay words (Judge plan) h names e = absurd (let other : codes "judge" ≡ codes "replay" = same_word words (Judge plan) _ h (replay_command words names e) in cc)
-is_replay words Show h names e = absurd (let other : codes "show" ≡ codes "replay" = same_word words Show _ h (replay_command words names e) in cc)
-is_replay words Vectors h names e = absurd (let other : codes "vectors" ≡ codes "replay" = same_word words Vectors _ h (replay_command words names e) in cc)
+is_replay words (Run plan) h names e = absurd (let other : codes "run" ≡ codes "replay" = same_word words (Run plan) _ tt h (replay_command words names e) in cc)
+is_replay words (Judge plan) h names e = absurd (let other : codes "judge" ≡ codes "replay" = same_word words (Judge plan) _ tt h (replay_command words names e) in cc)
+is_replay words Show h names e = absurd (let other : codes "show" ≡ codes "replay" = same_word words Show _ tt h (replay_command words names e) in cc)
+is_replay words Vectors h names e = absurd (let other : codes "vectors" ≡ codes "replay" = same_word words Vectors _ tt h (replay_command words names e) in cc)
+is_replay words (Tell text) h names e = absurd (told_apart words text (codes "replay") refl (replay_command words names e) h)
 
 pub is_run : (words : List (List ℕ)) (command : Command) → IsCommandOf words (Some command) → (line : RunWords) → run_of words ≡ Some line → command ≡ Run line.plan
-is_run words (Replay names) h line e = absurd (let other : codes "replay" ≡ codes "run" = same_word words (Replay names) _ h (run_command words line e) in cc)
+is_run words (Replay names) h line e = absurd (let other : codes "replay" ≡ codes "run" = same_word words (Replay names) _ tt h (run_command words line e) in cc)
 is_run words (Run plan) h line e =
     let found = planned (run_of words) plan h in
     let same : Some found.0 ≡ Some line = sym found.1 ∙ e in
     let is : found.0 ≡ line = cc in
     ap Run (sym found.2 ∙ ap (λ (l : RunWords). l.plan) is)
-is_run words (Judge plan) h line e = absurd (let other : codes "judge" ≡ codes "run" = same_word words (Judge plan) _ h (run_command words line e) in cc)
-is_run words Show h line e = absurd (let other : codes "show" ≡ codes "run" = same_word words Show _ h (run_command words line e) in cc)
-is_run words Vectors h line e = absurd (let other : codes "vectors" ≡ codes "run" = same_word words Vectors _ h (run_command words line e) in cc)
+is_run words (Judge plan) h line e = absurd (let other : codes "judge" ≡ codes "run" = same_word words (Judge plan) _ tt h (run_command words line e) in cc)
+is_run words Show h line e = absurd (let other : codes "show" ≡ codes "run" = same_word words Show _ tt h (run_command words line e) in cc)
+is_run words Vectors h line e = absurd (let other : codes "vectors" ≡ codes "run" = same_word words Vectors _ tt h (run_command words line e) in cc)
+is_run words (Tell text) h line e = absurd (told_apart words text (codes "run") refl (run_command words line e) h)
 
 pub is_judge : (words : List (List ℕ)) (command : Command) → IsCommandOf words (Some command) → (line : JudgeWords) → judge_of words ≡ Some line → command ≡ Judge line.plan
-is_judge words (Replay names) h line e = absurd (let other : codes "replay" ≡ codes "judge" = same_word words (Replay names) _ h (judge_command words line e) in cc)
-is_judge words (Run plan) h line e = absurd (let other : codes "run" ≡ codes "judge" = same_word words (Run plan) _ h (judge_command words line e) in cc)
+is_judge words (Replay names) h line e = absurd (let other : codes "replay" ≡ codes "judge" = same_word words (Replay names) _ tt h (judge_command words line e) in cc)
+is_judge words (Run plan) h line e = absurd (let other : codes "run" ≡ codes "judge" = same_word words (Run plan) _ tt h (judge_command words line e) in cc)
 is_judge words (Judge plan) h line e =
     let found = judge_planned (judge_of words) plan h in
     let same : Some found.0 ≡ Some line = sym found.1 ∙ e in
     let is : found.0 ≡ line = cc in
     ap Judge (sym found.2 ∙ ap (λ (l : JudgeWords). l.plan) is)
-is_judge words Show h line e = absurd (let other : codes "show" ≡ codes "judge" = same_word words Show _ h (judge_command words line e) in cc)
-is_judge words Vectors h line e = absurd (let other : codes "vectors" ≡ codes "judge" = same_word words Vectors _ h (judge_command words line e) in cc)
+is_judge words Show h line e = absurd (let other : codes "show" ≡ codes "judge" = same_word words Show _ tt h (judge_command words line e) in cc)
+is_judge words Vectors h line e = absurd (let other : codes "vectors" ≡ codes "judge" = same_word words Vectors _ tt h (judge_command words line e) in cc)
+is_judge words (Tell text) h line e = absurd (told_apart words text (codes "judge") refl (judge_command words line e) h)
 
 pub is_show : (words : List (List ℕ)) (command : Command) → IsCommandOf words (Some command) → asks_show words ≡ true → command ≡ Show
-is_show words (Replay names) h e = absurd (let other : codes "replay" ≡ codes "show" = same_word words (Replay names) _ h (show_command words e) in cc)
-is_show words (Run plan) h e = absurd (let other : codes "run" ≡ codes "show" = same_word words (Run plan) _ h (show_command words e) in cc)
-is_show words (Judge plan) h e = absurd (let other : codes "judge" ≡ codes "show" = same_word words (Judge plan) _ h (show_command words e) in cc)
+is_show words (Replay names) h e = absurd (let other : codes "replay" ≡ codes "show" = same_word words (Replay names) _ tt h (show_command words e) in cc)
+is_show words (Run plan) h e = absurd (let other : codes "run" ≡ codes "show" = same_word words (Run plan) _ tt h (show_command words e) in cc)
+is_show words (Judge plan) h e = absurd (let other : codes "judge" ≡ codes "show" = same_word words (Judge plan) _ tt h (show_command words e) in cc)
 is_show words Show h e = refl
-is_show words Vectors h e = absurd (let other : codes "vectors" ≡ codes "show" = same_word words Vectors _ h (show_command words e) in cc)
+is_show words Vectors h e = absurd (let other : codes "vectors" ≡ codes "show" = same_word words Vectors _ tt h (show_command words e) in cc)
+is_show words (Tell text) h e = absurd (told_apart words text (codes "show") refl (show_command words e) h)
 
 pub is_vectors : (words : List (List ℕ)) (command : Command) → IsCommandOf words (Some command) → asks_vectors words ≡ true → command ≡ Vectors
-is_vectors words (Replay names) h e = absurd (let other : codes "replay" ≡ codes "vectors" = same_word words (Replay names) _ h (vectors_command words e) in cc)
-is_vectors words (Run plan) h e = absurd (let other : codes "run" ≡ codes "vectors" = same_word words (Run plan) _ h (vectors_command words e) in cc)
-is_vectors words (Judge plan) h e = absurd (let other : codes "judge" ≡ codes "vectors" = same_word words (Judge plan) _ h (vectors_command words e) in cc)
-is_vectors words Show h e = absurd (let other : codes "show" ≡ codes "vectors" = same_word words Show _ h (vectors_command words e) in cc)
+is_vectors words (Replay names) h e = absurd (let other : codes "replay" ≡ codes "vectors" = same_word words (Replay names) _ tt h (vectors_command words e) in cc)
+is_vectors words (Run plan) h e = absurd (let other : codes "run" ≡ codes "vectors" = same_word words (Run plan) _ tt h (vectors_command words e) in cc)
+is_vectors words (Judge plan) h e = absurd (let other : codes "judge" ≡ codes "vectors" = same_word words (Judge plan) _ tt h (vectors_command words e) in cc)
+is_vectors words Show h e = absurd (let other : codes "show" ≡ codes "vectors" = same_word words Show _ tt h (vectors_command words e) in cc)
 is_vectors words Vectors h e = refl
+is_vectors words (Tell text) h e = absurd (told_apart words text (codes "vectors") refl (vectors_command words e) h)
+
+pub is_tell : (words : List (List ℕ)) (command : Command) → IsCommandOf words (Some command) → (text : List ℕ) → asked_text_of words ≡ Some text → command ≡ Tell text
+is_tell words (Replay names) h text e = absurd (told_apart words text (codes "replay") refl (has_word words (Replay names) tt h) e)
+is_tell words (Run plan) h text e = absurd (told_apart words text (codes "run") refl (has_word words (Run plan) tt h) e)
+is_tell words (Judge plan) h text e = absurd (told_apart words text (codes "judge") refl (has_word words (Judge plan) tt h) e)
+is_tell words Show h text e = absurd (told_apart words text (codes "show") refl (has_word words Show tt h) e)
+is_tell words Vectors h text e = absurd (told_apart words text (codes "vectors") refl (has_word words Vectors tt h) e)
+is_tell words (Tell found) h text e = let same : found ≡ text = cc in ap Tell same
 
 -- of words that are none of a run, no command is one
 pub is_no_run : (words : List (List ℕ)) (command : Command) → IsCommandOf words (Some command) → run_of words ≡ None → (plan : Plan) → command ≢ Run plan
@@ -475,14 +519,15 @@ is_no_show words command h none e =
     let is : IsCommandOf words (Some Show) = subst (λ (command : Command). IsCommandOf words (Some command)) e h in
     cc
 
--- of words that are none of four commands, the fifth alone is one
-pub vectors_alone : (words : List (List ℕ)) (command : Command) → IsCommandOf words (Some command) → replay_of words ≡ None → run_of words ≡ None → judge_of words ≡ None → asks_show words ≡ false
-    → command ≡ Vectors
-vectors_alone words (Replay names) h no_replay no_run no_judge no_show = absurd (cc)
-vectors_alone words (Run plan) h no_replay no_run no_judge no_show = absurd (is_no_run words (Run plan) h no_run plan refl)
-vectors_alone words (Judge plan) h no_replay no_run no_judge no_show = absurd (is_no_judge words (Judge plan) h no_judge plan refl)
-vectors_alone words Show h no_replay no_run no_judge no_show = absurd (cc)
-vectors_alone words Vectors h no_replay no_run no_judge no_show = refl
+-- words that are none of four commands are one that makes its text at once
+pub made_at_once : (words : List (List ℕ)) (command : Command) → IsCommandOf words (Some command) → replay_of words ≡ None → run_of words ≡ None → judge_of words ≡ None → asks_show words ≡ false
+    → MakesItsText command
+made_at_once words (Replay names) h no_replay no_run no_judge no_show = absurd (cc)
+made_at_once words (Run plan) h no_replay no_run no_judge no_show = absurd (is_no_run words (Run plan) h no_run plan refl)
+made_at_once words (Judge plan) h no_replay no_run no_judge no_show = absurd (is_no_judge words (Judge plan) h no_judge plan refl)
+made_at_once words Show h no_replay no_run no_judge no_show = absurd (cc)
+made_at_once words Vectors h no_replay no_run no_judge no_show = tt
+made_at_once words (Tell text) h no_replay no_run no_judge no_show = tt
 
 -- a command is some command
 pub no_command : (words : List (List ℕ)) (command : Command) → IsCommandOf words (Some command) → IsNoCommand words → ⊥
@@ -491,6 +536,7 @@ no_command words (Run plan) h none = is_no_run words (Run plan) h none.run plan 
 no_command words (Judge plan) h none = is_no_judge words (Judge plan) h none.judge plan refl
 no_command words Show h none = let other = none.show in cc
 no_command words Vectors h none = let other = none.vectors in cc
+no_command words (Tell text) h none = let other = none.told in cc
 
 -- ---- of what was found
 
@@ -509,3 +555,6 @@ module _ (words : List (List ℕ)) (found : Option Command) (command : Command) 
 
   pub vectors_found : asks_vectors words ≡ true → command ≡ Vectors
   vectors_found asked = is_vectors words command (is_found words found command e h) asked
+
+  pub tell_found : (text : List ℕ) → asked_text_of words ≡ Some text → command ≡ Tell text
+  tell_found text asked = is_tell words command (is_found words found command e h) text asked

@@ -14,13 +14,13 @@ use Rattle.client_laws.specs.Rows.{IsHeadline, TellsAtEnd, lacks_memory}
 use Rattle.update_run.specs.declared.stop.RunStop.{RunStop}
 use Rattle.update_run.specs.declared.stop.RunStop.TheVariants as stop
 use Rattle.sb_client.specs.declared.command.Command.{Command}
-use Rattle.sb_client.specs.declared.command.Command.TheVariants.{Replay, Run, Judge, Show, Vectors}
+use Rattle.sb_client.specs.declared.command.Command.TheVariants.{Replay, Run, Judge, Show, Vectors, Tell}
 use Rattle.input_lines.specs.declared.stop.Stop.TheVariants.{ReadFault, WriteFault, PastLimits, OutOfMemory}
 use Rattle.sb_client.specs.Show.{IsCounted, IsPartlyCounted}
 use Rattle.input_lines.specs.Ending.{Ending}
 use Rattle.sb_client.specs.Ending.{run_status_after, run_status_of}
 use Rattle.sb_client.specs.Honest.{HoldsWhereHonest, KeepsStores}
-use Rattle.sb_client.specs.Runs.{AreCounted, EndsCounting, IsCountRun, IsFaultOf, IsJudgeRun, IsReplayRun, IsRunOf, IsShowRun, IsStatus, IsUpdateRun, judging_of}
+use Rattle.sb_client.specs.Runs.{AreCounted, EndsCounting, IsCountRun, IsFaultOf, IsJudgeRun, IsReplayRun, IsRunOf, IsShowRun, IsStatus, IsTellRun, IsUpdateRun, judging_of}
 use Rattle.judge_beside.specs.declared.plan.BesidePlan.{BesidePlan}
 use Rattle.sb_client.proofs.Endings.{known_status, no_fault}
 use Rattle.sb_client.proofs.Judgings.{known_judging}
@@ -144,6 +144,13 @@ counted (Err OutOfMemory) whole write memory others = memory refl
 pub count_not_begun : (held : Option (List ℕ)) → IsCountRun 8 held held
 count_not_begun held = record { ending = Err OutOfMemory; told = refl; done = refl }
 
+-- ---- what was asked about a program
+
+told_status : (text : List ℕ) (status : ℕ) (held held' : Option (List ℕ)) → IsTellRun text status held held' → IsStatus status × (status ≢ 1)
+told_status text status held held' (inl whole) = (inl whole.0, λ h. let zero = whole.0 in cc)
+told_status text status held held' (inr (inl cut)) = (inr (inr (inr (inl cut.0))), λ h. let three = cut.0 in cc)
+told_status text status held held' (inr (inr none)) = (inr (inr (inr (inr (inr (inr (inr (inl none.0))))))), λ h. let eight = none.0 in cc)
+
 -- ---- any command
 
 module _ (status : ℕ) (left left' : Option (List (List ℕ))) (faults faults' : ℕ) (before after : Seen) where
@@ -153,6 +160,7 @@ module _ (status : ℕ) (left left' : Option (List (List ℕ))) (faults faults' 
   status_of_run (Judge plan) run = known_judging run.ending status run.told
   status_of_run Show run = let known = known_status 21 run.ending status (inr refl) run.told in (known.0, known.1)
   status_of_run Vectors run = let known = known_status 21 run.ending status (inr refl) run.told in (known.0, known.1)
+  status_of_run (Tell text) run = told_status text status before.held after.held run
 
   pub run_of_replay : (command : Command) (names : List ListName) → command ≡ Replay names → IsRunOf command status left left' faults faults' before after
       → IsReplayRun names status left left' before.held after.held
@@ -170,6 +178,9 @@ module _ (status : ℕ) (left left' : Option (List (List ℕ))) (faults faults' 
 
   pub run_of_vectors : (command : Command) → command ≡ Vectors → IsRunOf command status left left' faults faults' before after → IsCountRun status before.held after.held
   run_of_vectors command e run = subst (λ (command : Command). IsRunOf command status left left' faults faults' before after) e run
+
+  pub run_of_tell : (command : Command) (text : List ℕ) → command ≡ Tell text → IsRunOf command status left left' faults faults' before after → IsTellRun text status before.held after.held
+  run_of_tell command text e run = subst (λ (command : Command). IsRunOf command status left left' faults faults' before after) e run
 
 -- where no count changed, none rose
 pub none_counted : {input out keep : ℕ} (status : ℕ) → status ≢ 2 → (status ≢ 1 → status ≢ 3) → status ≢ 4 → AreCounted status input input out out keep keep

@@ -7,13 +7,15 @@ use Rattle.sb_model.specs.declared.names.ListName.{ListName}
 use Rattle.sb_words.specs.declared.shape.OptionKind.TheVariants.{Needed, Optional, Flag}
 use Rattle.sb_words.specs.CommandLine.{Text, CommandOption, CommandShape, Given, given_of, value_among}
 use Rattle.sb_words.specs.Values.{number_of, lists_of, is_key, host_port_of}
+use Rattle.sb_words.specs.About.{about_of, about_text}
+use Rattle.sb_client.specs.declared.texts.TheConstants.{CHECK_USAGE, UPDATE_USAGE}
 use Rattle.http_edge.specs.Exchanges.{IsTarget}
 use Rattle.http_edge.specs.declared.messages.Target.{Target}
 use Rattle.update_client.specs.declared.options.FetchOptions.{FetchOptions}
 use Rattle.update_run.specs.declared.plan.Plan.{Plan}
 use Rattle.judge_beside.specs.declared.plan.BesidePlan.{BesidePlan}
 use Rattle.sb_client.specs.declared.command.Command.{Command}
-use Rattle.sb_client.specs.declared.command.Command.TheVariants.{Replay, Run, Judge, Show, Vectors}
+use Rattle.sb_client.specs.declared.command.Command.TheVariants.{Replay, Run, Judge, Show, Vectors, Tell}
 
 abbrev pub needed : Text → CommandOption
 needed name = record { name = name; kind = Needed }
@@ -264,6 +266,15 @@ asks_show words = is_some (given_to (codes "sbcheck") (codes "show") bare_shape 
 abbrev pub asks_vectors : List (List ℕ) → Bool
 asks_vectors words = is_some (given_to (codes "sbcheck") (codes "vectors") bare_shape words)
 
+-- what the words ask about a program of this name, with this usage text, is to be printed
+abbrev pub asked_text_by : (name usage : Text) → List Text → Option Text
+asked_text_by name usage words = option_map (λ about. about_text about name usage) (about_of name words)
+
+-- what is printed of `sbupdate` or of `sbcheck`, if the words ask about it
+abbrev pub asked_text_of : List Text → Option Text
+asked_text_of words =
+    option_or (asked_text_by (codes "sbupdate") UPDATE_USAGE.now words) (asked_text_by (codes "sbcheck") CHECK_USAGE.now words)
+
 -- The words are none of these.
 pub record IsNoCommand (words : List (List ℕ)) : Type 0 where
   pub replay : replay_of words ≡ None
@@ -271,6 +282,7 @@ pub record IsNoCommand (words : List (List ℕ)) : Type 0 where
   pub judge : judge_of words ≡ None
   pub show : asks_show words ≡ false
   pub vectors : asks_vectors words ≡ false
+  pub told : asked_text_of words ≡ None
 
 -- What the code makes of the words: the command that they are.
 abbrev pub IsCommandOf : List (List ℕ) → Option Command → Type 0
@@ -280,6 +292,7 @@ IsCommandOf words (Some (Run plan)) = option_map (λ (line : RunWords). line.pla
 IsCommandOf words (Some (Judge plan)) = option_map (λ (line : JudgeWords). line.plan) (judge_of words) ≡ Some plan
 IsCommandOf words (Some Show) = asks_show words ≡ true
 IsCommandOf words (Some Vectors) = asks_vectors words ≡ true
+IsCommandOf words (Some (Tell text)) = asked_text_of words ≡ Some text
 
 abbrev pub AreFew : List ListName → Type 0
 AreFew names = (0 < length names) × (length names ≤ 8)
@@ -294,3 +307,10 @@ IsSound (Run plan) = AreFew plan.names × IsTarget plan.target
 IsSound (Judge plan) = AreFew plan.names × IsTarget plan.target × AreWorkers plan.workers
 IsSound Show = Unit {0}
 IsSound Vectors = Unit {0}
+IsSound (Tell text) = Unit {0}
+
+-- A command that makes its text before it writes any of it, and nothing else.
+abbrev pub MakesItsText : Command → Type 0
+MakesItsText Vectors = Unit {0}
+MakesItsText (Tell text) = Unit {0}
+MakesItsText command = ⊥

@@ -10,7 +10,7 @@ use Rattle.judge_run.specs.Run.{Seen as JudgeSeen, seen as judging}
 use Rattle.judge_beside.specs.Run.{Ending as JudgeEnding, EndsBeside}
 use Rattle.judge_beside.specs.declared.plan.BesidePlan.{BesidePlan}
 use Rattle.sb_client.specs.declared.command.Command.{Command}
-use Rattle.sb_client.specs.declared.command.Command.TheVariants.{Replay, Run, Judge, Show, Vectors}
+use Rattle.sb_client.specs.declared.command.Command.TheVariants.{Replay, Run, Judge, Show, Vectors, Tell}
 use Rattle.input_lines.specs.declared.stop.Stop.TheVariants.{WriteFault, OutOfMemory}
 use Rattle.input_lines.specs.Ending.{Ending}
 use Rattle.sb_client.specs.Ending.{status_of, run_status_of, judge_status_of, IsReadingRun}
@@ -32,6 +32,13 @@ TellsUsage usage held held' faults faults' =
 abbrev pub IsUsageRun : List ℕ → (status : ℕ) → (held held' : Option (List ℕ)) → (faults faults' : ℕ) → Type 0
 IsUsageRun usage status held held' faults faults' =
     ((status ≡ 1) × TellsUsage usage held held' faults faults') ⊎ ((status ≡ 8) × (held' ≡ held))
+
+-- ---- words that ask about a program
+
+-- With 0 the text was written, with 3 a front of it that lacks something, and with 8 nothing.
+abbrev pub IsTellRun : List ℕ → (status : ℕ) → (held held' : Option (List ℕ)) → Type 0
+IsTellRun text status held held' =
+    ((status ≡ 0) × (held' ≡ appended held text)) ⊎ ((status ≡ 3) × HasFront held held' text) ⊎ ((status ≡ 8) × (held' ≡ held))
 
 -- ---- `replay` and `show`
 
@@ -92,6 +99,7 @@ IsRunOf (Run plan) status left left' faults faults' before after = IsUpdateRun p
 IsRunOf (Judge plan) status left left' faults faults' before after = IsJudgeRun plan status (judging_of left faults before) (judging_of left' faults' after)
 IsRunOf Show status left left' faults faults' before after = IsShowRun status left left' before.held after.held
 IsRunOf Vectors status left left' faults faults' before after = IsCountRun status before.held after.held
+IsRunOf (Tell text) status left left' faults faults' before after = IsTellRun text status before.held after.held
 
 -- ---- the counts of faults
 

@@ -14,7 +14,7 @@ ghost use Rattle.client_laws.specs.Replicas.{HandsReplicas, TellsReplicas};
 ghost use Rattle.update_run.specs.declared.plan.Plan.{Plan as PlanOf};
 ghost use Rattle.judge_beside.specs.declared.plan.BesidePlan.{BesidePlan};
 ghost use Rattle.judge_run.specs.Run.{seen as judging};
-ghost use Rattle.sb_client.specs.Command.{replay_of, run_of, judge_of, asks_show, asks_vectors, IsNoCommand, IsSound, JudgeWords, RunWords};
+ghost use Rattle.sb_client.specs.Command.{replay_of, run_of, judge_of, asks_show, asks_vectors, asked_text_of, MakesItsText, IsNoCommand, IsSound, JudgeWords, RunWords};
 ghost use Rattle.input_lines.specs.Lines.{lines_of, IsWithinLimits};
 ghost use Rattle.update_replay.specs.Readings.{Reading, AreReadings, bodies_of};
 ghost use Rattle.sb_client.specs.Ending.{run_status_after, run_status_of, status_after, status_of};
@@ -23,7 +23,7 @@ ghost use Rattle.sb_client.specs.Honest.{HoldsWhereHonest, KeepsStores};
 ghost use Rattle.sb_client.specs.Served.{MeetsAnswers, TellsComplete, MeetsVersions, TellsVersions};
 ghost use Rattle.both_ends_laws.specs.Answered.{IsAnsweredIn};
 ghost use Rattle.sb_outside.specs.declared.links.Session.{Session};
-ghost use Rattle.sb_client.specs.Runs.{AreCounted, HasNoFault, IsCountRun, IsFaultOf, IsJudgeRun, IsReplayRun, IsRunOf, IsShowRun, IsStatus, IsUpdateRun, IsUsageRun};
+ghost use Rattle.sb_client.specs.Runs.{AreCounted, HasNoFault, IsCountRun, IsFaultOf, IsJudgeRun, IsReplayRun, IsRunOf, IsShowRun, IsStatus, IsTellRun, IsUpdateRun, IsUsageRun};
 ghost use Rattle.sb_client.specs.Usage.{usage_of};
 ghost use Rattle.client_laws.specs.Saving.{UpdatesHold};
 ghost use Rattle.sb_client.specs.Judged.{ReportsRightly};
@@ -31,6 +31,7 @@ ghost use Rattle.sb_client.specs.Judged.{ReportsRightly};
 use crate::command::{Command, command_of};
 use crate::judged::judge_status;
 use crate::show::show;
+use crate::telling::tell_status;
 use crate::usage::tell_usage;
 use crate::vectors::vectors;
 use both_ends_laws::{answered_runs_are_complete, answered_runs_keep_versions};
@@ -175,7 +176,7 @@ fn run_command<R: Threads + Wait + Sync, S: Source, O: Sink, K: Keeper, N: Line,
     ensures unread { ((names : List ListName) → command ≢ Command.Replay names) → ((plan : BesidePlan) → command ≢ Command.Judge plan)
         → command ≢ Command.Show → input.new ≡ input.old }
     ensures unwritten { (result ≡ 2) ⊎ (result ≡ 6) → out.new ≡ out.old }
-    ensures memory { command ≡ Command.Vectors → result ≡ 8 → out.new ≡ out.old }
+    ensures memory { MakesItsText command → result ≡ 8 → out.new ≡ out.old }
     ensures untouched { ((plan : PlanOf) → command ≢ Command.Run plan) → ((plan : BesidePlan) → command ≢ Command.Judge plan)
         → (keep.new ≡ keep.old) × (line.new ≡ line.old) }
     ensures counts { AreCounted result (S.faults input.old) (S.faults input.new) (O.faults out.old) (O.faults out.new)
@@ -188,6 +189,7 @@ fn run_command<R: Threads + Wait + Sync, S: Source, O: Sink, K: Keeper, N: Line,
         Command::Judge(plan) => judge_status(rt, alloc, &plan, input, out, keep, line, gate),
         Command::Show => show_status(alloc, input, out),
         Command::Vectors => vectors_status(alloc, out),
+        Command::Tell(text) => tell_status(&text, out),
     }
 }
 
@@ -222,7 +224,7 @@ fn run_lent<
     ensures unread { ((names : List ListName) → command ≢ Command.Replay names) → ((plan : BesidePlan) → command ≢ Command.Judge plan)
         → command ≢ Command.Show → input.new ≡ input.old }
     ensures unwritten { (result ≡ 2) ⊎ (result ≡ 6) → out.new ≡ out.old }
-    ensures memory { command ≡ Command.Vectors → result ≡ 8 → out.new ≡ out.old }
+    ensures memory { MakesItsText command → result ≡ 8 → out.new ≡ out.old }
     ensures untouched { ((plan : PlanOf) → command ≢ Command.Run plan) → ((plan : BesidePlan) → command ≢ Command.Judge plan)
         → (keep.new ≡ keep.old) × (link.new ≡ link.old) × (clock.new ≡ clock.old) × (dice.new ≡ dice.old) }
     ensures counts { AreCounted result (S.faults input.old) (S.faults input.new) (O.faults out.old) (O.faults out.new)
@@ -253,6 +255,8 @@ fn run_lent<
 /// `show` reads the input likewise, takes each line as a URL, and writes its canonical text and its expressions, each
 /// after its SHA-256. `vectors` reads nothing, and writes how many of the published examples are met. Neither these nor `replay` use the
 /// keeper, the link, the clock or the dice, `run` does not use the input, and `run` and `judge` alone use the gate.
+///
+/// `--help`, `-h` and `--version`, each as the only word after the name, write the usage text or the version, and use nothing else.
 ///
 /// `rt` is a handle for threads and for waiting. `judge` alone takes it, where it has updates or more than one worker: its threads have ended
 /// when it ends, in each case.
@@ -314,6 +318,10 @@ pub fn run_client<
         → IsShowRun result (S.left input.old) (S.left input.new) (O.contents out.old) (O.contents out.new) }
     ensures counts_examples { asks_vectors (map string_bytes words.now) ≡ true
         → IsCountRun result (O.contents out.old) (O.contents out.new) }
+
+    // Words that ask about the program: the usage text, or a line of the program's name and its version.
+    ensures about { (text : List ℕ) → asked_text_of (map string_bytes words.now) ≡ Some text
+        → IsTellRun text result (O.contents out.old) (O.contents out.new) }
 
     // What a command does not use is as it was: the input but for `replay`, `judge` and `show`, and what is outside but for `run` and
     // `judge`. So is the output where the input failed or passes a limit, and where memory was refused before anything was to be written.

@@ -1,11 +1,12 @@
 ghost use Rattle.std.specs.Prelude.{◌≡◌, ℕ, List, Some, None, if◌then◌else◌, map, string_bytes, is_some, option_map, option_and_then, IfOk};
 ghost use Rattle.sb_words.specs.CommandLine.{given_of};
-ghost use Rattle.sb_client.specs.Command.{asking_of, bare_shape, judge_given, judge_shape, lists_given, replay_shape, rounds_given, run_given, run_of, run_shape, run_with, run_words, IsCommandOf, JudgeWords, RunWords};
+ghost use Rattle.sb_client.specs.Command.{asking_of, bare_shape, judge_given, judge_shape, lists_given, replay_shape, rounds_given, run_given, run_of, run_shape, run_with, run_words, asked_text_of, IsCommandOf, JudgeWords, RunWords};
 
 use crate::judge_words::judge_plan;
 use crate::options::{Asking, are_words, asking_in, target_of};
+use crate::telling::told;
 use judge_beside::BesidePlan;
-use sb_model::{ListName, OutOfMemory, Row};
+use sb_model::{Bytes, ListName, OutOfMemory, Row};
 use sb_words::{OptionKind, OptionShape, Shape, Words, lists, number, read_words};
 use std::alloc::Global;
 use update_run::Plan;
@@ -78,6 +79,8 @@ pub(crate) enum Command {
     Judge(BesidePlan),
     Show,
     Vectors,
+    /// What words asked about a program, as it is printed.
+    Tell(Bytes),
 }
 
 /// The lists that the words after `replay` name.
@@ -248,8 +251,9 @@ fn bare_command(
     }
 }
 
-/// The command that the words are; `None` where they are none.
-pub(crate) fn command_of(alloc: Global, words: &[String]) -> Result<Option<Command>, OutOfMemory>
+/// The command that words are which ask nothing about a program; `None` where they are none.
+fn named_command(alloc: Global, words: &[String]) -> Result<Option<Command>, OutOfMemory>
+    requires { asked_text_of (map string_bytes words.now) ≡ None }
     ensures { IfOk result (λ command. IsCommandOf (map string_bytes words.now) command) }
 {
     let [program, command, rest @ ..] = words else {
@@ -271,4 +275,15 @@ pub(crate) fn command_of(alloc: Global, words: &[String]) -> Result<Option<Comma
         return bare_command(alloc, rest, Command::Vectors);
     }
     Ok(None)
+}
+
+/// The command that the words are; `None` where they are none.
+pub(crate) fn command_of(alloc: Global, words: &[String]) -> Result<Option<Command>, OutOfMemory>
+    ensures { IfOk result (λ command. IsCommandOf (map string_bytes words.now) command) }
+{
+    match told(alloc, words) {
+        Ok(Some(text)) => Ok(Some(Command::Tell(text))),
+        Ok(None) => named_command(alloc, words),
+        Err(OutOfMemory) => Err(OutOfMemory),
+    }
 }

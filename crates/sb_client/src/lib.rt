@@ -17,6 +17,7 @@ mod objects;
 mod options;
 mod show;
 mod targeting;
+mod telling;
 mod texts;
 mod usage;
 mod vectors;

@@ -3,12 +3,14 @@ use Rattle.std.proofs.Common.{◌≡◌, Bool, true, false, List, [], ◌∷◌,
 use Rattle.std.specs.Prelude.{option_and_then, ◌&&◌, if◌then◌else◌, slice_index}
 use Rattle.std.specs.Str.{bytes_eq}
 use Rattle.std.proofs.lemmas.Slice.Eq.{bytes_eq-Decides}
+use Rattle.sb_words.specs.About.{about_of, asked_by}
 use Rattle.sb_words.specs.CommandLine.{Text, Given, CommandShape, given_of}
+use Rattle.sb_words.specs.declared.asking.About.{About}
 use Rattle.sb_service.specs.declared.command.Command.{Command}
-use Rattle.sb_service.specs.declared.command.Command.TheVariants.{Answer, Serve, Generate, Exercise}
+use Rattle.sb_service.specs.declared.command.Command.TheVariants.{Answer, Serve, Generate, Exercise, Tell}
 use Rattle.sb_service.specs.declared.command.GenerateLine.{GenerateLine}
 use Rattle.sb_service.specs.declared.command.Load.{Load}
-use Rattle.sb_service.specs.Command.{AnswerWords, ServeWords, answer_given, answer_of, answer_shape, exercise_given, exercise_of, exercise_shape, generate_given, generate_of, generate_shape, given_to, serve_given, serve_of, serve_shape, AsksAnswer, IsCommandOf, IsMade, IsNoCommand, IsNoService}
+use Rattle.sb_service.specs.Command.{AnswerWords, ServeWords, answer_given, answer_of, answer_shape, exercise_given, exercise_of, exercise_shape, generate_given, generate_of, generate_shape, given_to, serve_given, serve_of, serve_shape, tell_of, AsksAnswer, IsCommandOf, IsMade, IsNoCommand, IsNoService}
 
 -- ---- no words are those of two commands
 
@@ -63,6 +65,34 @@ other_words e =
 generate_or_exercise : (words : List Text) (a : GenerateLine) (b : Load) → generate_of words ≡ Some a → exercise_of words ≡ Some b → ⊥
 generate_or_exercise words a b = one_command (codes "generate") (codes "exercise") generate_shape exercise_shape generate_given exercise_given words a b other_words
 
+asked_if : (test : Bool) (asked : Option About) (about : About) → (if test then asked else None) ≡ Some about → asked ≡ Some about
+asked_if true asked about is = is
+asked_if false asked about is = absurd (cc)
+
+-- Words that say something of a command ask nothing about the program, as no command is named so.
+command_or_tell : {A : Type 0} (command : Text) (shape : CommandShape) (read : Given → Option A) (words : List Text) (a : A) (about : About)
+    → asked_by command ≡ None → option_and_then read (given_to command shape words) ≡ Some a → tell_of words ≡ Some about → ⊥
+command_or_tell command shape read [] a about none e h = cc
+command_or_tell command shape read (first ∷ []) a about none e h = cc
+command_or_tell command shape read (first ∷ second ∷ []) a about none e h =
+    let is : second ≡ command = second_is command shape read first second [] a e in
+    let asked : asked_by second ≡ Some about = asked_if (bytes_eq first (codes "sblistd")) (asked_by second) about h in
+    let same : asked_by second ≡ asked_by command = ap asked_by is in
+    cc
+command_or_tell command shape read (first ∷ second ∷ third ∷ words) a about none e h = cc
+
+answer_or_tell : (words : List Text) (a : AnswerWords) (b : About) → answer_of words ≡ Some a → tell_of words ≡ Some b → ⊥
+answer_or_tell words a b = command_or_tell (codes "answer") answer_shape answer_given words a b refl
+
+serve_or_tell : (words : List Text) (a : ServeWords) (b : About) → serve_of words ≡ Some a → tell_of words ≡ Some b → ⊥
+serve_or_tell words a b = command_or_tell (codes "serve") serve_shape serve_given words a b refl
+
+generate_or_tell : (words : List Text) (a : GenerateLine) (b : About) → generate_of words ≡ Some a → tell_of words ≡ Some b → ⊥
+generate_or_tell words a b = command_or_tell (codes "generate") generate_shape generate_given words a b refl
+
+exercise_or_tell : (words : List Text) (a : Load) (b : About) → exercise_of words ≡ Some a → tell_of words ≡ Some b → ⊥
+exercise_or_tell words a b = command_or_tell (codes "exercise") exercise_shape exercise_given words a b refl
+
 -- ---- the command
 
 pub asks_answer : (words : List Text) (line : AnswerWords) → answer_of words ≡ Some line → AsksAnswer words line.kind line.settings
@@ -74,6 +104,7 @@ is_some_command words (Answer sort settings) asks none = absurd (let h = asks.an
 is_some_command words (Serve plan) asks none = absurd (let h = asks.serve in let k = none.serve in cc)
 is_some_command words (Generate urls load) asks none = absurd (let k = none.generate in cc)
 is_some_command words (Exercise load) asks none = absurd (let k = none.exercise in cc)
+is_some_command words (Tell about) asks none = absurd (let k = none.tell in cc)
 
 by_answer : (words : List Text) (command : Command) (line : AnswerWords) → IsCommandOf words (Some command) → answer_of words ≡ Some line → command ≡ Answer line.kind line.settings
 by_answer words (Answer sort settings) line asks e =
@@ -85,6 +116,7 @@ by_answer words (Answer sort settings) line asks e =
 by_answer words (Serve plan) line asks e = absurd (answer_or_serve words line asks.line e asks.serve)
 by_answer words (Generate urls load) line asks e = absurd (answer_or_generate words line _ e asks)
 by_answer words (Exercise load) line asks e = absurd (answer_or_exercise words line load e asks)
+by_answer words (Tell about) line asks e = absurd (answer_or_tell words line about e asks)
 
 by_serve : (words : List Text) (command : Command) (line : ServeWords) → IsCommandOf words (Some command) → serve_of words ≡ Some line → command ≡ Serve line.plan
 by_serve words (Answer sort settings) line asks e = absurd (answer_or_serve words asks.line line asks.answer e)
@@ -95,6 +127,7 @@ by_serve words (Serve plan) line asks e =
     cc
 by_serve words (Generate urls load) line asks e = absurd (serve_or_generate words line _ e asks)
 by_serve words (Exercise load) line asks e = absurd (serve_or_exercise words line load e asks)
+by_serve words (Tell about) line asks e = absurd (serve_or_tell words line about e asks)
 
 by_generate : (words : List Text) (command : Command) (line : GenerateLine) → IsCommandOf words (Some command) → generate_of words ≡ Some line → command ≡ Generate line.urls line.load
 by_generate words (Answer sort settings) line asks e = absurd (answer_or_generate words asks.line line asks.answer e)
@@ -105,6 +138,7 @@ by_generate words (Generate urls load) line asks e =
     let is : said ≡ line = cc in
     ap (λ (l : GenerateLine). Generate l.urls l.load) is
 by_generate words (Exercise load) line asks e = absurd (generate_or_exercise words line load e asks)
+by_generate words (Tell about) line asks e = absurd (generate_or_tell words line about e asks)
 
 by_exercise : (words : List Text) (command : Command) (load : Load) → IsCommandOf words (Some command) → exercise_of words ≡ Some load → command ≡ Exercise load
 by_exercise words (Answer sort settings) load asks e = absurd (answer_or_exercise words asks.line load asks.answer e)
@@ -114,6 +148,17 @@ by_exercise words (Exercise load') load asks e =
     let same : Some load' ≡ Some load = sym asks ∙ e in
     let is : load' ≡ load = cc in
     ap Exercise is
+by_exercise words (Tell about) load asks e = absurd (exercise_or_tell words load about e asks)
+
+by_tell : (words : List Text) (command : Command) (about : About) → IsCommandOf words (Some command) → tell_of words ≡ Some about → command ≡ Tell about
+by_tell words (Answer sort settings) about asks e = absurd (answer_or_tell words asks.line about asks.answer e)
+by_tell words (Serve plan) about asks e = absurd (serve_or_tell words asks.line about asks.serve e)
+by_tell words (Generate urls load) about asks e = absurd (generate_or_tell words _ about asks e)
+by_tell words (Exercise load) about asks e = absurd (exercise_or_tell words load about asks e)
+by_tell words (Tell about') about asks e =
+    let same : Some about' ≡ Some about = sym asks ∙ e in
+    let is : about' ≡ about = cc in
+    ap Tell is
 
 -- ---- the command that was read
 
@@ -133,6 +178,13 @@ pub is_exercise : (words : List Text) (found : Option Command) (command : Comman
     → command ≡ Exercise load
 is_exercise words found command load asks is e = by_exercise words command load (subst (IsCommandOf words) is asks) e
 
+pub is_tell : (words : List Text) (found : Option Command) (command : Command) (about : About) → IsCommandOf words found → found ≡ Some command → tell_of words ≡ Some about
+    → command ≡ Tell about
+is_tell words found command about asks is e = by_tell words command about (subst (IsCommandOf words) is asks) e
+
+pub made_tell : (command : Command) (about : About) → command ≡ Tell about → IsMade command
+made_tell command about is = subst IsMade (sym is) tt
+
 pub made_generate : (command : Command) (urls : Bool) (load : Load) → command ≡ Generate urls load → IsMade command
 made_generate command urls load is = subst IsMade (sym is) tt
 
@@ -144,6 +196,7 @@ by_no_serve words (Answer sort settings) asks none = tt
 by_no_serve words (Serve plan) asks none = absurd (let h = asks.serve in cc)
 by_no_serve words (Generate urls load) asks none = tt
 by_no_serve words (Exercise load) asks none = tt
+by_no_serve words (Tell about) asks none = tt
 
 -- a command that is not `serve`
 pub is_other : (words : List Text) (found : Option Command) (command : Command) → IsCommandOf words found → found ≡ Some command → serve_of words ≡ None → IsNoService command

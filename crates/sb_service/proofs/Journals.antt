@@ -8,7 +8,6 @@ use Rattle.list_versions.specs.Journal.{Kept, kept_of, read_on}
 use Rattle.list_versions.specs.Loaded.{Gives, IsBadRest, FurtherFault, JournalOutcome}
 use Rattle.list_versions.specs.declared.fault.JournalFault.{JournalFault}
 use Rattle.list_versions.specs.declared.fault.JournalFault.TheVariants as journal
-use Rattle.delta_server.specs.declared.answering.Settings.{Settings}
 use Rattle.sb_service.specs.Answer.{AfterFault, IsSilent}
 use Rattle.sb_service.specs.declared.serve.ServePlan.{ServePlan}
 use Rattle.sb_service.specs.Serving.{Turn, Gains, Grows, gained_in, AreOfJournal, HasHeld, HasNoBadLine, HasNotGrown, HasRun, IsLined, IsRefusal, IsServeRun, IsTurn, Seen, Stops, HasBegun, AfterLoad}
@@ -144,47 +143,47 @@ no_cause fault held held' (inl is) (inr after) =
     let ends = silent.ends in omega (arith, ends)
 no_cause fault held held' (inr is) (inr after) = subst (λ (f : JournalFault). AfterFault f 7 held held') is after
 
-not_held : CutsLaw → (pieces : List (List ℕ)) (n : ℕ) (times : Settings) (number status : ℕ) (before after : Seen) → HasNoBadLine pieces → IsAfter pieces n before.left before.kept
-    → HasHeld times number status before after → ⊥
-not_held law pieces n times number status before after none at held =
+not_held : CutsLaw → (pieces : List (List ℕ)) (n : ℕ) (plan : ServePlan) (number status : ℕ) (before after : Seen) → HasNoBadLine pieces → IsAfter pieces n before.left before.kept
+    → HasHeld plan number status before after → ⊥
+not_held law pieces n plan number status before after none at held =
     let front = front_of_told before.left (drop (suc n) pieces) held.gained held.ended after.left at.remains held.gives in
     let further = read_further law pieces n before.kept none at.tells in
     no_cause held.fault before.held held.between
     (harmless before.kept further.0 held.gained front.0 (next_piece (drop (suc n) pieces)) held.fault held.because front.1 further.1) held.refusal
 
-not_lined : (number : ℕ) (how : ConnectionEnd) (status : ℕ) (held held' : Option (List ℕ)) → IsOther status → status ≢ 0 → IsLined number how status held held' → ⊥
-not_lined number how status held held' other some (inl line) = some line.0
-not_lined number how status held held' other some (inr (inl cut)) = other.no_write cut.0
-not_lined number how status held held' other some (inr (inr silent)) = other.no_memory silent.1.ends
+not_lined : (quiet : Bool) (number : ℕ) (how : ConnectionEnd) (status : ℕ) (held held' : Option (List ℕ)) → IsOther status → status ≢ 0 → IsLined quiet number how status held held' → ⊥
+not_lined quiet number how status held held' other some (inl line) = some line.0
+not_lined quiet number how status held held' other some (inr (inl cut)) = other.no_write cut.0
+not_lined quiet number how status held held' other some (inr (inr silent)) = other.no_memory silent.2.ends
 
-no_last_turn : CutsLaw → (pieces : List (List ℕ)) (hold : Bool) (n : ℕ) (times : Settings) (number status : ℕ) (before after : Seen) → HasNoBadLine pieces → IsAfter pieces n before.left before.kept → IsOther status → status ≢ 0
-    → IsTurn hold times number status before after → ⊥
-no_last_turn law pieces hold n times number status before after none at other some (inl grown) =
-    not_lined number grown.told.how status before.held after.held other some grown.told.lined
-no_last_turn law pieces hold n times number status before after none at other some (inr (inl stop)) = not_refused law pieces hold n status before after none at other stop
-no_last_turn law pieces hold n times number status before after none at other some (inr (inr held)) = not_held law pieces n times number status before after none at held.2
+no_last_turn : CutsLaw → (pieces : List (List ℕ)) (hold : Bool) (n : ℕ) (plan : ServePlan) (number status : ℕ) (before after : Seen) → HasNoBadLine pieces → IsAfter pieces n before.left before.kept → IsOther status → status ≢ 0
+    → IsTurn hold plan number status before after → ⊥
+no_last_turn law pieces hold n plan number status before after none at other some (inl grown) =
+    not_lined plan.quiet number grown.told.how status before.held after.held other some grown.told.lined
+no_last_turn law pieces hold n plan number status before after none at other some (inr (inl stop)) = not_refused law pieces hold n status before after none at other stop
+no_last_turn law pieces hold n plan number status before after none at other some (inr (inr held)) = not_held law pieces n plan number status before after none at held.2
 
-ends_with_0 : CutsLaw → (pieces : List (List ℕ)) (hold : Bool) (n : ℕ) (times : Settings) (connections status : ℕ) (before after : Seen) → HasNoBadLine pieces → IsAfter pieces n before.left before.kept
-    → IsOther status → Stops hold times connections n status before after → status ≡ 0
-ends_with_0 law pieces hold n times connections status before after none at other (inl done) = done.1.ends
-ends_with_0 law pieces hold n times connections status before after none at other (inr (inl (inl no_more))) = no_more.0.ends
-ends_with_0 law pieces hold n times connections status before after none at other (inr (inl (inr (inl failed)))) = absurd (other.no_door failed.ends)
-ends_with_0 law pieces hold n times connections status before after none at other (inr (inl (inr (inr turn)))) =
-    absurd (no_last_turn law pieces hold n times (n + 1) status before after none at other turn.0 turn.1)
-ends_with_0 law pieces hold n times connections status before after none at other (inr (inr holds)) =
+ends_with_0 : CutsLaw → (pieces : List (List ℕ)) (hold : Bool) (n : ℕ) (plan : ServePlan) (connections status : ℕ) (before after : Seen) → HasNoBadLine pieces → IsAfter pieces n before.left before.kept
+    → IsOther status → Stops hold plan connections n status before after → status ≡ 0
+ends_with_0 law pieces hold n plan connections status before after none at other (inl done) = done.1.ends
+ends_with_0 law pieces hold n plan connections status before after none at other (inr (inl (inl no_more))) = no_more.0.ends
+ends_with_0 law pieces hold n plan connections status before after none at other (inr (inl (inr (inl failed)))) = absurd (other.no_door failed.ends)
+ends_with_0 law pieces hold n plan connections status before after none at other (inr (inl (inr (inr turn)))) =
+    absurd (no_last_turn law pieces hold n plan (n + 1) status before after none at other turn.0 turn.1)
+ends_with_0 law pieces hold n plan connections status before after none at other (inr (inr holds)) =
     let rest = holds.1 in
-    absurd (not_held law pieces n times (n + 1) 0 before rest.between none at rest.held)
+    absurd (not_held law pieces n plan (n + 1) 0 before rest.between none at rest.held)
 
-run_ends : CutsLaw → (pieces : List (List ℕ)) (hold : Bool) (times : Settings) (connections status : ℕ) (first after : Seen) → HasNoBadLine pieces → IsAfter pieces 0 first.left first.kept
-    → IsOther status → HasRun hold times connections status first after → status ≡ 0
-run_ends law pieces hold times connections status first after none at other run =
-    ends_with_0 law pieces hold (length run.turns) times connections status run.last after none
+run_ends : CutsLaw → (pieces : List (List ℕ)) (hold : Bool) (plan : ServePlan) (connections status : ℕ) (first after : Seen) → HasNoBadLine pieces → IsAfter pieces 0 first.left first.kept
+    → IsOther status → HasRun hold plan connections status first after → status ≡ 0
+run_ends law pieces hold plan connections status first after none at other run =
+    ends_with_0 law pieces hold (length run.turns) plan connections status run.last after none
     (after_turns law pieces run.turns first.left run.last.left first.kept run.last.kept at run.turned.gains run.turned.grows) other run.stops
 
 begun_ends : CutsLaw → (pieces : List (List ℕ)) (plan : ServePlan) (status : ℕ) (bytes : List ℕ) (kept : Kept) (read left' : Option (List (List ℕ))) (held held' : Option (List ℕ)) (log log' : Option (List Connection))
     (coming coming' : Option (List (List (List ℕ)))) → HasNoBadLine pieces → IsAfter pieces 0 read kept → IsOther status → HasBegun plan status bytes kept read left' held held' log log' coming coming' → status ≡ 0
 begun_ends law pieces plan status bytes kept read left' held held' log log' coming coming' none at other begun =
-    run_ends law pieces plan.hold plan.settings plan.connections status (record { left = read; kept = kept; held = held; log = log; coming = coming }) (record { left = left'; kept = begun.last; held = held'; log = log'; coming = coming' }) none at other begun.run
+    run_ends law pieces plan.hold plan plan.connections status (record { left = read; kept = kept; held = held; log = log; coming = coming }) (record { left = left'; kept = begun.last; held = held'; log = log'; coming = coming' }) none at other begun.run
 
 load_ends : CutsLaw → (pieces : List (List ℕ)) (plan : ServePlan) (status : ℕ) (bytes : List ℕ) (ended : Bool) (read left' : Option (List (List ℕ))) (held held' : Option (List ℕ)) (log log' : Option (List Connection))
     (coming coming' : Option (List (List (List ℕ)))) (kept : Kept) → HasNoBadLine pieces → kept_of (next_piece pieces) ≡ Ok kept → IsOther status → Gives bytes ended (Some pieces) read

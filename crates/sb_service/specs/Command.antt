@@ -4,9 +4,11 @@ use Rattle.std.specs.Str.{bytes_eq}
 use Rattle.sb_words.specs.declared.shape.OptionKind.TheVariants.{Needed, Optional, Flag}
 use Rattle.sb_words.specs.CommandLine.{Text, CommandOption, CommandShape, Given, given_of, value_among}
 use Rattle.sb_words.specs.Values.{number_of, listen_address_of}
+use Rattle.sb_words.specs.About.{about_of}
+use Rattle.sb_words.specs.declared.asking.About.{About}
 use Rattle.delta_server.specs.declared.answering.Settings.{Settings}
 use Rattle.sb_service.specs.declared.command.Command.{Command}
-use Rattle.sb_service.specs.declared.command.Command.TheVariants.{Answer, Serve, Generate, Exercise}
+use Rattle.sb_service.specs.declared.command.Command.TheVariants.{Answer, Serve, Generate, Exercise, Tell}
 use Rattle.sb_service.specs.declared.command.DoorRoom.{DoorRoom}
 use Rattle.sb_service.specs.declared.command.GenerateLine.{GenerateLine}
 use Rattle.sb_service.specs.declared.command.Load.{Load}
@@ -32,12 +34,12 @@ answer_shape = record {
   takes_positionals = false;
 }
 
--- `serve` needs a journal and an address, and may have a number of connections, the room of its door, a flag and the same durations.
+-- `serve` needs a journal and an address, and may have a number of connections, the room of its door, two flags and the same durations.
 abbrev pub serve_shape : CommandShape
 serve_shape = record {
   options =
       needed (codes "journal") ∷ needed (codes "listen") ∷ optional (codes "connections")
-      ∷ optional (codes "peers") ∷ optional (codes "answers") ∷ flag (codes "hold")
+      ∷ optional (codes "peers") ∷ optional (codes "answers") ∷ flag (codes "hold") ∷ flag (codes "quiet")
       ∷ optional (codes "wait") ∷ optional (codes "find-wait") ∷ optional (codes "cache") ∷ optional (codes "negative") ∷ [];
   takes_positionals = false;
 }
@@ -106,7 +108,7 @@ abbrev pub answer_of : List Text → Option AnswerWords
 answer_of words = option_and_then answer_given (given_to (codes "answer") answer_shape words)
 
 -- What a command line of `serve` says: the path of the journal, the address, the room of the door, and the plan: times, how many
--- connections, and whether a bad line of the journal holds the lists as they are.
+-- connections, whether a bad line of the journal holds the lists as they are, and whether connections have no lines.
 pub record ServeWords : Type 0 where
   pub journal : Text
   pub listen : Text
@@ -145,7 +147,12 @@ room_given named =
 abbrev pub plan_given : List (Text × Text) → Option ServePlan
 plan_given named =
     option_and_then (λ count. option_map
-    (λ times. record { settings = times; connections = count; hold = is_some (value_among (codes "hold") named) })
+    (λ times. record {
+      settings = times;
+      connections = count;
+      hold = is_some (value_among (codes "hold") named);
+      quiet = is_some (value_among (codes "quiet") named);
+    })
     (settings_given named)) (connections_given named)
 
 abbrev pub serve_with : Option Text → Option Text → Option DoorRoom → Option ServePlan → Option ServeWords
@@ -185,6 +192,10 @@ generate_of words = option_and_then generate_given (given_to (codes "generate") 
 abbrev pub exercise_of : List Text → Option Load
 exercise_of words = option_and_then exercise_given (given_to (codes "exercise") exercise_shape words)
 
+-- what the words `sblistd --help`, `sblistd -h` or `sblistd --version` ask about the program
+abbrev pub tell_of : List Text → Option About
+tell_of words = about_of (codes "sblistd") words
+
 -- where the words have a journal: those of `answer`, or else those of `serve`
 abbrev pub path_of : Option AnswerWords → Option ServeWords → Option Text
 path_of (Some answer) serve = Some answer.journal
@@ -206,6 +217,7 @@ pub record IsNoCommand (words : List Text) : Type 0 where
   pub serve : serve_of words ≡ None
   pub generate : generate_of words ≡ None
   pub exercise : exercise_of words ≡ None
+  pub tell : tell_of words ≡ None
 
 -- The words are those of `answer`, for a message of this kind, with these settings.
 pub record AsksAnswer (words : List Text) (kind : MessageKind) (settings : Settings) : Type 0 where
@@ -227,6 +239,7 @@ IsCommandOf words (Some (Answer kind settings)) = AsksAnswer words kind settings
 IsCommandOf words (Some (Serve plan)) = AsksServe words plan
 IsCommandOf words (Some (Generate urls load)) = generate_of words ≡ Some (record { urls = urls; load = load })
 IsCommandOf words (Some (Exercise load)) = exercise_of words ≡ Some load
+IsCommandOf words (Some (Tell about)) = tell_of words ≡ Some about
 
 -- a command that serves no connection, and one that makes what it prints from its words alone
 abbrev pub IsNoService : Command → Type 0
@@ -236,4 +249,5 @@ IsNoService command = ⊤
 abbrev pub IsMade : Command → Type 0
 IsMade (Generate urls load) = ⊤
 IsMade (Exercise load) = ⊤
+IsMade (Tell about) = ⊤
 IsMade command = ⊥

@@ -1,6 +1,6 @@
 -- A run of `serve`: what the journal gave before each connection, how each connection ended and what the door's log says of
 -- it, the lines that were printed, and how the run ended.
-use Rattle.std.specs.Prelude.{◌≡◌, ◌≢◌, ◌⊎◌, ◌+◌, ◌≤◌, ℕ, zero, suc, Bool, true, List, [], ◌∷◌, ◌++◌, length, take, ⊤, Option, Some, Result, Ok, Err, IfSome, option_map}
+use Rattle.std.specs.Prelude.{◌≡◌, ◌≢◌, ◌⊎◌, ◌+◌, ◌≤◌, ℕ, zero, suc, Bool, true, false, if◌then◌else◌, List, [], ◌∷◌, ◌++◌, length, take, ⊤, Option, Some, Result, Ok, Err, IfSome, option_map}
 use Rattle.std.specs.List.{concat}
 use Rattle.sb_outside.specs.Outside.{IfTold, appended, with_entry}
 use Rattle.sb_outside.specs.Writing.{HasFront}
@@ -27,7 +27,7 @@ pub record IsLogged (Says : Connection → Type 0) (log log' : Option (List Conn
   pub logged : IfTold log' (with_entry log entry)
   pub says : IfSome log' (λ _. Says entry)
 
--- ---- the connections of which a line was printed
+-- ---- the connections that ended no run
 
 pub record Turn : Type 0 where
   -- the bytes that the journal gave before it, up to an end
@@ -64,10 +64,14 @@ AreOfJournal loaded [] = ⊤
 AreOfJournal loaded (turn ∷ before) =
     (kept_of (loaded ++ gained_in (turn ∷ before)) ≡ Ok turn.kept) × AreOfJournal loaded before
 
--- a line for each, with its number counted from 1
-abbrev pub lines_of : List Turn → List ℕ
-lines_of [] = []
-lines_of (turn ∷ before) = lines_of before ++ connection_line (length before + 1) turn.how
+-- what is printed of a connection with a number: its line, or nothing in a quiet run
+abbrev pub printed_of : Bool → ℕ → ConnectionEnd → List ℕ
+printed_of quiet number how = if quiet then [] else connection_line number how
+
+-- that of each, with its number counted from 1
+abbrev pub lines_of : Bool → List Turn → List ℕ
+lines_of quiet [] = []
+lines_of quiet (turn ∷ before) = lines_of quiet before ++ printed_of quiet (length before + 1) turn.how
 
 -- what each of the connections had to give, in the order in which they came
 abbrev pub pieces_of : List Turn → List (List (List ℕ))
@@ -96,43 +100,44 @@ pub record Seen : Type 0 where
   pub coming : Option (List (List (List ℕ)))
 
 -- From one moment to another there were these turns.
-pub record HasTurns (times : Settings) (turns : List Turn) (before after : Seen) : Type 0 where
+pub record HasTurns (plan : ServePlan) (turns : List Turn) (before after : Seen) : Type 0 where
   pub gains : Gains turns before.left after.left
   pub grows : Grows before.kept turns after.kept
-  pub printed : after.held ≡ appended before.held (lines_of turns)
+  pub printed : after.held ≡ appended before.held (lines_of plan.quiet turns)
   pub came : before.coming ≡ option_map (λ later. pieces_of turns ++ later) after.coming
   pub logged : IfTold after.log (with_entries before.log turns)
-  pub served : IfSome after.log (λ _. AreServed times turns)
+  pub served : IfSome after.log (λ _. AreServed plan.settings turns)
 
 -- ---- a turn that ended the run, or did not
 
--- What became of the line of a connection: it was written, or a front of it that lacks something with status 3, or nothing
--- with status 8, if memory was refused for it. The line of a connection that ended for want of memory needs none.
-abbrev pub IsLined : ℕ → ConnectionEnd → ℕ → (held held' : Option (List ℕ)) → Type 0
-IsLined number how status held held' =
-    ((status ≡ 0) × (held' ≡ appended held (connection_line number how)))
-    ⊎ ((status ≡ 3) × HasFront held held' (connection_line number how))
-    ⊎ ((how ≢ end.OutOfMemory) × IsSilent 8 status held held')
+-- What became of what is printed of a connection: it was written, or a front of it that lacks something with status 3, or nothing
+-- with status 8, if memory was refused for it. The line of a connection that ended for want of memory needs none, and a quiet run
+-- writes none.
+abbrev pub IsLined : Bool → ℕ → ConnectionEnd → ℕ → (held held' : Option (List ℕ)) → Type 0
+IsLined quiet number how status held held' =
+    ((status ≡ 0) × (held' ≡ appended held (printed_of quiet number how)))
+    ⊎ ((status ≡ 3) × HasFront held held' (printed_of quiet number how))
+    ⊎ ((quiet ≡ false) × (how ≢ end.OutOfMemory) × IsSilent 8 status held held')
 
--- A connection that had these pieces to give was served, and its line printed.
-pub record IsTold (versions : History) (times : Settings) (number status : ℕ) (pieces : List (List ℕ)) (log log' : Option (List Connection))
+-- A connection that had these pieces to give was served by the plan, and its line printed unless the plan is quiet.
+pub record IsTold (versions : History) (plan : ServePlan) (number status : ℕ) (pieces : List (List ℕ)) (log log' : Option (List Connection))
     (held held' : Option (List ℕ)) : Type 0 where
   pub how : ConnectionEnd
-  pub logged : IsLogged (IsServed (IsResponseTo versions times) how pieces) log log'
-  pub lined : IsLined number how status held held'
+  pub logged : IsLogged (IsServed (IsResponseTo versions plan.settings) how pieces) log log'
+  pub lined : IsLined plan.quiet number how status held held'
 
 -- The first of the connections that were to come, which had these pieces to give, was taken.
 abbrev pub IsTaken : List (List ℕ) → (coming coming' : Option (List (List (List ℕ)))) → Type 0
 IsTaken pieces coming coming' = coming ≡ option_map (λ later. pieces ∷ later) coming'
 
 -- The history grew, and the connection was served over it.
-pub record HasGrown (times : Settings) (number status : ℕ) (before after : Seen) : Type 0 where
+pub record HasGrown (plan : ServePlan) (number status : ℕ) (before after : Seen) : Type 0 where
   pub gained : List ℕ
   pub gives : Gives gained true before.left after.left
   pub grows : read_on before.kept gained ≡ Ok after.kept
   pub pieces : List (List ℕ)
   pub taken : IsTaken pieces before.coming after.coming
-  pub told : IsTold after.kept.versions times number status pieces before.log after.log before.held after.held
+  pub told : IsTold after.kept.versions plan number status pieces before.log after.log before.held after.held
 
 -- what a journal that is refused led to: 8 for want of memory, 2 where it failed, and else its cause was told
 abbrev pub IsRefusal : JournalFault → ℕ → (held held' : Option (List ℕ)) → Type 0
@@ -153,7 +158,7 @@ pub record HasNotGrown (hold : Bool) (status : ℕ) (before after : Seen) : Type
   pub logged : IsLogged IsUntouched before.log after.log
 
 -- The cause of a bad line was told, and the connection was served over the history as it was.
-pub record HasHeld (times : Settings) (number status : ℕ) (before after : Seen) : Type 0 where
+pub record HasHeld (plan : ServePlan) (number status : ℕ) (before after : Seen) : Type 0 where
   pub gained : List ℕ
   pub ended : Bool
   pub gives : Gives gained ended before.left after.left
@@ -165,30 +170,30 @@ pub record HasHeld (times : Settings) (number status : ℕ) (before after : Seen
   pub same : after.kept ≡ before.kept
   pub pieces : List (List ℕ)
   pub taken : IsTaken pieces before.coming after.coming
-  pub told : IsTold before.kept.versions times number status pieces before.log after.log between after.held
+  pub told : IsTold before.kept.versions plan number status pieces before.log after.log between after.held
 
 -- a turn with a connection that the door gave, which ended the run or, with status 0, did not
-abbrev pub IsTurn : Bool → Settings → ℕ → ℕ → Seen → Seen → Type 0
-IsTurn hold times number status before after =
-    HasGrown times number status before after
+abbrev pub IsTurn : Bool → ServePlan → ℕ → ℕ → Seen → Seen → Type 0
+IsTurn hold plan number status before after =
+    HasGrown plan number status before after
     ⊎ HasNotGrown hold status before after
-    ⊎ ((hold ≡ true) × (status ≢ 0) × HasHeld times number status before after)
+    ⊎ ((hold ≡ true) × (status ≢ 0) × HasHeld plan number status before after)
 
 -- ---- connections once the lists are held
 
 -- The journal was not looked at, and the connection was served over the history as it was.
-pub record HasStayed (times : Settings) (number status : ℕ) (before after : Seen) : Type 0 where
+pub record HasStayed (plan : ServePlan) (number status : ℕ) (before after : Seen) : Type 0 where
   pub unread : after.left ≡ before.left
   pub same : after.kept ≡ before.kept
   pub pieces : List (List ℕ)
   pub taken : IsTaken pieces before.coming after.coming
-  pub told : IsTold before.kept.versions times number status pieces before.log after.log before.held after.held
+  pub told : IsTold before.kept.versions plan number status pieces before.log after.log before.held after.held
 
 -- So many connections, behind the one with a number, were served so.
-abbrev pub Stays : Settings → ℕ → ℕ → Seen → Seen → Type 0
-Stays times number zero before after = after ≡ before
-Stays times number (suc count) before after =
-    (between : Seen) × Stays times number count before between × HasStayed times (number + suc count) 0 between after
+abbrev pub Stays : ServePlan → ℕ → ℕ → Seen → Seen → Type 0
+Stays plan number zero before after = after ≡ before
+Stays plan number (suc count) before after =
+    (between : Seen) × Stays plan number count before between × HasStayed plan (number + suc count) 0 between after
 
 -- ---- a run
 
@@ -201,49 +206,49 @@ pub record EndsWith (wanted status : ℕ) (before after : Seen) : Type 0 where
   pub coming : after.coming ≡ before.coming
 
 -- How a run ended in place of a further turn: no connection was to come, the door failed, or the turn ended it.
-abbrev pub StopsAt : Bool → Settings → ℕ → ℕ → Seen → Seen → Type 0
-StopsAt hold times number status before after =
+abbrev pub StopsAt : Bool → ServePlan → ℕ → ℕ → Seen → Seen → Type 0
+StopsAt hold plan number status before after =
     (EndsWith 0 status before after × IfTold after.coming (Some []))
     ⊎ EndsWith 9 status before after
-    ⊎ ((status ≢ 0) × IsTurn hold times number status before after)
+    ⊎ ((status ≢ 0) × IsTurn hold plan number status before after)
 
 -- How a run ended that held its lists, after the connection with a number: with 7 in place of 0, if these were all or no connection
 -- was to come; or the door failed, or a further connection ended it.
-abbrev pub HeldEnds : Settings → ℕ → ℕ → ℕ → Seen → Seen → Type 0
-HeldEnds times connections number status before after =
+abbrev pub HeldEnds : ServePlan → ℕ → ℕ → ℕ → Seen → Seen → Type 0
+HeldEnds plan connections number status before after =
     ((number ≡ connections) × EndsWith 7 status before after)
     ⊎ (EndsWith 7 status before after × IfTold after.coming (Some []))
     ⊎ EndsWith 9 status before after
-    ⊎ ((status ≢ 0) × HasStayed times (number + 1) status before after)
+    ⊎ ((status ≢ 0) × HasStayed plan (number + 1) status before after)
 
 -- Behind the connection with a number, some were served over the lists that are held, and then the run ended.
-pub record HasHeldOn (times : Settings) (connections number status : ℕ) (before after : Seen) : Type 0 where
+pub record HasHeldOn (plan : ServePlan) (connections number status : ℕ) (before after : Seen) : Type 0 where
   pub count : ℕ
   pub few : number + count ≤ connections
   pub last : Seen
-  pub stays : Stays times number count before last
-  pub ends : HeldEnds times connections (number + count) status last after
+  pub stays : Stays plan number count before last
+  pub ends : HeldEnds plan connections (number + count) status last after
 
 -- The connection with a number was the first that was served over lists that are held, and others followed.
-pub record Holds (times : Settings) (connections number status : ℕ) (before after : Seen) : Type 0 where
+pub record Holds (plan : ServePlan) (connections number status : ℕ) (before after : Seen) : Type 0 where
   pub between : Seen
-  pub held : HasHeld times number 0 before between
-  pub rest : HasHeldOn times connections number status between after
+  pub held : HasHeld plan number 0 before between
+  pub rest : HasHeldOn plan connections number status between after
 
 -- The same after so many turns, or these were all, or the next one held the lists.
-abbrev pub Stops : Bool → Settings → ℕ → ℕ → ℕ → Seen → Seen → Type 0
-Stops hold times connections turns status before after =
+abbrev pub Stops : Bool → ServePlan → ℕ → ℕ → ℕ → Seen → Seen → Type 0
+Stops hold plan connections turns status before after =
     ((turns ≡ connections) × EndsWith 0 status before after)
-    ⊎ StopsAt hold times (turns + 1) status before after
-    ⊎ ((hold ≡ true) × Holds times connections (turns + 1) status before after)
+    ⊎ StopsAt hold plan (turns + 1) status before after
+    ⊎ ((hold ≡ true) × Holds plan connections (turns + 1) status before after)
 
 -- The turns with a journal that was loaded, and the end.
-pub record HasRun (hold : Bool) (times : Settings) (connections status : ℕ) (before after : Seen) : Type 0 where
+pub record HasRun (hold : Bool) (plan : ServePlan) (connections status : ℕ) (before after : Seen) : Type 0 where
   pub turns : List Turn
   pub last : Seen
   pub few : length turns ≤ connections
-  pub turned : HasTurns times turns before last
-  pub stops : Stops hold times connections (length turns) status last after
+  pub turned : HasTurns plan turns before last
+  pub stops : Stops hold plan connections (length turns) status last after
 
 -- A journal that was not loaded ends the run before any connection.
 pub record HasNotBegun (fault : JournalFault) (status : ℕ) (left left' : Option (List (List ℕ)))
@@ -257,7 +262,7 @@ pub record HasNotBegun (fault : JournalFault) (status : ℕ) (left left' : Optio
 pub record HasBegun (plan : ServePlan) (status : ℕ) (bytes : List ℕ) (kept : Kept) (left left' : Option (List (List ℕ)))
     (held held' : Option (List ℕ)) (log log' : Option (List Connection)) (coming coming' : Option (List (List (List ℕ)))) : Type 0 where
   pub last : Kept
-  pub run : HasRun plan.hold plan.settings plan.connections status (record { left = left; kept = kept; held = held; log = log; coming = coming })
+  pub run : HasRun plan.hold plan plan.connections status (record { left = left; kept = kept; held = held; log = log; coming = coming })
       (record { left = left'; kept = last; held = held'; log = log'; coming = coming' })
   pub journal : AreOfJournal bytes run.turns
 

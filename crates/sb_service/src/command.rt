@@ -1,12 +1,15 @@
 ghost use Rattle.std.specs.Prelude.{◌≡◌, ◌≤◌, ◌&&◌, IfOk, IfSome, map, option_map, option_and_then, None, codes, string_bytes};
 ghost use Rattle.std.specs.Str.{bytes_eq};
+ghost use Rattle.sb_words.specs.About.{about_of};
 ghost use Rattle.sb_words.specs.CommandLine.{given_of};
 ghost use Rattle.sb_service.specs.Command.{amount_given, answer_given, answer_of, answer_shape, connections_given, exercise_given, exercise_of, exercise_shape, generate_given, generate_of, generate_shape, kind_given, kind_of, listen_given, load_given, plan_given, room_given, seconds_given, serve_given, serve_of, serve_shape, settings_given, AnswerWords, IsCommandOf, ServeWords};
 
 use crate::serve::ServePlan;
 use delta_server::Settings;
 use sb_model::OutOfMemory;
-use sb_words::{OptionKind, OptionShape, Shape, Words, listen_address, number, read_words};
+use sb_words::{
+    About, OptionKind, OptionShape, Shape, Words, asked_about, listen_address, number, read_words,
+};
 use std::alloc::Global;
 
 /// The words of `answer`.
@@ -65,6 +68,10 @@ const SERVE: Shape = Shape {
         },
         OptionShape {
             name: "hold",
+            kind: OptionKind::Flag,
+        },
+        OptionShape {
+            name: "quiet",
             kind: OptionKind::Flag,
         },
         OptionShape {
@@ -162,6 +169,8 @@ pub(crate) enum Command {
     },
     /// The line of an exercise with a load.
     Exercise(Load),
+    /// What is asked about the program.
+    Tell(About),
 }
 
 /// What a command line of `answer` says.
@@ -347,6 +356,7 @@ fn plan_in(given: &Words<'_>) -> Option<ServePlan>
         settings,
         connections,
         hold: given.has("hold"),
+        quiet: given.has("quiet"),
     })
 }
 
@@ -499,6 +509,7 @@ fn exercise_line(alloc: Global, words: &[String]) -> Result<Option<Load>, OutOfM
 
 /// The command that words are which have no journal; `None` where they are none.
 fn load_command(alloc: Global, words: &[String]) -> Result<Option<Command>, OutOfMemory>
+    requires about { about_of (codes "sblistd") (map string_bytes words.now) ≡ None }
     requires answer { answer_of (map string_bytes words.now) ≡ None }
     requires serve { serve_of (map string_bytes words.now) ≡ None }
     ensures { IfOk result (λ command. IsCommandOf (map string_bytes words.now) command) }
@@ -515,7 +526,8 @@ fn load_command(alloc: Global, words: &[String]) -> Result<Option<Command>, OutO
 
 /// The command that words are which are none of `answer`; `None` where they are none.
 fn serve_command(alloc: Global, words: &[String]) -> Result<Option<Command>, OutOfMemory>
-    requires { answer_of (map string_bytes words.now) ≡ None }
+    requires about { about_of (codes "sblistd") (map string_bytes words.now) ≡ None }
+    requires answer { answer_of (map string_bytes words.now) ≡ None }
     ensures { IfOk result (λ command. IsCommandOf (map string_bytes words.now) command) }
 {
     match serve_line(alloc, words) {
@@ -525,8 +537,9 @@ fn serve_command(alloc: Global, words: &[String]) -> Result<Option<Command>, Out
     }
 }
 
-/// The command that the words are; `None` where they are none.
-pub(crate) fn command_of(alloc: Global, words: &[String]) -> Result<Option<Command>, OutOfMemory>
+/// The command that words are which ask nothing about the program; `None` where they are none.
+fn answer_command(alloc: Global, words: &[String]) -> Result<Option<Command>, OutOfMemory>
+    requires about { about_of (codes "sblistd") (map string_bytes words.now) ≡ None }
     ensures { IfOk result (λ command. IsCommandOf (map string_bytes words.now) command) }
 {
     match answer_line(alloc, words) {
@@ -536,5 +549,15 @@ pub(crate) fn command_of(alloc: Global, words: &[String]) -> Result<Option<Comma
         })),
         Ok(None) => serve_command(alloc, words),
         Err(OutOfMemory) => Err(OutOfMemory),
+    }
+}
+
+/// The command that the words are; `None` where they are none.
+pub(crate) fn command_of(alloc: Global, words: &[String]) -> Result<Option<Command>, OutOfMemory>
+    ensures { IfOk result (λ command. IsCommandOf (map string_bytes words.now) command) }
+{
+    match asked_about(words, "sblistd") {
+        Some(about) => Ok(Some(Command::Tell(about))),
+        None => answer_command(alloc, words),
     }
 }

@@ -1,6 +1,7 @@
-ghost use Rattle.std.specs.Prelude.{◌≡◌, ◌≢◌, ◌⊎◌, IfOk, IsErrOf};
+ghost use Rattle.std.specs.Prelude.{◌≡◌, ◌≢◌, ◌⊎◌, IfOk, IsErrOf, codes};
 ghost use Rattle.sb_outside.specs.Outside.{Rose};
 ghost use Rattle.generated_load.specs.Exercise.{HasRoom, exercise_line};
+ghost use Rattle.sb_words.specs.About.{about_text};
 ghost use Rattle.sb_service.specs.Answer.{IsWritten};
 ghost use Rattle.sb_service.specs.Made.{generated_text, printed_whole};
 ghost use Rattle.sb_service.specs.Stops.{status_of};
@@ -12,6 +13,7 @@ use crate::stop::Stop;
 use generated_load::{ExerciseFault, generated_journal, generated_urls};
 use sb_model::{Bytes, OutOfMemory};
 use sb_outside::Sink;
+use sb_words::{About, about_text};
 use std::alloc::Global;
 
 /// The URLs of a seed, or its journal.
@@ -48,6 +50,21 @@ pub(crate) fn generate<O: Sink>(alloc: Global, line: GenerateLine, out: &mut O) 
     ensures memory { result ≡ Stop.OutOfMemory → out.new ≡ out.old }
 {
     match generated_text(alloc, line) {
+        Ok(text) => print_text(text, out),
+        Err(OutOfMemory) => Stop::OutOfMemory,
+    }
+}
+
+/// Writes what is asked about the program, of which this is the usage text. Where memory is refused nothing is written.
+pub(crate) fn tell<O: Sink>(alloc: Global, about: About, usage: &str, out: &mut O) -> Stop
+    ensures written { result ≢ Stop.OutOfMemory
+        → IsWritten (printed_whole (about_text about (codes "sblistd") usage.now)) (status_of result) (O.contents out.old) (O.contents out.new) }
+    ensures ends { (result ≡ Stop.Done) ⊎ (result ≡ Stop.WriteFault) ⊎ (result ≡ Stop.OutOfMemory) }
+    ensures failed { result ≡ Stop.WriteFault → Rose (O.faults out.old) (O.faults out.new) }
+    ensures kept { result ≢ Stop.WriteFault → O.faults out.new ≡ O.faults out.old }
+    ensures memory { result ≡ Stop.OutOfMemory → out.new ≡ out.old }
+{
+    match about_text(alloc, about, "sblistd", usage) {
         Ok(text) => print_text(text, out),
         Err(OutOfMemory) => Stop::OutOfMemory,
     }

@@ -29,6 +29,8 @@ pub(crate) struct ServePlan {
     pub connections: u32,
     /// Whether a bad line of the journal that is met later is told, and the lists served on as they are.
     pub hold: bool,
+    /// Whether no line is printed for a connection.
+    pub quiet: bool,
 }
 
 /// How a run goes on after a connection.
@@ -42,7 +44,7 @@ enum Further {
 
 /// Prints the line of a connection that ended. Answers `Done`, or what ends the run.
 fn print_end<O: Sink>(alloc: Global, number: u32, end: &ConnectionEnd, out: &mut O) -> Stop
-    ensures lined { IsLined number end.now (status_of result) (O.contents out.old) (O.contents out.new) }
+    ensures lined { IsLined false number end.now (status_of result) (O.contents out.old) (O.contents out.new) }
     ensures failed { result ≡ Stop.WriteFault → Rose (O.faults out.old) (O.faults out.new) }
     ensures kept { result ≢ Stop.WriteFault → O.faults out.new ≡ O.faults out.old }
 {
@@ -53,38 +55,58 @@ fn print_end<O: Sink>(alloc: Global, number: u32, end: &ConnectionEnd, out: &mut
     }
 }
 
-/// Serves a connection by what is kept or anew, gives it back, and prints its line. Answers `Done`, or what ends the run.
+/// The same, unless the run is quiet.
+fn tell_end<O: Sink>(
+    alloc: Global,
+    quiet: bool,
+    number: u32,
+    end: &ConnectionEnd,
+    out: &mut O,
+) -> Stop
+    ensures lined { IsLined quiet number end.now (status_of result) (O.contents out.old) (O.contents out.new) }
+    ensures ends { (result ≡ Stop.Done) ⊎ (result ≡ Stop.WriteFault) ⊎ (result ≡ Stop.OutOfMemory) }
+    ensures failed { result ≡ Stop.WriteFault → Rose (O.faults out.old) (O.faults out.new) }
+    ensures kept { result ≢ Stop.WriteFault → O.faults out.new ≡ O.faults out.old }
+{
+    if quiet {
+        return Stop::Done;
+    }
+    print_end(alloc, number, end, out)
+}
+
+/// Serves a connection by what is kept or anew, gives it back, and prints its line unless the plan is quiet. Answers `Done`, or
+/// what ends the run.
 fn serve_taken<O: Sink, D: Door>(
     alloc: Global,
     history: &History,
-    settings: &Settings,
+    plan: &ServePlan,
     kept: &mut KeptAnswers,
     number: u32,
     out: &mut O,
     door: &mut D,
     wire: D::Wire,
 ) -> Stop
-    requires { AreKeptOf history.now.versions settings.now kept.old }
+    requires { AreKeptOf history.now.versions plan.now.settings kept.old }
     ensures told { (before : Option (List Connection)) (pieces : List (List ℕ))
         → IsOpened before (D.log door.old) (D.Wire.number wire)
         → IsFresh pieces (D.Wire.start wire) (D.Wire.left wire) (D.Wire.contents wire) (D.Wire.Source.faults wire) (D.Wire.Sink.faults wire)
-        → IsTold history.now.versions settings.now number (status_of result) pieces before (D.log door.new)
+        → IsTold history.now.versions plan.now number (status_of result) pieces before (D.log door.new)
         (O.contents out.old) (O.contents out.new) }
     ensures ends { (result ≡ Stop.Done) ⊎ (result ≡ Stop.WriteFault) ⊎ (result ≡ Stop.OutOfMemory) }
     ensures failed { result ≡ Stop.WriteFault → Rose (O.faults out.old) (O.faults out.new) }
     ensures kept { result ≢ Stop.WriteFault → O.faults out.new ≡ O.faults out.old }
     ensures door_kept { D.faults door.new ≡ D.faults door.old }
     ensures coming { D.coming door.new ≡ D.coming door.old }
-    ensures answers { AreKeptOf history.now.versions settings.now kept.new }
+    ensures answers { AreKeptOf history.now.versions plan.now.settings kept.new }
 {
     let mut server = ListServer {
         history,
-        settings,
+        settings: &plan.settings,
         kept: mem::replace(kept, KeptAnswers::new(alloc)),
     };
     let end = serve_wire(alloc, &mut server, door, wire);
     *kept = server.into_kept();
-    print_end(alloc, number, &end, out)
+    tell_end(alloc, plan.quiet, number, &end, out)
 }
 
 /// Says why the journal was refused, and answers what ends the run.
@@ -143,19 +165,19 @@ fn take_turn<J: Source, O: Sink, D: Door>(
     ensures looking { (before : Option (List Connection)) (coming : Option (List (List (List ℕ)))) (pieces : List (List ℕ))
         → IsOpened before (D.log door.old) (D.Wire.number wire) → IsTaken pieces coming (D.coming door.old)
         → IsFresh pieces (D.Wire.start wire) (D.Wire.left wire) (D.Wire.contents wire) (D.Wire.Source.faults wire) (D.Wire.Sink.faults wire)
-        → result ≡ Ok Further.Looking → HasGrown plan.now.settings number 0
+        → result ≡ Ok Further.Looking → HasGrown plan.now number 0
         (record { left = J.left journal.old; kept = history.old; held = O.contents out.old; log = before; coming = coming })
         (record { left = J.left journal.new; kept = history.new; held = O.contents out.new; log = D.log door.new; coming = D.coming door.new }) }
     ensures holding { (before : Option (List Connection)) (coming : Option (List (List (List ℕ)))) (pieces : List (List ℕ))
         → IsOpened before (D.log door.old) (D.Wire.number wire) → IsTaken pieces coming (D.coming door.old)
         → IsFresh pieces (D.Wire.start wire) (D.Wire.left wire) (D.Wire.contents wire) (D.Wire.Source.faults wire) (D.Wire.Sink.faults wire)
-        → result ≡ Ok Further.Holding → (plan.now.hold ≡ true) × HasHeld plan.now.settings number 0
+        → result ≡ Ok Further.Holding → (plan.now.hold ≡ true) × HasHeld plan.now number 0
         (record { left = J.left journal.old; kept = history.old; held = O.contents out.old; log = before; coming = coming })
         (record { left = J.left journal.new; kept = history.new; held = O.contents out.new; log = D.log door.new; coming = D.coming door.new }) }
     ensures stops { (before : Option (List Connection)) (coming : Option (List (List (List ℕ)))) (pieces : List (List ℕ))
         → IsOpened before (D.log door.old) (D.Wire.number wire) → IsTaken pieces coming (D.coming door.old)
         → IsFresh pieces (D.Wire.start wire) (D.Wire.left wire) (D.Wire.contents wire) (D.Wire.Source.faults wire) (D.Wire.Sink.faults wire)
-        → IfErr result (λ stop. IsTurn plan.now.hold plan.now.settings number (status_of stop)
+        → IfErr result (λ stop. IsTurn plan.now.hold plan.now number (status_of stop)
         (record { left = J.left journal.old; kept = history.old; held = O.contents out.old; log = before; coming = coming })
         (record { left = J.left journal.new; kept = history.new; held = O.contents out.new; log = D.log door.new; coming = D.coming door.new })) }
     ensures ends { IfErr result (λ stop. (stop ≡ Stop.ReadFault) ⊎ (stop ≡ Stop.WriteFault) ⊎ (stop ≡ Stop.BadJournal) ⊎ (stop ≡ Stop.OutOfMemory)) }
@@ -167,17 +189,16 @@ fn take_turn<J: Source, O: Sink, D: Door>(
     ensures coming { D.coming door.new ≡ D.coming door.old }
     ensures answers { AreKeptOf history.new.versions plan.now.settings kept.new }
 {
-    let settings = &plan.settings;
     match history.grow_if_more(alloc, journal) {
         Ok(grown) => {
             kept.forget_if(grown);
-            let stop = serve_taken(alloc, history, settings, kept, number, out, door, wire);
+            let stop = serve_taken(alloc, history, plan, kept, number, out, door, wire);
             goes_on(stop, Further::Looking)
         }
         Err(fault) => {
             let stop = refuse(alloc, fault, out);
             if plan.hold && is_bad_journal(stop) {
-                let stop = serve_taken(alloc, history, settings, kept, number, out, door, wire);
+                let stop = serve_taken(alloc, history, plan, kept, number, out, door, wire);
                 return goes_on(stop, Further::Holding);
             }
             give_back(door, wire);
@@ -198,13 +219,13 @@ fn take_next<J: Source, O: Sink, D: Door>(
     door: &mut D,
 ) -> Result<Further, Stop>
     requires { AreKeptOf history.old.versions plan.now.settings kept.old }
-    ensures looking { result ≡ Ok Further.Looking → HasGrown plan.now.settings number 0
+    ensures looking { result ≡ Ok Further.Looking → HasGrown plan.now number 0
         (record { left = J.left journal.old; kept = history.old; held = O.contents out.old; log = D.log door.old; coming = D.coming door.old })
         (record { left = J.left journal.new; kept = history.new; held = O.contents out.new; log = D.log door.new; coming = D.coming door.new }) }
-    ensures holding { result ≡ Ok Further.Holding → (plan.now.hold ≡ true) × HasHeld plan.now.settings number 0
+    ensures holding { result ≡ Ok Further.Holding → (plan.now.hold ≡ true) × HasHeld plan.now number 0
         (record { left = J.left journal.old; kept = history.old; held = O.contents out.old; log = D.log door.old; coming = D.coming door.old })
         (record { left = J.left journal.new; kept = history.new; held = O.contents out.new; log = D.log door.new; coming = D.coming door.new }) }
-    ensures stops { IfErr result (λ stop. StopsAt plan.now.hold plan.now.settings number (status_of stop)
+    ensures stops { IfErr result (λ stop. StopsAt plan.now.hold plan.now number (status_of stop)
         (record { left = J.left journal.old; kept = history.old; held = O.contents out.old; log = D.log door.old; coming = D.coming door.old })
         (record { left = J.left journal.new; kept = history.new; held = O.contents out.new; log = D.log door.new; coming = D.coming door.new })) }
     ensures ends { IfErr result (λ stop.
@@ -229,18 +250,18 @@ fn take_next<J: Source, O: Sink, D: Door>(
 fn serve_one_held<O: Sink, D: Door>(
     alloc: Global,
     history: &History,
-    settings: &Settings,
+    plan: &ServePlan,
     kept: &mut KeptAnswers,
     number: u32,
     out: &mut O,
     door: &mut D,
 ) -> Option<Stop>
-    requires { AreKeptOf history.now.versions settings.now kept.old }
-    ensures goes_on { (left : Option (List (List ℕ))) → IfNone result (HasStayed settings.now number 0
+    requires { AreKeptOf history.now.versions plan.now.settings kept.old }
+    ensures goes_on { (left : Option (List (List ℕ))) → IfNone result (HasStayed plan.now number 0
         (record { left = left; kept = history.now; held = O.contents out.old; log = D.log door.old; coming = D.coming door.old })
         (record { left = left; kept = history.now; held = O.contents out.new; log = D.log door.new; coming = D.coming door.new })) }
     ensures stops { (left : Option (List (List ℕ))) (connections before : ℕ) → before + 1 ≡ number → IfSome result (λ stop.
-        HeldEnds settings.now connections before (status_of stop)
+        HeldEnds plan.now connections before (status_of stop)
         (record { left = left; kept = history.now; held = O.contents out.old; log = D.log door.old; coming = D.coming door.old })
         (record { left = left; kept = history.now; held = O.contents out.new; log = D.log door.new; coming = D.coming door.new })) }
     ensures ends { IfSome result (λ stop.
@@ -249,11 +270,11 @@ fn serve_one_held<O: Sink, D: Door>(
     ensures kept { result ≢ Some Stop.WriteFault → O.faults out.new ≡ O.faults out.old }
     ensures door_failed { result ≡ Some Stop.DoorFault → Rose (D.faults door.old) (D.faults door.new) }
     ensures door_kept { result ≢ Some Stop.DoorFault → D.faults door.new ≡ D.faults door.old }
-    ensures answers { AreKeptOf history.now.versions settings.now kept.new }
+    ensures answers { AreKeptOf history.now.versions plan.now.settings kept.new }
 {
     match door.next() {
         Ok(Some(wire)) => {
-            match serve_taken(alloc, history, settings, kept, number, out, door, wire) {
+            match serve_taken(alloc, history, plan, kept, number, out, door, wire) {
                 Stop::Done => None,
                 stop => Some(stop),
             }
@@ -276,7 +297,7 @@ fn serve_held<O: Sink, D: Door>(
 ) -> Stop
     requires answers { AreKeptOf history.now.versions plan.now.settings kept.old }
     requires few { taken ≤ plan.now.connections }
-    ensures run { (left : Option (List (List ℕ))) → HasHeldOn plan.now.settings plan.now.connections taken (status_of result)
+    ensures run { (left : Option (List (List ℕ))) → HasHeldOn plan.now plan.now.connections taken (status_of result)
         (record { left = left; kept = history.now; held = O.contents out.old; log = D.log door.old; coming = D.coming door.old })
         (record { left = left; kept = history.now; held = O.contents out.new; log = D.log door.new; coming = D.coming door.new }) }
     ensures ends { (result ≡ Stop.WriteFault) ⊎ (result ≡ Stop.BadJournal) ⊎ (result ≡ Stop.OutOfMemory) ⊎ (result ≡ Stop.DoorFault) }
@@ -285,9 +306,8 @@ fn serve_held<O: Sink, D: Door>(
     ensures door_failed { result ≡ Stop.DoorFault → Rose (D.faults door.old) (D.faults door.new) }
     ensures door_kept { result ≢ Stop.DoorFault → D.faults door.new ≡ D.faults door.old }
 {
-    let settings = &plan.settings;
     for before in taken..plan.connections {
-        if let Some(stop) = serve_one_held(alloc, history, settings, kept, before + 1, out, door) {
+        if let Some(stop) = serve_one_held(alloc, history, plan, kept, before + 1, out, door) {
             return stop;
         }
     }
@@ -303,7 +323,7 @@ fn serve_connections<J: Source, O: Sink, D: Door>(
     out: &mut O,
     door: &mut D,
 ) -> Stop
-    ensures run { HasRun plan.now.hold plan.now.settings plan.now.connections (status_of result)
+    ensures run { HasRun plan.now.hold plan.now plan.now.connections (status_of result)
         (record { left = J.left journal.old; kept = history.old; held = O.contents out.old; log = D.log door.old; coming = D.coming door.old })
         (record { left = J.left journal.new; kept = history.new; held = O.contents out.new; log = D.log door.new; coming = D.coming door.new }) }
     ensures ends { (result ≡ Stop.Done) ⊎ (result ≡ Stop.ReadFault) ⊎ (result ≡ Stop.WriteFault) ⊎ (result ≡ Stop.BadJournal) ⊎ (result ≡ Stop.OutOfMemory) ⊎ (result ≡ Stop.DoorFault) }

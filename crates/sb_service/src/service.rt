@@ -1,12 +1,14 @@
-ghost use Rattle.std.specs.Prelude.{◌≡◌, ◌≢◌, ◌⊎◌, ◌++◌, ◌∷◌, ◌≤◌, Bool, ℕ, List, [], length, map, string_bytes, None, Some, Ok};
+ghost use Rattle.std.specs.Prelude.{◌≡◌, ◌≢◌, ◌⊎◌, ◌++◌, ◌∷◌, ◌≤◌, Bool, ℕ, List, [], length, map, string_bytes, codes, None, Some, Ok};
 ghost use Rattle.sb_outside.specs.Outside.{Rose, appended, next_piece};
 ghost use Rattle.list_versions.specs.Journal.{Kept, kept_of};
 ghost use Rattle.generated_load.specs.Exercise.{HasRoom, exercise_line};
 ghost use Rattle.delta_server.specs.declared.answering.Settings.{Settings};
+ghost use Rattle.sb_words.specs.About.{about_text};
+ghost use Rattle.sb_words.specs.declared.asking.About.{About as Asked};
 ghost use Rattle.sb_service.specs.declared.command.GenerateLine.{GenerateLine};
 ghost use Rattle.sb_service.specs.declared.command.Load.{Load};
 ghost use Rattle.sb_service.specs.declared.command.MessageKind.{MessageKind};
-ghost use Rattle.sb_service.specs.Command.{AnswerWords, IsMade, IsNoCommand, IsNoService, ServeWords, answer_of, exercise_of, generate_of, serve_of};
+ghost use Rattle.sb_service.specs.Command.{AnswerWords, IsMade, IsNoCommand, IsNoService, ServeWords, answer_of, exercise_of, generate_of, serve_of, tell_of};
 ghost use Rattle.sb_service.specs.declared.serve.ServePlan.{ServePlan};
 ghost use Rattle.sb_service.specs.Made.{generated_text, printed_whole};
 ghost use Rattle.sb_service.specs.Printed.{answer_line};
@@ -15,7 +17,7 @@ ghost use Rattle.sb_service.specs.Serving.{HasNoBadLine, IsServeRun};
 
 use crate::answer::answer;
 use crate::command::{Command, GenerateLine, command_of};
-use crate::making::{exercise, generate};
+use crate::making::{exercise, generate, tell};
 use crate::serve::serve;
 use crate::stop::{Stop, status_of};
 use hash_messages::{find_values_read_one_way, find_values_read_or_have_a_fault};
@@ -28,14 +30,21 @@ use update_messages::{values_read_one_way, values_read_or_have_a_fault};
 
 /// What is printed where the words are no command line.
 pub const USAGE: &str = "usage: sblistd COMMAND\n\n  \
-    sblistd answer --journal PATH --kind fetch|find|lookup [--wait S] [--find-wait S] [--cache S] [--negative S]\n      \
-    reads a request for updates, for full hashes or to look URLs up, and writes the answer from the lists of a journal\n  \
-    sblistd serve --journal PATH --listen HOST:PORT [--connections N] [--peers N] [--answers MIB] [--hold] [--wait S] [--find-wait S] [--cache S] [--negative S]\n      \
-    serves the lists of a journal over HTTP; without --wait and --find-wait, fetches are to wait 1800 seconds and finds none\n  \
+    sblistd answer --journal PATH --kind fetch|find|lookup\n      \
+    [--wait S] [--find-wait S] [--cache S] [--negative S]\n      \
+    reads a request for updates, for full hashes or to look URLs up, and writes the answer from\n      \
+    the lists of a journal\n  \
+    sblistd serve --journal PATH --listen HOST:PORT\n      \
+    [--connections N] [--peers N] [--answers MIB] [--hold] [--quiet]\n      \
+    [--wait S] [--find-wait S] [--cache S] [--negative S]\n      \
+    serves the lists of a journal over HTTP; without --wait and --find-wait, fetches are to wait\n      \
+    1800 seconds and finds none\n  \
     sblistd generate [--urls] N SEED\n      \
     writes the journal of N changes that a seed makes, or N URLs\n  \
     sblistd exercise N SEED\n      \
-    loads such a journal in memory, asks for its list twice, and writes how many entries came\n";
+    loads such a journal in memory, asks for its list twice, and writes how many entries came\n  \
+    sblistd --help | -h | --version\n      \
+    writes this text, or the version\n";
 
 /// Tells how the program is used.
 fn tell_usage<O: Sink>(out: &mut O) -> u8
@@ -75,6 +84,8 @@ fn run_command<J: Source, S: Source, O: Sink, D: Door>(
         → IsWritten (printed_whole (generated_text (record { urls = urls; load = load }))) result (O.contents out.old) (O.contents out.new) }
     ensures exercises { (load : Load) → command ≡ Command.Exercise load → HasRoom load.count load.seed → result ≢ 8
         → IsWritten (printed_whole (exercise_line load.count load.seed)) result (O.contents out.old) (O.contents out.new) }
+    ensures tells { (about : Asked) → command ≡ Command.Tell about → result ≢ 8
+        → IsWritten (printed_whole (about_text about (codes "sblistd") USAGE.now)) result (O.contents out.old) (O.contents out.new) }
     ensures nothing_read { IsMade command → (journal.new ≡ journal.old) × (input.new ≡ input.old) }
     ensures counts { AreCounted result (J.faults journal.old) (J.faults journal.new) (S.faults input.old) (S.faults input.new)
         (O.faults out.old) (O.faults out.new) (D.faults door.old) (D.faults door.new) }
@@ -91,6 +102,7 @@ fn run_command<J: Source, S: Source, O: Sink, D: Door>(
             status_of(generate(alloc, GenerateLine { urls, load }, out))
         }
         Command::Exercise(load) => status_of(exercise(alloc, load, out)),
+        Command::Tell(about) => status_of(tell(alloc, about, USAGE, out)),
     }
 }
 
@@ -103,6 +115,7 @@ fn run_command<J: Source, S: Source, O: Sink, D: Door>(
 /// `serve` loads the journal and takes connections from the door. Before each it reads the journal to its next end; each
 /// is answered as `serve_connection` says and given back to the door in every case, and then its line is written:
 /// `connection I answered S`, `connection I read-fault` or `connection I write-fault`, with I from 1. The input is not read.
+/// With `--quiet` no line is written for a connection.
 /// With `--hold` a bad line that is met before a connection does not end the run: `journal CAUSE` is written, this connection
 /// and all later ones are served over the last good history, the journal is not looked at again, and the status is 7 in place
 /// of 0.
@@ -110,6 +123,8 @@ fn run_command<J: Source, S: Source, O: Sink, D: Door>(
 /// `generate` writes the journal of a seed, or with `--urls` URLs of it. `exercise` makes such a journal in memory, loads
 /// it, answers two requests for its list, and writes how many entries these answers have. Nothing is read, and the door is
 /// not used.
+///
+/// `--help`, `-h` and `--version`, each as the only word after the name, write the usage text or the version, likewise.
 ///
 /// | Status | Comes |
 /// |---|---|
@@ -165,6 +180,12 @@ pub fn run_server<J: Source, S: Source, O: Sink, D: Door>(
         → HasRoom load.count load.seed → result ≢ 8
         → IsWritten (printed_whole (exercise_line load.count load.seed)) result (O.contents out.old) (O.contents out.new) }
     ensures not_read { (load : Load) → exercise_of (map string_bytes words.now) ≡ Some load
+        → (journal.new ≡ journal.old) × (input.new ≡ input.old) }
+
+    // Words that ask about the program: so is the usage text, or a line of the program's name and its version.
+    ensures tells { (about : Asked) → tell_of (map string_bytes words.now) ≡ Some about → result ≢ 8
+        → IsWritten (printed_whole (about_text about (codes "sblistd") USAGE.now)) result (O.contents out.old) (O.contents out.new) }
+    ensures unasked { (about : Asked) → tell_of (map string_bytes words.now) ≡ Some about
         → (journal.new ≡ journal.old) × (input.new ≡ input.old) }
 
     // A journal without a bad line is served to the end, where no count rose.

@@ -1,7 +1,7 @@
 use Rattle.std.proofs.Common.{ℕ, List, refl, map, string_bytes}
-use Rattle.sb_client.proofs.Commands.{is_found, is_sound, no_command, is_no_judge, is_no_replay, is_no_run, is_no_show, judge_found, replay_found, run_found, show_found, vectors_found, vectors_alone}
+use Rattle.sb_client.proofs.Commands.{is_found, is_sound, no_command, is_no_judge, is_no_replay, is_no_run, is_no_show, judge_found, replay_found, run_found, show_found, tell_found, vectors_found, made_at_once}
 use Rattle.sb_client.proofs.Endings.{left_over, not_begun, not_risen, whole_of}
-use Rattle.sb_client.proofs.Runs.{count_not_begun, left_to_run, none_counted, run_not_begun, run_of_judge, run_of_plan, run_of_replay, run_hands, run_keeps, run_of_show, run_of_vectors, run_tells, status_of_run}
+use Rattle.sb_client.proofs.Runs.{count_not_begun, left_to_run, none_counted, run_not_begun, run_of_judge, run_of_plan, run_of_replay, run_hands, run_keeps, run_of_show, run_of_vectors, run_of_tell, run_tells, status_of_run}
 use Rattle.sb_client.proofs.Judgings.{judge_not_begun, left_to_judge, reports_rightly, updates_hold}
 use Rattle.sb_client.proofs.Served.{run_answered, run_complete, run_versions}
 use Rattle.sb_client.proofs.client.run_client.Goals as goal
@@ -67,6 +67,10 @@ returns-in-Err-clause-shows g c words = not_begun 21
 pub returns-in-Err-clause-counts_examples : goal.returns-in-Err-clause-counts_examples
 returns-in-Err-clause-counts_examples g c words = count_not_begun _
 
+pub returns-in-Ok-Some-clause-about : goal.returns-in-Ok-Some-clause-about
+returns-in-Ok-Some-clause-about g c text words =
+    run_of_tell _ _ _ _ _ _ _ c.in-Ok-Some.command text (tell_found _ _ _ c.in-Ok-Some.field-0-is c.in-Ok-Some.ensures text words) c.run_lent.ensures.does
+
 -- ---- what is as it was
 
 pub returns-in-Ok-Some-clause-unread : goal.returns-in-Ok-Some-clause-unread
@@ -84,7 +88,7 @@ returns-in-Ok-Some-clause-untouched g c no_run no_judge =
 pub returns-in-Ok-Some-clause-memory : goal.returns-in-Ok-Some-clause-memory
 returns-in-Ok-Some-clause-memory g c no_replay no_run no_judge no_show =
     c.run_lent.ensures.memory
-    (vectors_alone (map string_bytes c.args.words.now) c.in-Ok-Some.command (is_found _ _ _ c.in-Ok-Some.field-0-is c.in-Ok-Some.ensures) no_replay no_run no_judge no_show)
+    (made_at_once (map string_bytes c.args.words.now) c.in-Ok-Some.command (is_found _ _ _ c.in-Ok-Some.field-0-is c.in-Ok-Some.ensures) no_replay no_run no_judge no_show)
 
 -- ---- to the end
 

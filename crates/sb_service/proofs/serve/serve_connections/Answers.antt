@@ -11,7 +11,7 @@ pub loop-taken-preserved : goal.loop-taken-preserved
 loop-taken-preserved g c =
     let inv = c.loop-taken.invariant in
     let is = c.in-Ok-Looking.is in
-    let more = one_more c.args.plan.now.settings (c.loop-taken.taken + 1) inv.0 _ _ _ (omega (arith, inv.1)) inv.2 (c.take_next.ensures.looking (is ∙ ap Ok c.in-Ok-Looking.field-0-is)) in (
+    let more = one_more c.args.plan.now (c.loop-taken.taken + 1) inv.0 _ _ _ (omega (arith, inv.1)) inv.2 (c.take_next.ensures.looking (is ∙ ap Ok c.in-Ok-Looking.field-0-is)) in (
       more.0,
       more.1,
       more.2,
@@ -28,7 +28,7 @@ pub returns-in-Err-clause-run : goal.returns-in-Err-clause-run
 returns-in-Err-clause-run g c =
     let inv = c.loop-taken.invariant in
     let few : c.loop-taken.taken < c.args.plan.now.connections = c.loop-taken-test.true in
-    stopped c.args.plan.now.hold c.args.plan.now.settings c.args.plan.now.connections (c.loop-taken.taken + 1) (status_of c.in-Err.stop) inv.0 _ _ _
+    stopped c.args.plan.now.hold c.args.plan.now c.args.plan.now.connections (c.loop-taken.taken + 1) (status_of c.in-Err.stop) inv.0 _ _ _
     (omega (arith, inv.1)) (omega (arith, few)) inv.2 c.in-Err.ensures.stops
 
 pub returns-in-Ok-Holding-clause-run : goal.returns-in-Ok-Holding-clause-run
@@ -36,5 +36,5 @@ returns-in-Ok-Holding-clause-run g c =
     let inv = c.loop-taken.invariant in
     let few : c.loop-taken.taken < c.args.plan.now.connections = c.loop-taken-test.true in
     let turn = c.take_next.ensures.holding (c.in-Ok-Holding.is ∙ ap Ok c.in-Ok-Holding.field-0-is) in
-    held c.args.plan.now.hold c.args.plan.now.settings c.args.plan.now.connections (c.loop-taken.taken + 1) (status_of c.serve_held.result) inv.0 _ _ _ _
+    held c.args.plan.now.hold c.args.plan.now c.args.plan.now.connections (c.loop-taken.taken + 1) (status_of c.serve_held.result) inv.0 _ _ _ _
     (omega (arith, inv.1)) (omega (arith, few)) inv.2 turn.0 turn.1 (c.serve_held.ensures.run _)

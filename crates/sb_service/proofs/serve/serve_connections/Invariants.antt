@@ -8,7 +8,7 @@ abbrev pub invariant-loop-taken : goal.invariant-loop-taken
 invariant-loop-taken g l =
     (turns : List Turn)
     × (length turns ≡ l.taken)
-    × HasTurns l.plan.settings turns
+    × HasTurns l.plan turns
     (record { left = g.J.Source.left l.initial.journal; kept = l.initial.history; held = g.O.Sink.contents l.initial.out; log = g.D.Door.log l.initial.door; coming = g.D.Door.coming l.initial.door })
     (record { left = g.J.Source.left l.journal; kept = l.history; held = g.O.Sink.contents l.out; log = g.D.Door.log l.door; coming = g.D.Door.coming l.door })
     × (g.J.Source.faults l.journal ≡ g.J.Source.faults l.initial.journal)

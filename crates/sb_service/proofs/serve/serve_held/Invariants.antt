@@ -8,7 +8,7 @@ abbrev pub invariant-loop-before : goal.invariant-loop-before
 invariant-loop-before g l =
     (count : ℕ)
     × (l.taken + count ≡ l.before)
-    × ((left : Option (List (List ℕ))) → Stays l.plan.settings l.taken count
+    × ((left : Option (List (List ℕ))) → Stays l.plan l.taken count
     (record { left = left; kept = l.history; held = g.O.Sink.contents l.initial.out; log = g.D.Door.log l.initial.door; coming = g.D.Door.coming l.initial.door })
     (record { left = left; kept = l.history; held = g.O.Sink.contents l.out; log = g.D.Door.log l.door; coming = g.D.Door.coming l.door }))
     × (g.O.Sink.faults l.out ≡ g.O.Sink.faults l.initial.out)

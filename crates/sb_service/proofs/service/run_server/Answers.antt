@@ -1,7 +1,7 @@
 use Rattle.std.proofs.Common.{ℕ, sym, subst}
 use Rattle.sb_service.specs.Serving.{IsServeRun}
 use Rattle.sb_service.proofs.Runs.{ReadsOrFails, answered, served, none_risen, not_risen, not_8, zero_or_memory}
-use Rattle.sb_service.proofs.Commands.{is_answer, is_exercise, is_generate, is_other, is_serve, made_exercise, made_generate}
+use Rattle.sb_service.proofs.Commands.{is_answer, is_exercise, is_generate, is_other, is_serve, is_tell, made_exercise, made_generate, made_tell}
 use Rattle.sb_service.proofs.Turns.{nothing_done}
 use Rattle.sb_service.proofs.Journals.{served_to_the_end}
 use Rattle.sb_service.proofs.service.run_server.Goals as goal
@@ -89,3 +89,11 @@ returns-in-Ok-Some-clause-exercises g c load words =
 pub returns-in-Ok-Some-clause-not_read : goal.returns-in-Ok-Some-clause-not_read
 returns-in-Ok-Some-clause-not_read g c load words =
     c.run_command.ensures.nothing_read (made_exercise _ load (is_exercise _ _ _ load c.in-Ok-Some.ensures c.in-Ok-Some.field-0-is words))
+
+pub returns-in-Ok-Some-clause-tells : goal.returns-in-Ok-Some-clause-tells
+returns-in-Ok-Some-clause-tells g c about words =
+    c.run_command.ensures.tells about (is_tell _ _ _ about c.in-Ok-Some.ensures c.in-Ok-Some.field-0-is words)
+
+pub returns-in-Ok-Some-clause-unasked : goal.returns-in-Ok-Some-clause-unasked
+returns-in-Ok-Some-clause-unasked g c about words =
+    c.run_command.ensures.nothing_read (made_tell _ about (is_tell _ _ _ about c.in-Ok-Some.ensures c.in-Ok-Some.field-0-is words))
