@@ -98,12 +98,13 @@ else
 endif
 
 # A second program of the same rules, in Python, has to print what the programs print, and what the stored
-# cases say. Runs that judge are compared by the program that runs the stored cases.
+# cases say. Runs that judge, and what has noise in its bytes, are compared by the program that runs the stored cases.
 compare: all
 	python3 tools/build.py $(PROGRAMS) stored_cases
 	python3 compare/cases.py
 	python3 compare/compare.py
 	python3 compare/making.py
+	python3 compare/noise.py
 
 # Drives sblistd over loopback with curl, and shows what the programs say of what they cannot use.
 try-http: all

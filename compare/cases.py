@@ -1,7 +1,7 @@
 #!/usr/bin/env python3
 """Runs the second program over the stored cases, as docs/FORMATS.md says how a case is written.
 
-A run of a case is left out where an object fails at a call with a number, for another program makes other calls, where the host of a
+A run of a case is left out where an object fails at a call, for another program makes other calls, where the host of a
 URL has bytes from 128 on, or where it depends on the threads of a run that judges what it prints. A run of updates is left out, too,
 where a session gives other bytes than a whole response, and a server of a journal of more than 262,144 bytes. What a run that is left
 out keeps is what its case says. What the sessions of a client send, their moments and what the keeper is handed are compared
@@ -34,6 +34,11 @@ MOST_LINES = 65_536
 SIGNS = "|:~=@%&()"
 
 
+def turned(text, place):
+    """The text with one bit of the byte at this place turned, if there is such a byte."""
+    return text[:place] + bytes(byte ^ 1 << place % 8 for byte in text[place : place + 1]) + text[place + 1 :]
+
+
 def expression(text):
     return b"  " + hashlib.sha256(text).hexdigest().encode() + b" " + text + b"\n"
 
@@ -49,10 +54,10 @@ class Book:
                 self.named[line[5:]] = self.text(number)[0]
 
     def text(self, number, cut=0):
-        """The text of the field in a line, and how many strict fronts it is to be run for."""
+        """The text of the field in a line in a round, and how many rounds it needs."""
         word, _, first = self.lines[number].partition(b" ")
         writer = Writer(self, cut)
-        if word != b"text" and first:
+        if word not in (b"text", b"serve") and first:
             writer.pieces = [first]
         for line in itertools.islice(self.lines, number + 1, None):
             if line and not line.startswith(b"--"):
@@ -109,7 +114,7 @@ class Writer:
                 made.append(self.until_bracket())
             return b"".join(made)
         inner = self.until_bracket()
-        if work == b"each-front":
+        if work in (b"each-front", b"each-bit"):
             self.fronts = max(self.fronts, len(inner))
         return {
             b"base64": base64.b64encode,
@@ -119,8 +124,10 @@ class Writer:
             b"response": exchanges.response,
             b"front": lambda text: text[: int(count)],
             b"without": lambda text: text[: max(0, len(text) - int(count))],
+            b"rest": lambda text: text[int(count) :],
             b"each-front": lambda text: text[: self.cut],
             b"each-rest": lambda text: text[self.cut :],
+            b"each-bit": lambda text: turned(text, self.cut),
         }[work](inner)
 
 
@@ -342,10 +349,13 @@ KNOWN = (
 
 
 class Run:
-    """A run of a case: the lines of its fields, its own or those of its group."""
+    """A run of a case: the lines of its fields, its own or those of its group. What is to come may be parted by `or`."""
 
     def __init__(self, book, own, group, before, earlier):
-        self.book, self.own, self.group, self.before, self.earlier = book, own, group, before, earlier
+        self.book, self.group, self.before, self.earlier = book, group, before, earlier
+        ends = [number for number in own if book.lines[number] == b"or"]
+        self.parts = [range(begin, end) for begin, end in zip([own.start, *(end + 1 for end in ends)], [*ends, own.stop])]
+        self.own, self.met, self.made = self.parts[0], set(), {}
 
     def all_in(self, span, names):
         return [number for number in span if self.book.lines[number].split(b" ")[0] in names]
@@ -357,9 +367,9 @@ class Run:
                 return found[-1]
         return None
 
-    def every(self, *names):
+    def every(self, *names, part=None):
         """The lines of fields that may stand several times."""
-        return self.all_in(self.own, names) or self.all_in(self.group, names)
+        return self.all_in(self.own if part is None else part, names) or self.all_in(self.group, names)
 
     def rest(self, number):
         return self.book.lines[number].partition(b" ")[2]
@@ -382,9 +392,12 @@ class Run:
         """Whether it is told what the keeper keeps at first: by the run itself, or by the one before, if that is known or says it."""
         if not self.earlier or self.find(b"store", (self.own,)) is not None:
             return True
-        if self.earlier.find(b"kept", (self.earlier.own, self.earlier.group)) is not None or self.earlier.every(b"handed"):
+        earlier = self.earlier
+        if earlier.is_known():
             return True
-        return self.earlier.is_known() and self.earlier.words()[:2] != ["sbupdate", "run"]
+        if any(earlier.find(b"kept", (part, earlier.group)) is None and not earlier.every(b"handed", part=part) for part in earlier.parts):
+            return False
+        return len({earlier.said_kept(0, part) for part in earlier.parts}) == 1
 
     def has_whole_sessions(self):
         """Whether the bytes of each session, where it has any of its own, are a response as a server writes it."""
@@ -403,8 +416,8 @@ class Run:
             return False
         return command != ["sbupdate", "run"] or self.has_whole_sessions()
 
-    def text(self, name, cut):
-        number = self.find(name, (self.own, self.group))
+    def text(self, name, cut, part=None):
+        number = self.find(name, (self.own if part is None else part, self.group))
         return (b"", 0) if number is None else self.book.text(number, cut)
 
     def numbers(self, name):
@@ -419,32 +432,39 @@ class Run:
         return self.earlier.kept(cut) if self.earlier else None
 
     def kept(self, cut):
-        """What it keeps at the end: of a run that does not say so what it was handed last, or what it found."""
-        number = self.find(b"kept", (self.own, self.group))
+        """What it keeps at the end: of a run that is left out what its case says."""
+        if not self.is_known():
+            return self.said_kept(cut, self.own)
+        handed = self.result(cut)[2].get("handed")
+        return handed[-1] if handed else self.store(cut)
+
+    def said_kept(self, cut, part):
+        """What a part says that it keeps at the end: if it does not say so what it was handed last, or what it found."""
+        number = self.find(b"kept", (part, self.group))
         if number is None:
-            handed = self.texts(b"handed", cut)
+            handed = self.texts(b"handed", cut, part)
             return handed[-1] if handed else self.store(cut)
         return None if self.rest(number) == b"none" else self.book.text(number, cut)[0]
 
-    def texts(self, name, cut):
+    def texts(self, name, cut, part=None):
         """The texts of a field that may stand several times, or None where it does not stand."""
-        numbers = self.every(name)
+        numbers = self.every(name, part=part)
         return [self.book.text(number, cut)[0] for number in numbers if self.rest(number) != b"none"] if numbers else None
 
     def link(self, cut):
-        """The link, and how many fronts its texts are to be run for."""
+        """The sessions of the link, its journal and its times, and how many rounds its texts need."""
         plays, fronts = [], [0]
         for number in self.every(b"session", b"serve", b"append"):
             kind, _, harm = self.book.lines[number].partition(b" ")
-            text, more = (b"", 0) if kind == b"serve" else self.book.text(number, cut)
+            text, more = (b"", 0) if kind == b"serve" and harm != b"instead" else self.book.text(number, cut)
             plays.append((kind, harm, text))
             fronts.append(more)
         wait, cache, negative = self.numbers(b"settings") or (1_800, 300, 300)
         times = {"wait": wait, "find-wait": wait, "cache": cache, "negative": negative}
-        return judging.Link(plays, self.text(b"journal", cut)[0], times), max(fronts)
+        return (plays, self.text(b"journal", cut)[0], times, cut), max(fronts)
 
     def turns(self, cut):
-        """For each connection what the journal has gained before it, and what it gives; and how many fronts its texts are to be run for."""
+        """For each connection what the journal has gained before it, and what it gives; and how many rounds its texts need."""
         turns, gained, fronts = [], b"", 0
         for number in self.every(b"connection", b"append"):
             text, more = self.book.text(number, cut)
@@ -456,56 +476,92 @@ class Run:
                 gained = b""
         return turns, fronts
 
-    def told(self, cut):
-        """What the case says of the sessions' requests, of the moments and of what the keeper was handed, where it does."""
-        moments = self.find(b"moments", (self.own, self.group))
-        none = moments is None or self.rest(moments) == b"none"
-        return (
-            self.texts(b"sent", cut),
-            None if moments is None else [] if none else [int(word) for word in self.rest(moments).split(b" ")],
-            self.texts(b"handed", cut),
-        )
-
-    def differs(self, cut):
-        """What is to come, and what comes of the second program, where they differ; and the fronts to run for."""
-        texts = [self.text(name, cut) for name in (b"input", b"journal", b"out")]
-        (text, _), (journal, _), (wanted, _) = texts
-        number = self.find(b"status", (self.own, self.group))
-        status = 0 if number is None else int(self.book.lines[number].split(b" ")[1])
-        link, more = self.link(cut)
+    def result(self, cut):
+        """What comes of the second program in a round: what it prints, its status, what it sends, hands, writes and answers; and how
+        many rounds there are. A run that is given the same comes to the same."""
+        texts = [self.text(name, cut) for name in (b"input", b"journal", b"store")]
+        (text, _), (journal, _), _ = texts
+        (plays, *served), more = self.link(cut)
         turns, further = self.turns(cut)
-        came = []
+        given = text, journal, tuple(plays), tuple(turns), self.store(cut)
+        fronts = max(more, further, *(fronts for _, fronts in texts))
+        harms = {harm for kind, harm, _ in plays if kind == b"serve"}
+        key = (given, cut if harms & EACH else None)
+        if key not in self.made:
+            self.made[key] = self.make(given, judging.Link(plays, *served))
+        printed, status, left, longest = self.made[key]
+        return printed, status, left, max(fronts, longest)
+
+    def make(self, given, link):
+        """Makes a run that is given these texts, plays and connections, this store and this link."""
+        text, journal, _, turns, store = given
+        left = {}
 
         def make(kind, plan):
             if kind == "made":
                 return made(plan, text, journal, self.numbers(b"dice"))
             if kind == "serve":
                 report = serving.serve(plan, journal, turns)
-                came.append((self.texts(b"written", cut), report.written))
+                left["written"] = report.written
                 return report.printed, report.status
-            given = self.store(cut), judging.Clock(self.numbers(b"clock")), judging.Dice(self.numbers(b"dice")), link.session
-            report = judging.judge(plan, lines_of(text), *given) if kind == "judge" else judging.update(plan, *given)
-            came.extend(zip(self.told(cut), (report.sent, report.moments, report.handed)))
+            objects = store, judging.Clock(self.numbers(b"clock")), judging.Dice(self.numbers(b"dice")), link.session
+            report = judging.judge(plan, lines_of(text), *objects) if kind == "judge" else judging.update(plan, *objects)
+            left.update(sent=report.sent, moments=report.moments, handed=report.handed)
             return report.printed, report.status
 
         words = self.words()
         if self.asks():
-            printed, found = f"{words[0]} {VERSION}\n".encode() if words[1] == "--version" else None, 0
-        else:
-            printed, found = answer(words, text, journal, make)
+            printed = f"{words[0]} {VERSION}\n".encode() if words[1] == "--version" else None
+            return printed, 0, left, link.longest
+        return *answer(words, text, journal, make), left, link.longest
+
+    def told(self, name, cut, part):
+        """What a part says of something that a run leaves, or None."""
+        if name != "moments":
+            return self.texts(name.encode(), cut, part)
+        moments = self.find(b"moments", (part, self.group))
+        if moments is None:
+            return None
+        return [] if self.rest(moments) == b"none" else [int(word) for word in self.rest(moments).split(b" ")]
+
+    def differs_from(self, part, cut, printed, found, left):
+        """What is to come by a part, and what came, where they differ; and how many rounds its texts need."""
+        wanted, fronts = self.text(b"out", cut, part)
+        number = self.find(b"status", (part, self.group))
+        status = 0 if number is None else int(self.book.lines[number].split(b" ")[1])
         usage = printed is None and wanted.startswith(b"usage: ")
-        same = status == found and (usage or printed == wanted)
-        fronts = max(more, further, *(fronts for _, fronts in texts))
-        if same:
-            for says, one in came:
-                if says is not None and says != one:
-                    return ("what was sent, written or handed, or moments", repr(says).encode(), "these", one), fronts
-        return None if same else (status, wanted, found, printed), fronts
+        if status != found or not usage and printed != wanted:
+            return (status, wanted, found, printed), fronts
+        for name, came in left.items():
+            says = self.told(name, cut, part)
+            if says is not None and says != came:
+                return (f"what was {name}", repr(says).encode(), "these", came), fronts
+        return None, fronts
+
+    def differs(self, cut):
+        """What differs, if the run comes to none of its parts; and how many rounds there are."""
+        printed, status, left, fronts = self.result(cut)
+        first, is_met = None, False
+        for number, part in enumerate(self.parts):
+            found, more = self.differs_from(part, cut, printed, status, left)
+            fronts, first, is_met = max(fronts, more), first or found, is_met or not found
+            self.met |= set() if found else {number}
+        return None if is_met else first, fronts
+
+    def not_met(self):
+        """The first part to which no round came, or None."""
+        for number, part in enumerate(self.parts):
+            if number not in self.met:
+                return "the part in line", b"%d" % (part.start + 1), "no round", b""
+        return None
+
+
+EACH = {b"front each", b"bit each"}
 
 
 def cases_of(book):
     """The name of each case, and its runs."""
-    group = own = range(0)
+    group = range(0)
     heads = [number for number, line in enumerate(book.lines) if re.match(rb"##? ", line)] + [len(book.lines)]
     for head, end in zip(heads, heads[1:]):
         lines = range(head + 1, end)
@@ -521,15 +577,17 @@ def cases_of(book):
 
 
 def difference(runs):
-    """What differs first in the runs of a case, or None."""
-    for run in runs:
-        cut, fronts = 0, 1
-        while cut < max(fronts, 1):
-            found, fronts = run.differs(cut)
+    """What differs first in the rounds of a case, or None. Its runs that are left out are not made."""
+    known = [run for run in runs if run.is_known()]
+    cut, rounds = 0, 1
+    while cut < rounds:
+        for run in known:
+            found, more = run.differs(cut)
+            rounds = max(rounds, more)
             if found:
                 return found
-            cut += 1
-    return None
+        cut += 1
+    return next(filter(None, (run.not_met() for run in known)), None) if known == runs else None
 
 
 def main():
@@ -544,11 +602,10 @@ def main():
         names.append(name)
         if options.only not in name and name != cases[-1][0]:
             continue
-        known = [run for run in runs if run.is_known()]
-        if not known:
+        if not any(run.is_known() for run in runs):
             continue
         try:
-            found = difference(known)
+            found = difference(runs)
         except (urls.Skipped, judging.Scheduled):
             continue
         ran += 1

@@ -17,6 +17,7 @@ MOST_CHUNKS = 1_048_576
 
 STATUS_LINE = re.compile(rb"HTTP/1\.[01] +([0-9]{3})(?: [\t -~\x80-\xff]*)?")
 FIELD = re.compile(rb"([!#$%&'*+.^_`|~0-9A-Za-z-]+):[ \t]*([\t -~\x80-\xff]*?)[ \t]*")
+BEGUN_FIELD = re.compile(rb"(?:[!#$%&'*+.^_`|~0-9A-Za-z-]+(?::[\t -~\x80-\xff]*)?)?\r?")
 SIZE_LINE = re.compile(rb"([0-9A-Fa-f]{1,16})[ \t]*(?:;[^\r\n]*)?\r\n")
 
 
@@ -59,7 +60,7 @@ def head_of(given):
     if STATUS_LINE.fullmatch(lines[0]) is None and (len(lines) > 1 or not may_begin(lines[0])):
         raise Failed("head")
     fields = fields_of(lines[1:-2] if end else lines[1:-1])
-    if end is None and b"\r" in lines[-1][:-1]:
+    if end is None and len(lines) > 1 and BEGUN_FIELD.fullmatch(lines[-1]) is None:
         raise Failed("head")
     at = len(given) - len(text) + len(whole)
     if end is None or at > MOST_HEAD:

@@ -13,6 +13,7 @@ import json
 
 import exchanges
 import server
+import serving
 import urls
 from messages import ENTRIES, PLATFORMS, THREATS, Unreadable, read_find_answer, read_response
 from updates import order, shown, take
@@ -156,7 +157,7 @@ def later(moment, milliseconds):
 
 
 class Clock:
-    """The readings of a list, of which none falls; at the end the last one stays."""
+    """The readings of a list; one below an earlier answer answers that one again, and at the end the last one stays."""
 
     def __init__(self, readings):
         self.readings, self.last, self.answers = list(readings), 0, []
@@ -433,9 +434,9 @@ def judge(plan, lines, kept, clock, dice, session):
 class Link:
     """The sessions of a run that judges, one after the other: what each gives to what it was sent, or None where it fails."""
 
-    def __init__(self, plays, journal, times):
-        self.plays, self.journal, self.times, self.given = plays, journal, times, b""
-        self.good = journal
+    def __init__(self, plays, journal, times, cut=0):
+        self.plays, self.journal, self.times, self.cut = list(plays), journal, times, cut
+        self.seen, self.given, self.longest = journal, [], 0
 
     def session(self, sent):
         while self.plays:
@@ -443,25 +444,33 @@ class Link:
             if kind == b"append":
                 self.journal += text
             else:
-                self.given = text if kind == b"session" else self.served(harm.split(), sent)
-                return self.given
+                given = text if kind == b"session" else self.served(harm.split(), text if harm == b"instead" else sent)
+                self.given.append(given or b"")
+                return given
         return None
 
     def served(self, harm, sent):
         if harm[:1] == [b"again"]:
-            return self.given
-        asked = sent.partition(b"\r\n\r\n")[2]
-        kind = next(kind for kind, path in exchanges.PATHS.items() if sent.startswith(f"POST {path}".encode("ascii")))
-        body, status = server.answer(self.journal, asked, kind, self.times)
-        if status == 7:
+            return self.given[-int((harm + [1])[1])]
+        try:
+            history = server.read_journal(self.journal)
+        except server.BadJournal:
             # what came has a bad line: the history stays as it was, and the session fails
-            self.journal = self.good
+            self.journal = self.seen
             return None
-        self.good = self.journal
-        whole = exchanges.response(body[:-1]) if status == 0 else exchanges.response(b"", b"400 Bad Request")
+        self.seen = self.journal
+        whole = serving.turn(history, sent, self.times)[0]
+        if harm[1:] == [b"each"]:
+            self.longest = max(self.longest, len(whole))
+            return whole[: self.cut] if harm[0] == b"front" else self.turned(whole)
         if harm[:1] == [b"byte"]:
             place = len(whole) - int(harm[1])
             return whole[:place] + bytes([int(harm[2])]) + whole[place + 1 :]
         if harm[:1] == [b"without"]:
             return whole[: len(whole) - int(harm[1])]
-        return whole[: {b"lost": 0, b"front": int((harm + [0, 0])[1])}[harm[0]]] if harm else whole
+        return whole[: {b"lost": 0, b"front": int((harm + [0, 0])[1])}[harm[0]]] if harm and harm != [b"instead"] else whole
+
+    def turned(self, whole):
+        """A response with one bit of its byte of the round turned."""
+        place = self.cut
+        return whole[:place] + bytes(byte ^ 1 << place % 8 for byte in whole[place : place + 1]) + whole[place + 1 :]

@@ -35,7 +35,7 @@ PATHS = {
 TOKEN = rb"[!#$%&'*+.^_`|~0-9A-Za-z-]+"
 REQUEST_LINE = re.compile(rb"(%s) ([!-~\x80-\xff]+) HTTP/1\.[01]" % TOKEN)
 BEGUN_LINE = re.compile(rb"%s(?: (?:[!-~\x80-\xff]+(?: (?:H(?:T(?:T(?:P(?:/(?:1(?:\.[01]?)?)?)?)?)?)?)?)?)?)?" % TOKEN)
-BEGUN_FIELD = re.compile(rb"(?:%s(?::[\t -~\x80-\xff]*)?)?\r?" % TOKEN)
+BEGUN_FIELD = exchanges.BEGUN_FIELD
 ABSOLUTE = re.compile(rb"[A-Za-z][A-Za-z0-9+.\-]*://[^/?]*")
 
 Served = collections.namedtuple("Served", "printed status written")
@@ -54,6 +54,15 @@ def begins_well(line):
     return not line or BEGUN_LINE.fullmatch(line) is not None
 
 
+def is_text(target):
+    """Whether a target is UTF-8."""
+    try:
+        target.decode()
+    except UnicodeDecodeError:
+        return False
+    return True
+
+
 def head_of(given):
     """The request line's method and target, the fields, and the place where the body begins."""
     front = given[: exchanges.MOST_HEAD]
@@ -61,7 +70,7 @@ def head_of(given):
     end = re.search(rb"\r?\n\r?\n", text)
     lines = re.split(rb"\r?\n", text[: end.end()] if end else text)
     found = REQUEST_LINE.fullmatch(lines[0])
-    if found is None and (len(lines) > 1 or not begins_well(lines[0])):
+    if found is None and (len(lines) > 1 or not begins_well(lines[0])) or found is not None and not is_text(found[2]):
         raise Refused(400)
     try:
         fields = exchanges.fields_of(lines[1:-2] if end else lines[1:-1])

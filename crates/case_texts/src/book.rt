@@ -13,13 +13,16 @@ pub struct Book {
     pub names: Names,
 }
 
-/// Reads texts of a book, of which each front of an `each-front` has so many bytes.
+/// Reads what a case says, in the round that has this number, counted from 0.
 #[derive(Drop)]
 pub struct Reader {
     pub alloc: Global,
     pub cut: usize,
-    /// How many strict fronts the longest such text that was read has.
-    pub fronts: usize,
+    // how many rounds the longest text needs whose each byte has one
+    fronts: usize,
+    // whether a call was made that an `each` lets fail in this round, and whether one was not
+    is_struck: bool,
+    is_missed: bool,
     /// What was at fault. After a fault what is read lacks something.
     pub faults: FirstFault,
 }
@@ -30,13 +33,41 @@ impl Reader {
             alloc,
             cut,
             fronts: 0,
+            is_struck: false,
+            is_missed: false,
             faults: FirstFault::none(),
         }
+    }
+
+    /// Notes that each of so many bytes has a round.
+    pub fn note_length(&mut self, length: usize) {
+        self.fronts = self.fronts.max(length);
+    }
+
+    /// Notes whether the call was made that an `each` lets fail in this round.
+    pub fn note_call(&mut self, is_made: bool) {
+        self.is_struck = self.is_struck || is_made;
+        self.is_missed = self.is_missed || !is_made;
+    }
+
+    /// Whether what comes of this round is compared.
+    pub fn is_compared(&self) -> bool {
+        !self.is_missed
+    }
+
+    /// Whether there is a further round.
+    pub fn goes_on(&self) -> bool {
+        self.is_struck || self.cut.saturating_add(1) < self.fronts
     }
 
     /// The text of the field in a line.
     pub fn text(&mut self, book: &Book, line: usize) -> Bytes {
         self.text_at(&book.sheet, &book.names, book.sheet.rest(line), line)
+    }
+
+    /// The text of the pieces below a line.
+    pub fn text_below(&mut self, book: &Book, line: usize) -> Bytes {
+        self.text_at(&book.sheet, &book.names, &[], line)
     }
 
     /// The text of a field, or nothing where it is not given.
@@ -51,7 +82,7 @@ impl Reader {
     fn text_at(&mut self, sheet: &Sheet, names: &Names, first: &[u8], line: usize) -> Bytes {
         let mut writer = Writer::new(self.alloc, self.cut);
         writer.write(sheet, names, first, line);
-        self.fronts = self.fronts.max(writer.fronts());
+        self.note_length(writer.fronts());
         match writer.into_bytes() {
             Ok(bytes) => bytes,
             Err(fault) => {

@@ -13,6 +13,8 @@ pub struct Left {
     pub objects: Objects,
     /// What each session of the link sent.
     pub sent: Row<Bytes>,
+    /// Whether a call of a session was made that an `each` lets fail.
+    pub is_struck: bool,
 }
 
 /// What was to come of texts: so many with these bytes, or nothing is said of them.

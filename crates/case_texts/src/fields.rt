@@ -112,6 +112,31 @@ pub fn numbers(reader: &mut Reader, sheet: &Sheet, line: Option<usize>) -> Row<u
     }
 }
 
+/// Whether a field of failing calls lets each in turn fail.
+pub fn is_each(text: &[u8]) -> bool {
+    word_of(text) == b"each".as_slice()
+}
+
+/// The numbers of a field of failing calls, or none where it is not given. Of `each` it is the one of the round.
+pub fn calls(reader: &mut Reader, sheet: &Sheet, line: Option<usize>) -> Row<u64> {
+    match line {
+        Some(line) if is_each(sheet.rest(line)) => one_call(reader),
+        line => numbers(reader, sheet, line),
+    }
+}
+
+/// The number of the call that fails in the round.
+pub fn call_of_round(reader: &Reader) -> u64 {
+    (reader.cut as u64).saturating_add(1)
+}
+
+fn one_call(reader: &mut Reader) -> Row<u64> {
+    let mut calls = Row::new(reader.alloc);
+    let done = calls.push(call_of_round(reader));
+    reader.faults.note(done);
+    calls
+}
+
 /// Sees that each line of a span is a field, a piece, or blank.
 pub fn check(reader: &mut Reader, sheet: &Sheet, span: Span) {
     for number in span.from..span.to {
@@ -121,7 +146,12 @@ pub fn check(reader: &mut Reader, sheet: &Sheet, span: Span) {
     }
 }
 
-/// Whether a line is a field, a piece, or blank.
+/// Whether a line parts what is to come.
+pub fn is_or(line: &[u8]) -> bool {
+    line == b"or".as_slice()
+}
+
+/// Whether a line is a field, a piece, blank, or parts what is to come.
 fn has_form(line: &[u8]) -> bool {
-    is_piece(line) || is_blank(line) || is_one_of(word_of(line), &FIELDS)
+    is_piece(line) || is_blank(line) || is_or(line) || is_one_of(word_of(line), &FIELDS)
 }

@@ -23,13 +23,17 @@ pub enum Work {
     Front(usize),
     /// All but its last so many bytes.
     Without(usize),
+    /// All but its first so many bytes.
+    Rest(usize),
     /// Each front of it in turn, and what follows that front.
     EachFront,
     EachRest,
+    /// It with one bit of each byte in turn turned.
+    EachBit,
 }
 
 /// The brackets that have no number.
-const PLAIN: [(&[u8], Work); 7] = [
+const PLAIN: [(&[u8], Work); 8] = [
     (b"base64", Work::Base64),
     (b"hex", Work::Hex),
     (b"sha256", Work::Digest),
@@ -37,6 +41,7 @@ const PLAIN: [(&[u8], Work); 7] = [
     (b"response", Work::Response),
     (b"each-front", Work::EachFront),
     (b"each-rest", Work::EachRest),
+    (b"each-bit", Work::EachBit),
 ];
 
 /// The work of an opening bracket whose text stands in a line, if there is one.
@@ -54,6 +59,9 @@ fn counted_work_of(word: &[u8], number: u64, line: usize) -> Option<Work> {
     }
     if word == b"without".as_slice() {
         return Some(Work::Without(size_of_number(number)));
+    }
+    if word == b"rest".as_slice() {
+        return Some(Work::Rest(size_of_number(number)));
     }
     if word == b"repeat".as_slice() && number > 0 {
         return Some(Work::Repeat {
@@ -80,6 +88,30 @@ fn put_sealed(page: &mut Page, inner: &[u8]) {
     page.put(&Sha256::digest(inner));
 }
 
+/// The byte at a place with one bit turned, the one of value 2 to the power of the place modulo 8.
+pub fn turned(byte: u8, place: usize) -> u8 {
+    let bit = match place % 8 {
+        0 => 1,
+        1 => 2,
+        2 => 4,
+        3 => 8,
+        4 => 16,
+        5 => 32,
+        6 => 64,
+        _ => 128,
+    };
+    byte ^ bit
+}
+
+/// Appends bytes, with one bit of the byte at this place turned if there is such a byte.
+fn put_turned(page: &mut Page, inner: &[u8], place: usize) {
+    page.put(between(inner, 0, place));
+    if let Some(byte) = inner.get(place) {
+        page.put(&[turned(*byte, place)]);
+        page.put(between(inner, place.saturating_add(1), inner.len()));
+    }
+}
+
 /// Appends what is made of the bytes that stood in a bracket.
 pub fn put_work(alloc: Global, page: &mut Page, work: Work, inner: &[u8], cut: usize) {
     match work {
@@ -91,7 +123,9 @@ pub fn put_work(alloc: Global, page: &mut Page, work: Work, inner: &[u8], cut: u
         Work::Response => put_response(alloc, page, inner),
         Work::Front(count) => page.put(between(inner, 0, count)),
         Work::Without(count) => page.put(between(inner, 0, inner.len().saturating_sub(count))),
+        Work::Rest(count) => page.put(between(inner, count, inner.len())),
         Work::EachFront => page.put(between(inner, 0, cut)),
         Work::EachRest => page.put(between(inner, cut, inner.len())),
+        Work::EachBit => put_turned(page, inner, cut),
     }
 }

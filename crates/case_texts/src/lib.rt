@@ -3,12 +3,14 @@
 #![tactic(auto)]
 
 pub use book::{Book, Reader};
-pub use comparing::{Left, compare};
+pub use comparing::Left;
 pub use fault::{CaseFault, FirstFault};
 pub use fields::{check, field, lasting_field, numbers};
+pub use frames::turned;
 pub use names::Names;
 pub use objects::{Objects, Place, Scripts, objects_of, push_text};
 pub use page::Page;
+pub use parts::{Met, compare_parts, given};
 pub use plays::{Coming, Harm, Play, has_server, sessions};
 pub use report::Differences;
 pub use sheet::{Scope, Sheet, Span, between};
@@ -22,6 +24,7 @@ mod frames;
 mod names;
 mod objects;
 mod page;
+mod parts;
 mod pieces;
 mod plays;
 mod report;

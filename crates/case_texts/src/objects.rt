@@ -1,7 +1,9 @@
 //! The objects of a run.
 use crate::book::{Book, Reader};
-use crate::fields::{field, fields, lasting_field, numbers, own_field};
-use crate::sheet::{Scope, rest_of, word_of};
+use crate::fields::{
+    call_of_round, calls, field, fields, is_each, lasting_field, numbers, own_field,
+};
+use crate::sheet::{Scope, Span, rest_of, word_of};
 use crate::words::{found_in, low_word, number_of, size_of_number};
 use memory_objects::{
     KeepFailure, MemoryDoor, MemoryKeeper, MemorySink, MemorySource, MemoryWire, Remains,
@@ -70,6 +72,33 @@ impl<'a> Place<'a> {
         numbers(reader, &self.book.sheet, self.field(name))
     }
 
+    /// The calls that a field lets fail.
+    pub fn calls(&self, reader: &mut Reader, name: &[u8]) -> Row<u64> {
+        calls(reader, &self.book.sheet, self.field(name))
+    }
+
+    /// Whether a field of one of these names lets each call in turn fail.
+    pub fn has_each(&self, reader: &mut Reader, names: &[&[u8]]) -> bool {
+        let mut has_each = false;
+        for line in self.fields(reader, names).iter() {
+            has_each = has_each || is_each(self.book.sheet.rest(*line));
+        }
+        has_each
+    }
+
+    /// The same place, with these lines as the run's own.
+    pub fn with_own(&self, from: usize, to: usize) -> Self {
+        Place {
+            book: self.book,
+            scope: Scope {
+                own: Span { from, to },
+                before: self.scope.before,
+                group: self.scope.group,
+            },
+            step: self.step,
+        }
+    }
+
     /// The numbers of a field that lasts from run to run.
     pub fn lasting_numbers(&self, reader: &mut Reader, name: &[u8]) -> Row<u64> {
         let line = lasting_field(&self.book.sheet, &self.scope, name);
@@ -106,7 +135,7 @@ fn input_of(reader: &mut Reader, place: &Place<'_>) -> MemorySource {
     let mut pieces = Row::new(reader.alloc);
     let text = reader.text_or_nothing(place.book, place.field(b"input"));
     push_text(reader, &mut pieces, text);
-    let failing = place.numbers(reader, b"input-fails");
+    let failing = place.calls(reader, b"input-fails");
     MemorySource::new(pieces, failing).with_step(place.step.max(1))
 }
 
@@ -126,7 +155,7 @@ struct Growth {
 /// The journal of a server: what it has at first, and what it gains before each connection.
 fn journal_of(reader: &mut Reader, place: &Place<'_>) -> MemorySource {
     let pieces = journal_pieces(reader, place);
-    let failing = place.numbers(reader, b"journal-fails");
+    let failing = place.calls(reader, b"journal-fails");
     MemorySource::new(pieces, failing).with_step(place.step.max(1))
 }
 
@@ -172,7 +201,7 @@ pub fn append_text(reader: &mut Reader, place: &Place<'_>, text: &mut Bytes, lin
 }
 
 fn out_of(reader: &mut Reader, place: &Place<'_>) -> Result<MemorySink, OutOfMemory> {
-    let failing = place.numbers(reader, b"out-fails");
+    let failing = place.calls(reader, b"out-fails");
     let sink = MemorySink::new(reader.alloc, ROOM, failing)?;
     Ok(sink.with_step(place.step.max(1)))
 }
@@ -195,7 +224,7 @@ fn keeper_failures(reader: &mut Reader, place: &Place<'_>) -> Row<KeepFailure> {
 }
 
 fn push_failure(reader: &mut Reader, failing: &mut Row<KeepFailure>, text: &[u8], line: usize) {
-    match failure_of(text) {
+    match failure_of(text, call_of_round(reader)) {
         Some(failure) => {
             let done = failing.push(failure);
             reader.faults.note(done);
@@ -204,10 +233,14 @@ fn push_failure(reader: &mut Reader, failing: &mut Row<KeepFailure>, text: &[u8]
     }
 }
 
-/// A failing call of a keeper, if there is one: its number, and what is kept afterwards.
-fn failure_of(text: &[u8]) -> Option<KeepFailure> {
+/// A failing call of a keeper, if there is one: its number, or that of the round, and what is kept afterwards.
+fn failure_of(text: &[u8], round: u64) -> Option<KeepFailure> {
     let remains = remains_of(rest_of(text))?;
-    let call = number_of(word_of(text))?;
+    let call = if is_each(text) {
+        round
+    } else {
+        number_of(word_of(text))?
+    };
     Some(KeepFailure { call, remains })
 }
 
@@ -244,7 +277,7 @@ fn dice_of(reader: &mut Reader, place: &Place<'_>) -> Result<ScriptDice, OutOfMe
 fn door_of(reader: &mut Reader, place: &Place<'_>) -> Result<MemoryDoor, OutOfMemory> {
     let wires = wires_of(reader, place);
     let count = wires.len();
-    let failing = place.numbers(reader, b"door-fails");
+    let failing = place.calls(reader, b"door-fails");
     MemoryDoor::new(reader.alloc, wires, count, failing)
 }
 
@@ -291,15 +324,15 @@ fn wire_of(
     at: usize,
 ) -> Result<MemoryWire, OutOfMemory> {
     let sends = reader.text(place.book, line_at(lines, at));
-    let reads = numbers_after(reader, place, lines, at, b"read-fails");
-    let writes = numbers_after(reader, place, lines, at, b"write-fails");
+    let reads = calls_after(reader, place, lines, at, b"read-fails");
+    let writes = calls_after(reader, place, lines, at, b"write-fails");
     let wire = MemoryWire::new(reader.alloc, sends, ROOM, reads, writes)?;
     Ok(wire.with_step(place.step.max(1)))
 }
 
-/// The numbers of the field of this name that stands after a line of a list, before the next field of another name than
-/// those of failing calls.
-pub fn numbers_after(
+/// The calls that the field of this name lets fail that stands after a line of a list, before the next field of another name
+/// than those of failing calls.
+pub fn calls_after(
     reader: &mut Reader,
     place: &Place<'_>,
     lines: &[usize],
@@ -307,7 +340,15 @@ pub fn numbers_after(
     name: &[u8],
 ) -> Row<u64> {
     let line = line_after(place, lines, at, name);
-    numbers(reader, &place.book.sheet, line)
+    calls(reader, &place.book.sheet, line)
+}
+
+/// Whether this field lets each call in turn fail.
+pub fn is_each_after(place: &Place<'_>, lines: &[usize], at: usize, name: &[u8]) -> bool {
+    match line_after(place, lines, at, name) {
+        Some(line) => is_each(place.book.sheet.rest(line)),
+        None => false,
+    }
 }
 
 fn line_after(place: &Place<'_>, lines: &[usize], at: usize, name: &[u8]) -> Option<usize> {

@@ -27,7 +27,7 @@ pub struct Writer {
     // the running number, and how many were counted
     number: u64,
     counted: u64,
-    // how many bytes of an `each-front` stand
+    // the number of the round
     cut: usize,
     fronts: usize,
 }
@@ -100,7 +100,7 @@ impl Writer {
         at >= sheet.len() || !self.page.faults.is_none() || !(is_piece(piece) || is_blank(piece))
     }
 
-    /// How many strict fronts the longest `each-front` has.
+    /// How many bytes the longest text has whose each byte has a round.
     pub fn fronts(&self) -> usize {
         self.fronts
     }
@@ -260,7 +260,7 @@ impl Writer {
     /// Puts what a bracket makes in the place of its bytes.
     fn finish(&mut self, frame: Frame) {
         let inner = self.inner(frame.mark);
-        if matches!(frame.work, Work::EachFront) {
+        if matches!(frame.work, Work::EachFront | Work::EachBit) {
             self.fronts = self.fronts.max(inner.len());
         }
         self.page.bytes.truncate(frame.mark);

@@ -1,6 +1,7 @@
 //! The sessions of a link.
 use crate::book::Reader;
-use crate::objects::{Place, append_text, line_at, numbers_after};
+use crate::fields::is_each;
+use crate::objects::{Place, append_text, calls_after, is_each_after, line_at};
 use crate::sheet::{rest_of, word_of};
 use crate::words::{found_in, number_of, size_of_number};
 use sb_model::{Bytes, Row};
@@ -16,8 +17,12 @@ pub enum Harm {
     Without(usize),
     /// This byte stands in the place of its last but so many.
     Byte(usize, u8),
-    /// What the session before was given comes again.
-    Again,
+    /// What the session so many before was given comes again.
+    Again(usize),
+    /// Only its first so many bytes come, in the round with this number.
+    EachFront(usize),
+    /// One bit of the byte at this place is turned, in the round with this number.
+    EachBit(usize),
 }
 
 /// What the other side does in a session.
@@ -27,6 +32,8 @@ pub enum Play {
     Gives(Bytes),
     /// The list server answers.
     Serves(Harm),
+    /// The list server answers these bytes in place of what was sent.
+    ServesInstead(Bytes),
 }
 
 /// A session that is to come.
@@ -35,6 +42,8 @@ pub struct Coming {
     pub play: Play,
     /// The numbers of the calls that fail: `begin` is call 1, and `close` is none.
     pub failing: Row<u64>,
+    /// Whether these are each in turn.
+    pub has_each: bool,
     /// What the server's journal gains before it.
     pub gains: Bytes,
 }
@@ -47,15 +56,17 @@ enum HarmWord {
     Front,
     Without,
     Byte,
+    Bit,
     Again,
 }
 
-const HARMS: [(&[u8], HarmWord); 6] = [
+const HARMS: [(&[u8], HarmWord); 7] = [
     (b"", HarmWord::Nothing),
     (b"lost", HarmWord::Lost),
     (b"front", HarmWord::Front),
     (b"without", HarmWord::Without),
     (b"byte", HarmWord::Byte),
+    (b"bit", HarmWord::Bit),
     (b"again", HarmWord::Again),
 ];
 
@@ -94,11 +105,13 @@ impl Gathered {
     /// Appends the session of a line of a list.
     fn push(&mut self, reader: &mut Reader, place: &Place<'_>, lines: &[usize], at: usize) {
         let play = play_of(reader, place, line_at(lines, at));
-        let failing = numbers_after(reader, place, lines, at, b"session-fails");
+        let failing = calls_after(reader, place, lines, at, b"session-fails");
+        let has_each = is_each_after(place, lines, at, b"session-fails");
         let gains = mem::replace(&mut self.gains, Bytes::new(reader.alloc));
         let done = self.coming.push(Coming {
             play,
             failing,
+            has_each,
             gains,
         });
         reader.faults.note(done);
@@ -129,7 +142,11 @@ fn play_of(reader: &mut Reader, place: &Place<'_>, line: usize) -> Play {
     if !is_serve(text) {
         return Play::Gives(reader.text(place.book, line));
     }
-    match harm_of(rest_of(text)) {
+    let harm = rest_of(text);
+    if harm == b"instead".as_slice() {
+        return Play::ServesInstead(reader.text_below(place.book, line));
+    }
+    match harm_of(harm, reader.cut) {
         Some(harm) => Play::Serves(harm),
         None => {
             reader.faults.line(line);
@@ -138,8 +155,8 @@ fn play_of(reader: &mut Reader, place: &Place<'_>, line: usize) -> Play {
     }
 }
 
-/// What becomes of a served response.
-fn harm_of(text: &[u8]) -> Option<Harm> {
+/// What becomes of a served response in the round with this number.
+fn harm_of(text: &[u8], cut: usize) -> Option<Harm> {
     let numbers = rest_of(text);
     let number = match number_of(word_of(numbers)) {
         Some(number) => size_of_number(number),
@@ -148,10 +165,13 @@ fn harm_of(text: &[u8]) -> Option<Harm> {
     match found_in(&HARMS, word_of(text))? {
         HarmWord::Nothing => Some(Harm::Nothing),
         HarmWord::Lost => Some(Harm::Front(0)),
+        HarmWord::Front if is_each(numbers) => Some(Harm::EachFront(cut)),
         HarmWord::Front => Some(Harm::Front(number)),
         HarmWord::Without => Some(Harm::Without(number)),
         HarmWord::Byte => other_byte(number, rest_of(numbers)),
-        HarmWord::Again => Some(Harm::Again),
+        HarmWord::Bit if is_each(numbers) => Some(Harm::EachBit(cut)),
+        HarmWord::Bit => None,
+        HarmWord::Again => Some(Harm::Again(number.max(1))),
     }
 }
 

@@ -10,7 +10,7 @@ const SHOWN: usize = 400;
 #[derive(Drop)]
 pub struct Differences {
     pub page: Page,
-    /// The first line of the run that is compared, counted from 1.
+    /// The first line of what is compared, counted from 1.
     pub line: u64,
 }
 
@@ -25,6 +25,19 @@ impl Differences {
     /// Whether there is a difference, or a fault on the way.
     pub fn is_decided(&self) -> bool {
         !self.page.bytes.is_empty() || !self.page.faults.is_none()
+    }
+
+    /// Appends other differences.
+    pub fn append(&mut self, other: &Differences) {
+        self.page.put(other.page.bytes.as_slice());
+        self.page.faults.join(&other.page.faults);
+    }
+
+    /// Tells that no run came to what begins in this line, counted from 0.
+    pub fn not_met(&mut self, line: usize) {
+        self.page.put(b"  line ");
+        self.page.put_number((line as u64).saturating_add(1));
+        self.page.put(b": no run of the case comes to this\n");
     }
 
     /// Begins a line about the run and something that it left.

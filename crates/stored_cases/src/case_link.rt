@@ -31,9 +31,11 @@ struct Plays {
     coming: VecDeque<Coming>,
     step: usize,
     held: Option<Held>,
-    // the response of the last session
+    // the response of the session that is held, and those of the sessions before
     response: Bytes,
+    earlier: Row<Bytes>,
     sent: Row<Bytes>,
+    is_struck: bool,
 }
 
 /// A link whose sessions are played from a list. After the list `begin` fails. It tells nothing to contracts; what was
@@ -60,12 +62,15 @@ impl CaseLink {
                 alloc,
                 history,
                 settings,
+                longest: 0,
             },
             coming: VecDeque::from(coming.into_vec()),
             step,
             held: None,
             response: Bytes::new(alloc),
+            earlier: Row::new(alloc),
             sent: Row::new(alloc),
+            is_struck: false,
         };
         CaseLink { plays, faults: 0 }
     }
@@ -78,6 +83,16 @@ impl CaseLink {
     /// Takes what each session sent, in order. What the last one sent is there once it was retired.
     pub fn take_sent(&mut self) -> Row<Bytes> {
         self.plays.take_sent()
+    }
+
+    /// Whether a call was made that an `each` lets fail.
+    pub fn is_struck(&self) -> bool {
+        self.plays.is_struck
+    }
+
+    /// How many bytes the longest response had of which each byte has a round.
+    pub fn longest(&self) -> usize {
+        self.plays.server.longest
     }
 
     fn fail(&mut self) -> Failed
@@ -97,9 +112,16 @@ impl Plays {
     /// Puts what the last session sent to what those before it sent.
     fn retire(&mut self) -> Result<(), OutOfMemory> {
         match self.held.take() {
-            Some(held) => self.sent.push(held.into_sent()),
+            Some(held) => self.put_away(held.into_sent()),
             None => Ok(()),
         }
+    }
+
+    /// Puts the response of the last session, and what it sent, to those of the sessions before.
+    fn put_away(&mut self, sent: Bytes) -> Result<(), OutOfMemory> {
+        let response = mem::replace(&mut self.response, Bytes::new(self.alloc));
+        self.earlier.push(response)?;
+        self.sent.push(sent)
     }
 
     /// Begins the next session, and says whether it does.
@@ -131,10 +153,12 @@ impl Plays {
 
     /// Counts a call of the session, and says whether it may do what it is asked.
     fn call(&mut self) -> bool {
-        match &mut self.held {
-            Some(held) => held.call(),
-            None => false,
-        }
+        let Some(held) = &mut self.held else {
+            return false;
+        };
+        let is_done = held.call();
+        self.is_struck = self.is_struck || held.is_struck();
+        is_done
     }
 
     /// Sends a piece in the session, and says whether it was sent.
@@ -159,8 +183,14 @@ impl Plays {
         held.has_response = true;
         match &held.coming.play {
             Play::Gives(bytes) => Server::give(bytes.as_slice(), &mut self.response),
-            Play::Serves(Harm::Again) => true,
+            Play::Serves(Harm::Again(back)) => {
+                Server::give(nth_last(self.earlier.as_slice(), *back), &mut self.response)
+            }
             Play::Serves(harm) => self.server.answer(&held.sent, *harm, &mut self.response),
+            Play::ServesInstead(request) => {
+                self.server
+                    .answer(request, Harm::Nothing, &mut self.response)
+            }
         }
     }
 
@@ -192,12 +222,28 @@ impl Held {
         sent
     }
 
+    /// Whether its last call is one that an `each` lets fail.
+    fn is_struck(&self) -> bool {
+        self.coming.has_each && self.coming.failing.as_slice().contains(&self.calls)
+    }
+
     /// Counts a call, and says whether it may do what it is asked.
     fn call(&mut self) -> bool {
         self.calls = self.calls.saturating_add(1);
         let is_listed = self.coming.failing.as_slice().contains(&self.calls);
         self.is_open = self.is_open && (self.calls > 1 || !is_listed);
         self.is_open && !is_listed
+    }
+}
+
+/// The last but so many of these texts, counted from 1, or nothing where there is none.
+fn nth_last(texts: &[Bytes], back: usize) -> &[u8] {
+    let Some(at) = texts.len().checked_sub(back) else {
+        return &[];
+    };
+    match texts.get(at) {
+        Some(text) => text.as_slice(),
+        None => &[],
     }
 }
 

@@ -1,8 +1,8 @@
 //! Cases one after the other.
 use crate::running::run;
 use case_texts::{
-    Book, CaseFault, Differences, Left, Page, Place, Reader, Scope, Sheet, Span, between, check,
-    compare, field, numbers, size_of_number,
+    Book, CaseFault, Differences, Left, Met, Page, Place, Reader, Scope, Sheet, Span, between,
+    check, compare_parts, field, given, numbers, size_of_number,
 };
 use sb_model::{Bytes, Row};
 use std::alloc::Global;
@@ -166,7 +166,7 @@ fn run_end(sheet: &Sheet, from: usize, end: usize) -> usize {
     end
 }
 
-/// The first differences of a case, over each step and each cut.
+/// The first differences of a case, over each step and each round.
 fn run_case<R: Threads + Wait + Sync>(
     rt: &R,
     alloc: Global,
@@ -176,11 +176,15 @@ fn run_case<R: Threads + Wait + Sync>(
     let mut reader = Reader::new(alloc, 0);
     let steps = case.steps(&mut reader);
     differences.page.faults.join(&reader.faults);
+    let mut met = Met::new(alloc);
     for step in steps.iter() {
         if differences.is_decided() {
             break;
         }
-        run_cuts(rt, alloc, case.with_step(*step), differences);
+        run_rounds(rt, alloc, case.with_step(*step), &mut met, differences);
+    }
+    if !differences.is_decided() {
+        met.tell(&case.book.sheet, case.span, differences);
     }
 }
 
@@ -220,20 +224,21 @@ impl<'a> Case<'a> {
     }
 }
 
-/// The first differences of a case at a step, over each cut.
-fn run_cuts<R: Threads + Wait + Sync>(
+/// The first differences of a case at a step, over each round.
+fn run_rounds<R: Threads + Wait + Sync>(
     rt: &R,
     alloc: Global,
     case: Case<'_>,
+    met: &mut Met,
     differences: &mut Differences,
 ) {
     let mut cut = 0;
     for _ in 0..u64::MAX {
         let mut reader = Reader::new(alloc, cut);
-        run_runs(rt, &mut reader, case, differences);
+        run_runs(rt, &mut reader, case, met, differences);
         differences.page.faults.join(&reader.faults);
         cut = cut.saturating_add(1);
-        if differences.is_decided() || cut >= reader.fronts {
+        if differences.is_decided() || !reader.goes_on() {
             break;
         }
     }
@@ -244,6 +249,7 @@ fn run_runs<R: Threads + Wait + Sync>(
     rt: &R,
     reader: &mut Reader,
     case: Case<'_>,
+    met: &mut Met,
     differences: &mut Differences,
 ) {
     let mut store: Option<Bytes> = None;
@@ -255,7 +261,7 @@ fn run_runs<R: Threads + Wait + Sync>(
             scope: case.scope(from, to),
             step: case.step,
         };
-        run_one(rt, reader, &place, &mut store, differences);
+        run_one(rt, reader, &place, &mut store, met, differences);
         from = to.saturating_add(1);
         if to >= case.span.to || !reader.faults.is_none() {
             break;
@@ -269,26 +275,26 @@ fn run_one<R: Threads + Wait + Sync>(
     reader: &mut Reader,
     place: &Place<'_>,
     store: &mut Option<Bytes>,
+    met: &mut Met,
     differences: &mut Differences,
 ) {
     check(reader, &place.book.sheet, place.scope.own);
-    differences.line = (place.scope.own.from as u64).saturating_add(1);
-    if let Some(left) = run(rt, reader, place, store.take()) {
-        take_left(reader, place, left, store, differences);
+    if let Some(left) = run(rt, reader, &given(place), store.take()) {
+        compare_left(reader, place, &left, met, differences);
+        *store = copy_of(reader, left.objects.keep.kept());
     }
 }
 
-/// Compares what a run left, and says what the next one begins with.
-fn take_left(
+/// Compares what a run left, if there was no fault.
+fn compare_left(
     reader: &mut Reader,
     place: &Place<'_>,
-    left: Left,
-    store: &mut Option<Bytes>,
+    left: &Left,
+    met: &mut Met,
     differences: &mut Differences,
 ) {
     if reader.faults.is_none() {
-        compare(reader, place, &left, differences);
-        *store = copy_of(reader, left.objects.keep.kept());
+        compare_parts(reader, place, left, met, differences);
     }
 }
 

@@ -55,11 +55,13 @@ fn run_over<R: Threads + Wait + Sync>(
 ) -> Left {
     let mut link = link_of(reader, place);
     let status = run_words(rt, reader, place, &mut objects, &mut link);
+    reader.note_length(link.longest());
     let sent = sent_over(reader, &mut link);
     Left {
         status,
         objects,
         sent,
+        is_struck: link.is_struck(),
     }
 }
 

@@ -1,5 +1,5 @@
 //! The list server that answers the sessions of a link.
-use case_texts::{Harm, between};
+use case_texts::{Harm, between, turned};
 use delta_server::Settings;
 use http_serving::ConnectionEnd;
 use list_versions::History;
@@ -17,6 +17,8 @@ pub struct Server {
     pub alloc: Global,
     pub history: Option<History>,
     pub settings: Settings,
+    /// How many bytes the longest response had of which each byte has a round.
+    pub longest: usize,
 }
 
 impl Server {
@@ -29,9 +31,19 @@ impl Server {
     }
 
     /// Puts what comes of the answer to these bytes in the place of a response, and says whether there is one.
-    pub fn answer(&self, sent: &Bytes, harm: Harm, response: &mut Bytes) -> bool {
+    pub fn answer(&mut self, sent: &Bytes, harm: Harm, response: &mut Bytes) -> bool {
+        let mut whole = Bytes::new(self.alloc);
+        let is_answered = self.answer_whole(sent, &mut whole);
+        if matches!(harm, Harm::EachFront(_) | Harm::EachBit(_)) {
+            self.longest = self.longest.max(whole.len());
+        }
+        is_answered && give_harmed(whole.as_slice(), harm, response)
+    }
+
+    /// Puts the whole answer to these bytes in the place of a response, and says whether there is one.
+    fn answer_whole(&self, sent: &Bytes, response: &mut Bytes) -> bool {
         match &self.history {
-            Some(history) => { answer(self.alloc, history, &self.settings, sent, harm, response) }
+            Some(history) => answer(self.alloc, history, &self.settings, sent, response),
             None => false,
         }
     }
@@ -66,13 +78,11 @@ fn answer(
     history: &History,
     settings: &Settings,
     sent: &Bytes,
-    harm: Harm,
     response: &mut Bytes,
 ) -> bool {
     match wire_of(alloc, sent) {
         Ok(mut wire) => {
-            serve(alloc, history, settings, &mut wire)
-                && give_harmed(wire.written(), harm, response)
+            serve(alloc, history, settings, &mut wire) && Server::give(wire.written(), response)
         }
         Err(OutOfMemory) => false,
     }
@@ -95,14 +105,30 @@ fn serve(alloc: Global, history: &History, settings: &Settings, wire: &mut Memor
 /// Puts what comes of a whole response in the place of a response, and says whether memory lasted.
 fn give_harmed(whole: &[u8], harm: Harm, response: &mut Bytes) -> bool {
     match harm {
-        Harm::Nothing | Harm::Again => Server::give(whole, response),
-        Harm::Front(count) => Server::give(between(whole, 0, count), response),
+        Harm::Nothing | Harm::Again(_) => Server::give(whole, response),
+        Harm::EachBit(place) => give_turned(whole, place, response),
+        Harm::Front(count) | Harm::EachFront(count) => Server::give(
+            between(whole, 0, count),
+            response,
+        ),
         Harm::Without(count) => {
             let end = whole.len().saturating_sub(count);
             Server::give(between(whole, 0, end), response)
         }
         Harm::Byte(place, byte) => give_with_byte(whole, place, byte, response),
     }
+}
+
+/// Gives the bytes, with one bit of the byte at this place turned if there is such a byte.
+fn give_turned(whole: &[u8], place: usize, response: &mut Bytes) -> bool {
+    let Some(byte) = whole.get(place) else {
+        return Server::give(whole, response);
+    };
+    Server::give(between(whole, 0, place), response)
+        && response.push(turned(*byte, place)).is_ok()
+        && response
+            .append(between(whole, place.saturating_add(1), whole.len()))
+            .is_ok()
 }
 
 /// Gives the bytes with this one in the place of the last but so many.
