@@ -16,9 +16,13 @@ MOST_SIZE_LINE = 1_024
 MOST_CHUNKS = 1_048_576
 
 STATUS_LINE = re.compile(rb"HTTP/1\.[01] +([0-9]{3})(?: [\t -~\x80-\xff]*)?")
+BEGUN_STATUS = re.compile(
+    rb"(?:H(?:T(?:T(?:P(?:/(?:1(?:\.(?:[01](?: +(?:[0-9]{0,2}|[0-9]{3}(?: [\t -~\x80-\xff]*)?))?)?)?)?)?)?)?)?)?"
+)
 FIELD = re.compile(rb"([!#$%&'*+.^_`|~0-9A-Za-z-]+):[ \t]*([\t -~\x80-\xff]*?)[ \t]*")
-BEGUN_FIELD = re.compile(rb"(?:[!#$%&'*+.^_`|~0-9A-Za-z-]+(?::[\t -~\x80-\xff]*)?)?\r?")
+BEGUN_FIELD = re.compile(rb"(?:[!#$%&'*+.^_`|~0-9A-Za-z-]+(?::[\t -~\x80-\xff]*\r?)?|\r)?")
 SIZE_LINE = re.compile(rb"([0-9A-Fa-f]{1,16})[ \t]*(?:;[^\r\n]*)?\r\n")
+BEGUN_SIZE_LINE = re.compile(rb"(?:[0-9A-Fa-f]{1,16}[ \t]*(?:;[^\r\n]*)?\r?)?")
 
 
 class Failed(Exception):
@@ -73,9 +77,8 @@ def head_of(given):
 
 def may_begin(line):
     """Whether a status line may begin so."""
-    begun = b"HTTP/1.1 200 "
-    line = line.removesuffix(b"\r")
-    return line.startswith(begun[: len(line)]) if len(line) < len(begun) else STATUS_LINE.fullmatch(line) is not None
+    whole = line.endswith(b"\r")
+    return (STATUS_LINE if whole else BEGUN_STATUS).fullmatch(line.removesuffix(b"\r")) is not None
 
 
 def chunked_body(rest):
@@ -87,8 +90,8 @@ def chunked_body(rest):
             raise Failed(f"chunk {number}")
         found = SIZE_LINE.match(rest)
         if found is None:
-            is_whole = b"\n" in rest[:MOST_SIZE_LINE] or len(rest) >= MOST_SIZE_LINE
-            raise Failed(f"chunk {number}" if is_whole else "cut")
+            is_open = len(rest) < MOST_SIZE_LINE and BEGUN_SIZE_LINE.fullmatch(rest)
+            raise Failed("cut" if is_open else f"chunk {number}")
         size = int(found[1], 16)
         if len(body) + size > MOST_BODY:
             raise Failed(f"body-limit {min(len(body) + size, 2**64 - 1)}")
@@ -106,12 +109,14 @@ def chunked_body(rest):
 def trailed(body, rest, number):
     """The body, where its trailer is right."""
     end = re.match(rb"(?:[^\r\n]+\r?\n)*\r?\n", rest)
-    if end is None:
-        raise Failed("cut" if len(rest) < MOST_HEAD else f"chunk {number}")
+    lines = re.split(rb"\r?\n", end[0] if end else rest)
     try:
-        fields = fields_of(re.split(rb"\r?\n", end[0])[:-2])
+        fields = fields_of(lines[:-2] if end else lines[:-1])
     except Failed as fault:
         raise Failed(f"chunk {number}") from fault
+    if end is None:
+        is_open = len(rest) < MOST_HEAD and BEGUN_FIELD.fullmatch(lines[-1])
+        raise Failed("cut" if is_open else f"chunk {number}")
     if len(fields) > MOST_FIELDS or end.end() > MOST_HEAD:
         raise Failed(f"chunk {number}")
     return body
