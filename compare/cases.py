@@ -11,6 +11,7 @@ exit status is 1.
 
 import argparse
 import base64
+import functools
 import hashlib
 import itertools
 import os
@@ -44,46 +45,106 @@ def expression(text):
 
 
 class Book:
-    """The lines of all cases, and the texts that have a name."""
+    """The lines of all cases, and the texts that have a name. A text is read once."""
 
     def __init__(self, data):
         self.lines = data.split(b"\n")
-        self.named = {}
+        self.named, self.read, self.indexed = {}, {}, {}
         for number, line in enumerate(self.lines):
             if line.startswith(b"text "):
                 self.named[line[5:]] = self.text(number)[0]
 
-    def text(self, number, cut=0):
-        """The text of the field in a line in a round, and how many rounds it needs."""
+    def fields(self, span):
+        """The lines of a span by their first words."""
+        if span not in self.indexed:
+            found = self.indexed[span] = {}
+            for number in span:
+                found.setdefault(self.lines[number].split(b" ", 1)[0], []).append(number)
+        return self.indexed[span]
+
+    def pieces(self, number):
+        """The pieces of the field in a line."""
         word, _, first = self.lines[number].partition(b" ")
-        writer = Writer(self, cut)
-        if word not in (b"text", b"serve") and first:
-            writer.pieces = [first]
+        pieces = [first] if word not in (b"text", b"serve") and first else []
         for line in itertools.islice(self.lines, number + 1, None):
             if line and not line.startswith(b"--"):
                 if chr(line[0]) not in SIGNS:
                     break
-                writer.pieces.append(line)
-        return writer.until_bracket(), writer.fronts
+                pieces.append(line)
+        return pieces
+
+    def text(self, number, cut=0):
+        """The text of the field in a line in a round, and how many rounds it needs."""
+        if number not in self.read:
+            self.read[number] = Writer(self, self.pieces(number)).until_bracket()
+        return in_round(self.read[number], cut)
+
+
+WORKS = {
+    b"base64": lambda text, _: base64.b64encode(text),
+    b"hex": lambda text, _: text.hex().encode(),
+    b"sha256": lambda text, _: hashlib.sha256(text).digest(),
+    b"sealed": lambda text, _: text + hashlib.sha256(text).digest(),
+    b"response": lambda text, _: exchanges.response(text),
+    b"front": lambda text, count: text[:count],
+    b"without": lambda text, count: text[: max(0, len(text) - count)],
+    b"rest": lambda text, count: text[count:],
+}
+
+# what a bracket makes of a text in a round
+EACH_WORKS = {
+    b"each-front": lambda text, cut: text[:cut],
+    b"each-rest": lambda text, cut: text[cut:],
+    b"each-bit": turned,
+}
+
+
+class Varying:
+    """A bracket that stands for another text in each round."""
+
+    def __init__(self, work, count, inner):
+        self.work, self.count, self.inner = work, count, inner
+
+    def in_round(self, cut):
+        """Its text in a round, and how many rounds it needs."""
+        text, fronts = in_round(self.inner, cut)
+        if self.work not in EACH_WORKS:
+            return WORKS[self.work](text, self.count), fronts
+        return EACH_WORKS[self.work](text, cut), fronts if self.work == b"each-rest" else max(fronts, len(text))
+
+
+def in_round(parts, cut):
+    """The text of some parts in a round, and how many rounds it needs."""
+    if isinstance(parts, bytes):
+        return parts, 0
+    made = [part.in_round(cut) if isinstance(part, Varying) else (part, 0) for part in parts]
+    return b"".join(text for text, _ in made), max(fronts for _, fronts in made)
+
+
+def joined(parts):
+    """The bytes of some parts, or where some stand for another text in each round the parts, those in between as one."""
+    if not any(isinstance(part, Varying) for part in parts):
+        return b"".join(parts)
+    grouped = itertools.groupby(parts, lambda part: isinstance(part, bytes))
+    return [part for is_same, some in grouped for part in ([b"".join(some)] if is_same else some)]
 
 
 class Writer:
     """Puts a text together of its pieces."""
 
-    def __init__(self, book, cut):
-        self.book, self.cut = book, cut
-        self.pieces, self.at, self.number, self.fronts = [], 0, 0, 0
+    def __init__(self, book, pieces):
+        self.book, self.pieces, self.at, self.number = book, pieces, 0, 0
 
     def until_bracket(self):
-        """The bytes of the pieces up to the bracket that closes, or to the end."""
+        """What the pieces stand for up to the bracket that closes, or to the end."""
         made = []
         while self.at < len(self.pieces):
             sign, rest = self.pieces[self.at][:1], self.pieces[self.at][1:]
             self.at += 1
             if sign == b")":
                 break
-            made.append(self.bracket(rest) if sign == b"(" else self.piece(sign, rest))
-        return b"".join(made)
+            made += self.bracket(rest) if sign == b"(" else [self.piece(sign, rest)]
+        return joined(made)
 
     def piece(self, sign, rest):
         if sign == b"%":
@@ -106,29 +167,26 @@ class Writer:
         return (b"%08x" if form == b"hex" else b"%d") % numbers.start
 
     def bracket(self, rest):
+        """The parts that a bracket stands for."""
         work, _, count = rest.partition(b" ")
         if work == b"repeat":
-            begin, made = self.at, []
-            for _ in range(int(count)):
-                self.at = begin
-                made.append(self.until_bracket())
-            return b"".join(made)
-        inner = self.until_bracket()
-        if work in (b"each-front", b"each-bit"):
-            self.fronts = max(self.fronts, len(inner))
-        return {
-            b"base64": base64.b64encode,
-            b"hex": lambda text: text.hex().encode(),
-            b"sha256": lambda text: hashlib.sha256(text).digest(),
-            b"sealed": lambda text: text + hashlib.sha256(text).digest(),
-            b"response": exchanges.response,
-            b"front": lambda text: text[: int(count)],
-            b"without": lambda text: text[: max(0, len(text) - int(count))],
-            b"rest": lambda text: text[int(count) :],
-            b"each-front": lambda text: text[: self.cut],
-            b"each-rest": lambda text: text[self.cut :],
-            b"each-bit": lambda text: turned(text, self.cut),
-        }[work](inner)
+            return self.repeated(int(count))
+        inner, count = self.until_bracket(), int(count or 0)
+        if isinstance(inner, bytes) and work not in EACH_WORKS:
+            return [WORKS[work](inner, count)]
+        return [Varying(work, count, inner)]
+
+    def repeated(self, count):
+        """The parts of a repeated text. Once a turn leaves the running number where it was, all further turns are like it."""
+        begin, made = self.at, []
+        for left in range(count, 0, -1):
+            self.at, number = begin, self.number
+            inner = self.until_bracket()
+            times = left if self.number == number else 1
+            made += [inner * times] if isinstance(inner, bytes) else inner * times
+            if times == left:
+                break
+        return made
 
 
 # ---- words
@@ -355,14 +413,17 @@ class Run:
         self.book, self.group, self.before, self.earlier = book, group, before, earlier
         ends = [number for number in own if book.lines[number] == b"or"]
         self.parts = [range(begin, end) for begin, end in zip([own.start, *(end + 1 for end in ends)], [*ends, own.stop])]
-        self.own, self.met, self.made = self.parts[0], set(), {}
+        self.own, self.met = self.parts[0], set()
+        # what it was given when it was made last, and what came of that; the round that was asked for last, and its result
+        self.given = self.made = self.cut = self.came = None
 
     def all_in(self, span, names):
-        return [number for number in span if self.book.lines[number].split(b" ")[0] in names]
+        fields = self.book.fields(span)
+        return sorted(itertools.chain.from_iterable(fields.get(name, ()) for name in names))
 
     def find(self, name, spans):
         for span in spans:
-            found = self.all_in(span, [name])
+            found = self.book.fields(span).get(name)
             if found:
                 return found[-1]
         return None
@@ -380,9 +441,10 @@ class Run:
 
     def asks(self):
         """Whether the words ask about their program."""
-        kind, words = self.book.lines[self.line_of_words()].split(b" ")[0].decode(), self.words()
+        kind, words = self.book.lines[self.line_of_words()].split(b" ")[0].decode(), self.words
         return len(words) == 2 and words[0] in PROGRAMS[kind] and words[1] in ASKING
 
+    @functools.cached_property
     def words(self):
         number = self.line_of_words()
         words = self.rest(number).decode().split(" ")
@@ -393,7 +455,7 @@ class Run:
         if not self.earlier or self.find(b"store", (self.own,)) is not None:
             return True
         earlier = self.earlier
-        if earlier.is_known():
+        if earlier.is_known:
             return True
         if any(earlier.find(b"kept", (part, earlier.group)) is None and not earlier.every(b"handed", part=part) for part in earlier.parts):
             return False
@@ -409,9 +471,11 @@ class Run:
         turns, _ = self.turns(0)
         return len(self.text(b"journal", 0)[0]) + sum(len(gained) for gained, _ in turns) > LONG_JOURNAL
 
+    @functools.cached_property
     def is_known(self):
+        """Whether this program makes the run."""
         fails = any(re.match(rb"[a-z]+-fails ", self.book.lines[number]) for number in self.own)
-        command = self.words()[:2]
+        command = self.words[:2]
         if fails or not self.has_known_store() or command == ["sblistd", "serve"] and self.has_long_journal():
             return False
         return command != ["sbupdate", "run"] or self.has_whole_sessions()
@@ -433,7 +497,7 @@ class Run:
 
     def kept(self, cut):
         """What it keeps at the end: of a run that is left out what its case says."""
-        if not self.is_known():
+        if not self.is_known:
             return self.said_kept(cut, self.own)
         handed = self.result(cut)[2].get("handed")
         return handed[-1] if handed else self.store(cut)
@@ -478,18 +542,21 @@ class Run:
 
     def result(self, cut):
         """What comes of the second program in a round: what it prints, its status, what it sends, hands, writes and answers; and how
-        many rounds there are. A run that is given the same comes to the same."""
+        many rounds there are. It is kept until another round is asked for. A run that is given the same comes to the same."""
+        if self.cut != cut:
+            self.cut, self.came = cut, self.come(cut)
+        return self.came
+
+    def come(self, cut):
         texts = [self.text(name, cut) for name in (b"input", b"journal", b"store")]
         (text, _), (journal, _), _ = texts
         (plays, *served), more = self.link(cut)
         turns, further = self.turns(cut)
         given = text, journal, tuple(plays), tuple(turns), self.store(cut)
         fronts = max(more, further, *(fronts for _, fronts in texts))
-        harms = {harm for kind, harm, _ in plays if kind == b"serve"}
-        key = (given, cut if harms & EACH else None)
-        if key not in self.made:
-            self.made[key] = self.make(given, judging.Link(plays, *served))
-        printed, status, left, longest = self.made[key]
+        if self.given != given or EACH & {harm for kind, harm, _ in plays if kind == b"serve"}:
+            self.given, self.made = given, self.make(given, judging.Link(plays, *served))
+        printed, status, left, longest = self.made
         return printed, status, left, max(fronts, longest)
 
     def make(self, given, link):
@@ -509,7 +576,7 @@ class Run:
             left.update(sent=report.sent, moments=report.moments, handed=report.handed)
             return report.printed, report.status
 
-        words = self.words()
+        words = self.words
         if self.asks():
             printed = f"{words[0]} {VERSION}\n".encode() if words[1] == "--version" else None
             return printed, 0, left, link.longest
@@ -578,7 +645,7 @@ def cases_of(book):
 
 def difference(runs):
     """What differs first in the rounds of a case, or None. Its runs that are left out are not made."""
-    known = [run for run in runs if run.is_known()]
+    known = [run for run in runs if run.is_known]
     cut, rounds = 0, 1
     while cut < rounds:
         for run in known:
@@ -602,7 +669,7 @@ def main():
         names.append(name)
         if options.only not in name and name != cases[-1][0]:
             continue
-        if not any(run.is_known() for run in runs):
+        if not any(run.is_known for run in runs):
             continue
         try:
             found = difference(runs)

@@ -90,21 +90,36 @@ def read_object(pairs):
     return dict(pairs)
 
 
+DIGITS = bytes.maketrans(b"123456789", b"000000000")
+
+
+def has_odd_integer(line):
+    """Whether a text may have an integer that is read as a float: none of 18 digits is, but for -0."""
+    return b"-0" in line or b"0" * 19 in line.translate(DIGITS)
+
+
+def is_plain(line):
+    """Whether a text has too few lists and objects to be too deep, and no character by its number."""
+    return b"\\u" not in line and line.count(b"[") + line.count(b"{") <= DEEPEST
+
+
 def read_json(line):
     place = too_dense(line)
     if place is not None:
         raise Unreadable(f"too-dense {place}")
+    plain = is_plain(line)
     try:
         value = json.loads(
             line.decode("utf-8"),
             parse_constant=no_constant,
             parse_float=read_float,
-            parse_int=read_integer,
-            object_pairs_hook=read_object,
+            parse_int=read_integer if has_odd_integer(line) else None,
+            object_pairs_hook=None if plain else read_object,
         )
     except (ValueError, RecursionError) as fault:
         raise Unreadable("not-json") from fault
-    look_through(value)
+    if not plain:
+        look_through(value)
     return value
 
 
@@ -162,6 +177,11 @@ class Reader:
             self.refuse("number", label)
         return value
 
+    def numbers(self, values, label, low, high):
+        if set(map(type, values)) == {int} and low <= min(values) and max(values) <= high:
+            return values
+        return [self.number(value, label, low, high) for value in values]
+
     def number_or_zero(self, holder, name, high):
         value = holder.get(name)
         return 0 if value is None else self.number(value, name, 0, high)
@@ -211,7 +231,7 @@ class Reader:
         if self.word(entry, "compressionType", ("RAW", "RICE")) == "RICE":
             return self.rice(entry, "riceIndices")
         indices = self.list(self.inner(entry, "rawIndices"), "indices")
-        return ("raw", [self.number(index, "indices", 0, I32) for index in indices])
+        return ("raw", self.numbers(indices, "indices", 0, I32))
 
     def list_name(self, entry):
         return "/".join(self.word(entry, field, words) for field, words in NAME_FIELDS)

@@ -190,7 +190,7 @@ def spelled(number, fields):
         printed, status, left, _ = run.result(0)
     except (urls.Skipped, judging.Scheduled):
         return None
-    usage = USAGES[run.words()[0]]
+    usage = USAGES[run.words[0]]
     lines = [f"## {number}", *lines, f"status {status}", *(["out", *judged.lines_of(printed)] if printed is not None else [f"out @usage-of-{usage}"])]
     for name, came in left.items():
         if name == "moments":

@@ -1,6 +1,7 @@
 """The second program's side of updates: what each does to the lists that are held, as docs/FORMATS.md says, "What an update does"."""
 
 import hashlib
+import operator
 
 from messages import ENTRIES, PLATFORMS, THREATS
 
@@ -62,12 +63,14 @@ def propose(token, held, update):
         raise Refused(f"stale-base {shown(token)} {shown(update['base'])}")
     additions = [member for entry in update["additions"] for member in members_of(entry)]
     places = [place for entry in update["removals"] for place in places_of(entry)] if partial else []
-    for place in places:
-        if place >= len(held):
-            raise Refused(f"index-range {place} {len(held)}")
+    if max(places, default=-1) >= len(held):
+        place = next(place for place in places if place >= len(held))
+        raise Refused(f"index-range {place} {len(held)}")
     gone = set(places)
     kept = [member for place, member in enumerate(held) if place not in gone] if partial else []
-    members = sorted(set(kept + additions))
+    members = sorted(kept + additions)
+    if any(map(operator.eq, members, members[1:])):
+        members = list(dict.fromkeys(members))
     if len(members) > MOST_VALUES:
         raise Refused(f"too-many {len(members)}")
     text = b"".join(members)
