@@ -1,5 +1,6 @@
-//! A system on which one path leads to a file of the system's own: one that takes a write and cannot be flushed, or one
-//! that takes none, as on a full disk. So it is seen what a keeper has flushed, and what it leaves.
+//! A system on which something happens where one path is opened: it leads to a file of the system's own, which takes a
+//! write and cannot be flushed, or takes none, as on a full disk; or a folder comes to the kept path, so that nothing can
+//! be renamed to it. So it is seen what a keeper has flushed, and what it leaves.
 use crate::keepers::FORM;
 use crate::outcome::Outcome;
 use crate::words::cut;
@@ -15,11 +16,41 @@ const NEVER_FLUSHED: &str = "/proc/self/comm";
 /// A file that takes no write: its disk is full.
 const FULL: &str = "/dev/full";
 
+/// What happens where the path is opened.
+#[derive(Clone, Copy)]
+enum Way {
+    Unflushed,
+    Full,
+    Occupied,
+}
+
 #[derive(Drop)]
 struct Diverted<'a> {
     rt: &'a HostRuntime,
     from: &'a str,
-    to: &'a str,
+    kept: &'a str,
+    way: Way,
+}
+
+impl Diverted<'_> {
+    /// Opens a file of the system's own in the place of one that is asked for.
+    fn open_own(&self, how: &OpenOptions, own: &str) -> io::Result<File> {
+        let mut options = OpenOptions::new();
+        options.read(how.asks_read()).write(how.asks_write());
+        self.rt.open_file(&options, own)
+    }
+
+    /// Opens a file of a full disk. The file that is made stays where it is asked for.
+    fn open_full(&self, how: &OpenOptions, path: &str) -> io::Result<File> {
+        let _ = self.rt.open_file(how, path)?;
+        self.open_own(how, FULL)
+    }
+
+    /// Opens the file that is asked for, once a folder has come to the kept path.
+    fn open_beside_folder(&self, how: &OpenOptions, path: &str) -> io::Result<File> {
+        self.rt.create_dir(self.kept)?;
+        self.rt.open_file(how, path)
+    }
 }
 
 fn no_call<T>() -> io::Result<T> {
@@ -35,13 +66,11 @@ impl Files for Diverted<'_> {
         if path != self.from {
             return self.rt.open_file(how, path);
         }
-        if self.to == FULL {
-            // the file that is made stays where it is asked for
-            let _ = self.rt.open_file(how, path)?;
+        match self.way {
+            Way::Unflushed => self.open_own(how, NEVER_FLUSHED),
+            Way::Full => self.open_full(how, path),
+            Way::Occupied => self.open_beside_folder(how, path),
         }
-        let mut options = OpenOptions::new();
-        options.read(how.asks_read()).write(how.asks_write());
-        self.rt.open_file(&options, self.to)
     }
 
     fn open_dir(&self, _path: &str) -> io::Result<Self::Dir> {
@@ -83,19 +112,29 @@ impl Files for Diverted<'_> {
 
 /// Keeps a text at a path, where another path cannot be flushed.
 pub(crate) fn unflushed<'a>(rt: &'a HostRuntime, line: &'a str) -> Outcome {
-    keep(rt, NEVER_FLUSHED, line)
+    keep(rt, Way::Unflushed, line)
 }
 
 /// Keeps a text at a path, where the disk of another path is full.
 pub(crate) fn full<'a>(rt: &'a HostRuntime, line: &'a str) -> Outcome {
-    keep(rt, FULL, line)
+    keep(rt, Way::Full, line)
 }
 
-fn keep<'a>(rt: &'a HostRuntime, to: &'a str, line: &'a str) -> Outcome {
+/// Keeps a text at a path, to which a folder comes where another path is opened.
+pub(crate) fn occupied<'a>(rt: &'a HostRuntime, line: &'a str) -> Outcome {
+    keep(rt, Way::Occupied, line)
+}
+
+fn keep<'a>(rt: &'a HostRuntime, way: Way, line: &'a str) -> Outcome {
     let (from, rest) = cut(line);
-    let (path, text) = cut(rest);
-    let system = Diverted { rt, from, to };
-    let Ok(mut keeper) = FileKeeper::new(system, rt.alloc(), path, FORM, true) else {
+    let (kept, text) = cut(rest);
+    let system = Diverted {
+        rt,
+        from,
+        kept,
+        way,
+    };
+    let Ok(mut keeper) = FileKeeper::new(system, rt.alloc(), kept, FORM, true) else {
         return Outcome::OutOfMemory;
     };
     match keeper.replace(text.as_bytes()) {

@@ -40,6 +40,7 @@ fn take<'a>(
         b"second" => keepers::step(rt, &mut things.second, rest),
         b"unflushed" => diverted::unflushed(rt, rest),
         b"full" => diverted::full(rt, rest),
+        b"occupied" => diverted::occupied(rt, rest),
         b"journal" => journals::step(rt, &mut things.journal, rest),
         b"source" => streams::source_step(rt, &mut things.source, rest),
         b"sink" => streams::sink_step(rt, &mut things.sink, rest),
