@@ -117,10 +117,10 @@ pub fn is_each(text: &[u8]) -> bool {
     word_of(text) == b"each".as_slice()
 }
 
-/// The numbers of a field of failing calls, or none where it is not given. Of `each` it is the one of the round.
+/// The numbers of a field of failing calls, or none where it is not given. Of `each` alone it is the one of the round.
 pub fn calls(reader: &mut Reader, sheet: &Sheet, line: Option<usize>) -> Row<u64> {
     match line {
-        Some(line) if is_each(sheet.rest(line)) => one_call(reader),
+        Some(line) if sheet.rest(line) == b"each".as_slice() => one_call(reader),
         line => numbers(reader, sheet, line),
     }
 }

@@ -1,7 +1,7 @@
 //! What is to come of a run, parted by `or`.
 use crate::book::Reader;
 use crate::comparing::{Left, compare};
-use crate::fields::is_or;
+use crate::fields::{is_each, is_or};
 use crate::objects::Place;
 use crate::report::Differences;
 use crate::sheet::{Sheet, Span};
@@ -68,7 +68,7 @@ pub fn given<'a>(place: &Place<'a>) -> Place<'a> {
     place.with_own(own.from, part_end(&place.book.sheet, own.from, own.to))
 }
 
-/// Compares all that a run left with what is to come of it, if its round is compared. It has to come to one of the parts.
+/// Compares all that a run left with what is to come of it, if its round is compared. It tells where the rounds would not end.
 pub fn compare_parts(
     reader: &mut Reader,
     place: &Place<'_>,
@@ -76,10 +76,23 @@ pub fn compare_parts(
     met: &mut Met,
     differences: &mut Differences,
 ) {
-    note_calls(reader, place, left);
-    if !reader.is_compared() {
-        return;
+    let mut endless = Differences::new(reader.alloc);
+    note_calls(reader, place, left, &mut endless);
+    if endless.is_decided() {
+        differences.append(&endless);
+    } else if reader.is_compared() {
+        compare_all(reader, place, left, met, differences);
     }
+}
+
+/// Compares all that a run left with what is to come of it. It has to come to one of the parts.
+fn compare_all(
+    reader: &mut Reader,
+    place: &Place<'_>,
+    left: &Left,
+    met: &mut Met,
+    differences: &mut Differences,
+) {
     let mut told = Differences::new(reader.alloc);
     let own = place.scope.own;
     let mut from = own.from;
@@ -119,32 +132,47 @@ fn comes_to(
 }
 
 /// Notes of each object of which each call is to fail in turn whether it was called so often.
-fn note_calls(reader: &mut Reader, place: &Place<'_>, left: &Left) {
+fn note_calls(reader: &mut Reader, place: &Place<'_>, left: &Left, endless: &mut Differences) {
     let objects = &left.objects;
     let place = &given(place);
-    note(reader, place, b"input-fails", objects.input.faults() > 0);
-    note(
+    note_faults(
+        reader,
+        place,
+        b"input-fails",
+        objects.input.faults(),
+        endless,
+    );
+    note_faults(
         reader,
         place,
         b"journal-fails",
-        objects.journal.faults() > 0,
+        objects.journal.faults(),
+        endless,
     );
-    note(reader, place, b"out-fails", objects.out.faults() > 0);
-    note(reader, place, b"keeper-fails", objects.keep.faults() > 0);
+    note_faults(reader, place, b"out-fails", objects.out.faults(), endless);
+    note_faults(
+        reader,
+        place,
+        b"keeper-fails",
+        objects.keep.faults(),
+        endless,
+    );
     note(reader, place, b"session-fails", left.is_struck);
-    note_door(reader, place, left);
+    note_door(reader, place, left, endless);
 }
 
 /// The same of a door, and of its connections.
-fn note_door(reader: &mut Reader, place: &Place<'_>, left: &Left) {
+fn note_door(reader: &mut Reader, place: &Place<'_>, left: &Left, endless: &mut Differences) {
     let door = &left.objects.scripts.door;
-    note(reader, place, b"door-fails", door.faults() > 0);
+    note_faults(reader, place, b"door-fails", door.faults(), endless);
     let taken = match door.log() {
         Some(log) => log,
         None => &[],
     };
-    note(reader, place, b"read-fails", has_read_fault(taken));
-    note(reader, place, b"write-fails", has_write_fault(taken));
+    let reads = u64::from(has_read_fault(taken));
+    note_faults(reader, place, b"read-fails", reads, endless);
+    let writes = u64::from(has_write_fault(taken));
+    note_faults(reader, place, b"write-fails", writes, endless);
 }
 
 fn has_read_fault(taken: &[Connection]) -> bool {
@@ -163,8 +191,28 @@ fn has_write_fault(taken: &[Connection]) -> bool {
     has_fault
 }
 
+/// Notes whether the call was made that an `each` of this name lets fail, if there is one.
 fn note(reader: &mut Reader, place: &Place<'_>, name: &[u8], is_made: bool) {
     if place.has_each(reader, &[name]) {
         reader.note_call(is_made);
+    }
+}
+
+/// The same by a count of all faults. It tells of each other field of this name, since by that one a call fails in each round.
+fn note_faults(
+    reader: &mut Reader,
+    place: &Place<'_>,
+    name: &[u8],
+    faults: u64,
+    endless: &mut Differences,
+) {
+    if !place.has_each(reader, &[name]) {
+        return;
+    }
+    reader.note_call(faults > 0);
+    for line in place.fields(reader, &[name]).iter() {
+        if !is_each(place.book.sheet.rest(*line)) {
+            endless.beside_each(*line);
+        }
     }
 }

@@ -40,6 +40,13 @@ impl Differences {
         self.page.put(b": no run of the case comes to this\n");
     }
 
+    /// Tells that what this line, counted from 0, lets fail stands beside an `each`.
+    pub fn beside_each(&mut self, line: usize) {
+        self.page.put(b"  line ");
+        self.page.put_number((line as u64).saturating_add(1));
+        self.page.put(b": a call fails beside `each`, so that the rounds would not end\n");
+    }
+
     /// Begins a line about the run and something that it left.
     fn begin(&mut self, name: &[u8]) {
         self.page.put(b"  line ");
