@@ -1,15 +1,16 @@
 -- A response on its way, and that a whole request has the answer that is right for it.
-use Rattle.std.proofs.Common.{◌≡◌, ◌≢◌, ℕ, Bool, List, [], ◌++◌, length, codes, decimal, Option, Some, None, Result, Ok, Err, IfSome, refl, sym, ap, ◌∙◌, subst}
+use Rattle.std.proofs.Common.{◌≡◌, ◌≢◌, ◌↔◌, ℕ, Bool, List, [], ◌++◌, length, codes, decimal, Option, Some, None, Result, Ok, Err, IfSome, refl, sym, ap, ◌∙◌, subst}
 use Rattle.std.proofs.lemmas.List.{append-nil}
 use Rattle.sha2.specs.Sha256.{sha256}
 use Rattle.sb_outside.specs.Outside.{next_piece, appended}
-use Rattle.http_edge.specs.Requests.{Gives, ReadsAs, ReadsToRequest, RequestOutcome}
+use Rattle.http_edge.specs.Requests.{Gives, ReadsAs, RequestOutcome}
 use Rattle.http_edge.specs.Responses.{allow_line, digest_text, line, response_text, status_text}
 use Rattle.http_edge.specs.declared.faults.RequestFault.{RequestFault}
 use Rattle.http_edge.specs.declared.faults.RequestFault.TheVariants as fault
 use Rattle.http_edge.specs.declared.messages.Allow.{Allow}
 use Rattle.http_edge.specs.declared.messages.HttpRequest.{HttpRequest}
 use Rattle.http_edge.specs.declared.messages.Status.{Status}
+use Rattle.http_serving.specs.Hearing.{Hears}
 use Rattle.http_serving.specs.Law.{HasOneAnswer, IsAnsweredAsRead}
 use Rattle.http_serving.specs.Serving.{IsAnswerAfter, HasWritten, Serves, HasAnswer, AnswersAtMost, IsComplete}
 use Rattle.http_serving.specs.Steps.{answer_cause, answer_status, answer_text, IsStopAfter, IsSent}
@@ -64,17 +65,17 @@ no_fault Right received answer right =
 
 pub served : (Right : HttpRequest → Status → Allow → (body cause : List ℕ) → Type 0) (received : Result HttpRequest RequestFault) (answer : Answer) (how : ConnectionEnd)
     → (left later last : Option (List (List ℕ))) (before between after : Option (List ℕ))
-    → (bytes : List ℕ) × (ended : Bool) × Gives bytes ended left later × RequestOutcome bytes ended received × ReadsToRequest bytes ended received
+    → Hears received left later
     → last ≡ later → between ≡ before → IsRightAnswer (IsAnswerAfter Right received) answer → IsSent (answer_status answer) (answer_text answer) (answer_cause answer) how between after
     → Serves Right how left last before after
-served Right received answer how left later last before between after (bytes, ended, gives, read, prompt) same-left same-contents response sent =
+served Right received answer how left later last before between after heard same-left same-contents response sent =
     let text = text_right (IsAnswerAfter Right received) answer response in record {
-      bytes = bytes;
-      ended = ended;
+      bytes = heard.bytes;
+      ended = heard.ended;
       received = received;
-      gives = subst (Gives bytes ended left) (sym same-left) gives;
-      outcome = read;
-      prompt = prompt;
+      gives = subst (Gives heard.bytes heard.ended left) (sym same-left) heard.gives;
+      outcome = heard.outcome;
+      prompt = heard.prompt;
       written = written_of_sent Right received (answer_status answer) text.allow text.body (answer_cause answer) how before after text.right
           (subst (λ (t : List ℕ). IsSent (answer_status answer) t (answer_cause answer) how before after) text.whole
           (subst (λ (held : Option (List ℕ)). IsSent (answer_status answer) (answer_text answer) (answer_cause answer) how held after) same-contents sent));
@@ -82,14 +83,29 @@ served Right received answer how left later last before between after (bytes, en
 
 pub stopped : (Right : HttpRequest → Status → Allow → (body cause : List ℕ) → Type 0) (received : Result HttpRequest RequestFault) (how : ConnectionEnd)
     → (left later : Option (List (List ℕ))) (before after : Option (List ℕ))
-    → (bytes : List ℕ) × (ended : Bool) × Gives bytes ended left later × RequestOutcome bytes ended received × ReadsToRequest bytes ended received
+    → Hears received left later
     → after ≡ before → IsStopAfter received how → Serves Right how left later before after
-stopped Right received (end.Answered status cause) left later before after given same stop = absurd stop
-stopped Right received end.WriteFault left later before after given same stop = absurd stop
-stopped Right received end.ReadFault left later before after (bytes, ended, gives, read, prompt) same stop =
-    record { bytes = bytes; ended = ended; received = received; gives = gives; outcome = read; prompt = prompt; written = (stop, same) }
-stopped Right received end.OutOfMemory left later before after (bytes, ended, gives, read, prompt) same stop =
-    record { bytes = bytes; ended = ended; received = received; gives = gives; outcome = read; prompt = prompt; written = nothing_of before after same }
+stopped Right received (end.Answered status cause) left later before after heard same stop = absurd stop
+stopped Right received end.WriteFault left later before after heard same stop = absurd stop
+stopped Right received end.ReadFault left later before after heard same stop =
+    record { bytes = heard.bytes; ended = heard.ended; received = received; gives = heard.gives; outcome = heard.outcome; prompt = heard.prompt; written = (stop, same) }
+stopped Right received end.OutOfMemory left later before after heard same stop =
+    record { bytes = heard.bytes; ended = heard.ended; received = received; gives = heard.gives; outcome = heard.outcome; prompt = heard.prompt; written = nothing_of before after same }
+
+-- ---- a fault of reading, and nothing else, ends so
+
+pub fault_of_sent : (Right : HttpRequest → Status → Allow → (body cause : List ℕ) → Type 0) (received : Result HttpRequest RequestFault) (answer : Answer) (how : ConnectionEnd) (status : Status) (text cause : List ℕ) (before after : Option (List ℕ))
+    → IsRightAnswer (IsAnswerAfter Right received) answer → IsSent status text cause how before after → (how ≡ end.ReadFault) ↔ (received ≡ Err fault.ReadFault)
+fault_of_sent Right received answer (end.Answered told why) status text cause before after right sent = (λ e. absurd (cc), λ e. absurd (no_fault Right received answer right e))
+fault_of_sent Right received answer end.WriteFault status text cause before after right sent = (λ e. absurd (cc), λ e. absurd (no_fault Right received answer right e))
+fault_of_sent Right received answer end.OutOfMemory status text cause before after right sent = (λ e. absurd (cc), λ e. absurd (no_fault Right received answer right e))
+fault_of_sent Right received answer end.ReadFault status text cause before after right sent = absurd sent
+
+pub fault_of_stop : (received : Result HttpRequest RequestFault) (how : ConnectionEnd) → IsStopAfter received how → (how ≡ end.ReadFault) ↔ (received ≡ Err fault.ReadFault)
+fault_of_stop received (end.Answered status cause) stop = absurd stop
+fault_of_stop received end.WriteFault stop = absurd stop
+fault_of_stop received end.ReadFault stop = (λ e. stop, λ e. refl)
+fault_of_stop received end.OutOfMemory stop = (λ e. absurd (cc), λ e. absurd (stop e))
 
 -- ---- a whole request has one answer
 

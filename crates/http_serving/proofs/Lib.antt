@@ -1,6 +1,9 @@
 mod Fronts
+mod OpenEntries
 mod Unavailable
 mod RoutedAnswers
 mod Requests
 mod Answering
 mod Entries
+mod Keeping
+mod Rooms

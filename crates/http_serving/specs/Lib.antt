@@ -4,5 +4,8 @@ pub mod Written
 pub mod Serving
 pub mod Printed
 pub mod Returning
+pub mod Hearing
+pub mod Kept
 pub mod Law
+pub mod OpenEntries
 pub mod Steps

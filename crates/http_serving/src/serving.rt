@@ -1,8 +1,9 @@
-ghost use Rattle.std.specs.Prelude.{◌≡◌, ◌≢◌, ◌≤◌, ℕ, List, IfOk, IfErr, IfSome};
+ghost use Rattle.std.specs.Prelude.{◌≡◌, ◌≢◌, ◌↔◌, ◌≤◌, ℕ, List, Option, Err, IfOk, IfErr, IfSome, IsErrOf};
 ghost use Rattle.sb_outside.specs.Outside.{Rose};
 ghost use Rattle.http_edge.specs.declared.messages.Allow.{Allow};
 ghost use Rattle.http_edge.specs.declared.messages.HttpRequest.{HttpRequest};
 ghost use Rattle.http_edge.specs.declared.messages.Status.{Status};
+ghost use Rattle.http_serving.specs.Hearing.{Hears, IsHeard};
 ghost use Rattle.http_serving.specs.Law.{HasOneAnswer};
 ghost use Rattle.http_serving.specs.Returning.{IsFresh, IsReturned};
 ghost use Rattle.http_serving.specs.Routes.{AsksAt, IsRouted, Route, RoutedAnswer};
@@ -54,7 +55,7 @@ pub trait Answers {
 }
 
 /// The answer to a request.
-fn answer_request<A: Answers>(
+fn answer_routed<A: Answers>(
     alloc: Global,
     answers: &mut A,
     request: &HttpRequest,
@@ -83,7 +84,7 @@ fn respond<A: Answers>(
     ensures stays { A.stays answers.old answers.new }
 {
     match received {
-        Ok(request) => match answer_request(alloc, answers, &request) {
+        Ok(request) => match answer_routed(alloc, answers, &request) {
             Ok(answer) => Ok(answer),
             Err(OutOfMemory) => Err(ConnectionEnd::OutOfMemory),
         },
@@ -95,20 +96,51 @@ fn respond<A: Answers>(
     }
 }
 
-/// Reads one request and writes one response, and nothing where memory is refused.
-fn answer_wire<A: Answers, T: Wire>(alloc: Global, answers: &mut A, wire: &mut T) -> ConnectionEnd
-    // What the wire gave, and what was written of the answer.
-    ensures serves { Serves (RoutedAnswer A.routes (A.right answers.old answers.new)) result
-        (T.left wire.old) (T.left wire.new) (T.contents wire.old) (T.contents wire.new) }
+/// Hears one request of a connection, and answers nothing yet (RFC 9112). No more is read than decides what it comes to.
+pub fn hear_request<T: Wire>(alloc: Global, wire: &mut T) -> Result<HttpRequest, RequestFault>
+    // What the wire gave, and what that comes to.
+    ensures hears { Hears result (T.left wire.old) (T.left wire.new) }
 
-    // A whole request that has an answer is answered with that, or not at all.
-    ensures complete { IfSome (T.left wire.old) (λ pieces. IsComplete (RoutedAnswer A.routes (A.right answers.old answers.new)) pieces result
-        (T.contents wire.old) (T.contents wire.new)) }
+    // A wire of which nothing was read has been heard, and nothing was written to it yet.
+    ensures heard { (pieces : List (List ℕ))
+        → IsFresh pieces (T.start wire.old) (T.left wire.old) (T.contents wire.old) (T.Source.faults wire.old) (T.Sink.faults wire.old)
+        → IsHeard result pieces (T.start wire.new) (T.left wire.new) (T.contents wire.new) (T.Source.faults wire.new) (T.Sink.faults wire.new) }
 
     // A fault is counted, and nothing else is.
-    ensures read_failed { result ≡ ConnectionEnd.ReadFault → Rose (T.Source.faults wire.old) (T.Source.faults wire.new) }
-    ensures read_kept { result ≢ ConnectionEnd.ReadFault → T.Source.faults wire.new ≡ T.Source.faults wire.old }
-    ensures read_counted { T.Source.faults wire.old ≤ T.Source.faults wire.new }
+    ensures failed { IsErrOf result RequestFault.ReadFault → Rose (T.Source.faults wire.old) (T.Source.faults wire.new) }
+    ensures kept { result ≢ Err RequestFault.ReadFault → T.Source.faults wire.new ≡ T.Source.faults wire.old }
+    ensures counted { T.Source.faults wire.old ≤ T.Source.faults wire.new }
+
+    // Nothing is written, and it is the same connection.
+    ensures unwritten { T.contents wire.new ≡ T.contents wire.old }
+    ensures write_kept { T.Sink.faults wire.new ≡ T.Sink.faults wire.old }
+    ensures number { T.number wire.new ≡ T.number wire.old }
+    ensures start { T.start wire.new ≡ T.start wire.old }
+{
+    read_request(alloc, wire)
+}
+
+/// Writes one response to what was heard, and nothing where memory is refused.
+fn answer_received<A: Answers, T: Wire>(
+    alloc: Global,
+    answers: &mut A,
+    wire: &mut T,
+    received: Result<HttpRequest, RequestFault>,
+) -> ConnectionEnd
+    // What was written of the answer, whatever the wire gave before.
+    ensures serves { (left : Option (List (List ℕ))) → Hears received left (T.left wire.old)
+        → Serves (RoutedAnswer A.routes (A.right answers.old answers.new)) result left (T.left wire.new) (T.contents wire.old) (T.contents wire.new) }
+
+    // A whole request that has an answer is answered with that, or not at all.
+    ensures complete { (left : Option (List (List ℕ))) → Hears received left (T.left wire.old)
+        → IfSome left (λ pieces. IsComplete (RoutedAnswer A.routes (A.right answers.old answers.new)) pieces result (T.contents wire.old) (T.contents wire.new)) }
+
+    // Nothing is read.
+    ensures read_fault { (result ≡ ConnectionEnd.ReadFault) ↔ (received ≡ Err RequestFault.ReadFault) }
+    ensures unread { T.left wire.new ≡ T.left wire.old }
+    ensures read_kept { T.Source.faults wire.new ≡ T.Source.faults wire.old }
+
+    // A fault of writing is counted, and nothing else is.
     ensures write_failed { result ≡ ConnectionEnd.WriteFault → Rose (T.Sink.faults wire.old) (T.Sink.faults wire.new) }
     ensures write_kept { result ≢ ConnectionEnd.WriteFault → T.Sink.faults wire.new ≡ T.Sink.faults wire.old }
     ensures write_counted { T.Sink.faults wire.old ≤ T.Sink.faults wire.new }
@@ -122,10 +154,56 @@ fn answer_wire<A: Answers, T: Wire>(alloc: Global, answers: &mut A, wire: &mut T
     ensures stays { A.stays answers.old answers.new }
 {
     A::have_one_answer();
-    let received = read_request(alloc, wire);
     match respond(alloc, answers, received) {
         Ok(answer) => send(alloc, wire, answer),
         Err(end) => end,
+    }
+}
+
+/// Writes one response to what was heard of a connection, as `serve_connection` says: whenever that was, and whatever was done
+/// with others since.
+pub fn answer_request<A: Answers, T: Wire>(
+    alloc: Global,
+    answers: &mut A,
+    wire: &mut T,
+    received: Result<HttpRequest, RequestFault>,
+) -> ConnectionEnd
+    // What was written of the answer, whatever the wire gave before.
+    ensures serves { (left : Option (List (List ℕ))) → Hears received left (T.left wire.old)
+        → Serves (RoutedAnswer A.routes (A.right answers.old answers.new)) result left (T.left wire.new) (T.contents wire.old) (T.contents wire.new) }
+
+    // A whole request that has an answer is answered with that or not at all, or memory was refused.
+    ensures complete { (left : Option (List (List ℕ))) → Hears received left (T.left wire.old)
+        → IfSome left (λ pieces. IsComplete (RoutedAnswer A.routes (A.right answers.old answers.new)) pieces result (T.contents wire.old) (T.contents wire.new)) }
+
+    // Nothing is read.
+    ensures read_fault { (result ≡ ConnectionEnd.ReadFault) ↔ (received ≡ Err RequestFault.ReadFault) }
+    ensures unread { T.left wire.new ≡ T.left wire.old }
+    ensures read_kept { T.Source.faults wire.new ≡ T.Source.faults wire.old }
+
+    // A fault of writing is counted, and nothing else is.
+    ensures write_failed { result ≡ ConnectionEnd.WriteFault → Rose (T.Sink.faults wire.old) (T.Sink.faults wire.new) }
+    ensures write_kept { result ≢ ConnectionEnd.WriteFault → result ≢ ConnectionEnd.OutOfMemory
+        → T.Sink.faults wire.new ≡ T.Sink.faults wire.old }
+    ensures write_counted { T.Sink.faults wire.old ≤ T.Sink.faults wire.new }
+
+    // If memory was refused, the whole 503 was written, or a write failed.
+    ensures unavailable { result ≡ ConnectionEnd.OutOfMemory → IsWholeOrFault unavailable_text
+        (T.contents wire.old) (T.contents wire.new) (T.Sink.faults wire.old) (T.Sink.faults wire.new) }
+
+    // It is the same connection.
+    ensures number { T.number wire.new ≡ T.number wire.old }
+    ensures start { T.start wire.new ≡ T.start wire.old }
+
+    // What an answer leaves of the server.
+    ensures stays { A.stays answers.old answers.new }
+{
+    match answer_received(alloc, answers, wire, received) {
+        ConnectionEnd::OutOfMemory => {
+            send_unavailable(wire);
+            ConnectionEnd::OutOfMemory
+        }
+        end => end,
     }
 }
 
@@ -169,13 +247,8 @@ pub fn serve_connection<A: Answers, T: Wire>(
     // What an answer leaves of the server.
     ensures stays { A.stays answers.old answers.new }
 {
-    match answer_wire(alloc, answers, wire) {
-        ConnectionEnd::OutOfMemory => {
-            send_unavailable(wire);
-            ConnectionEnd::OutOfMemory
-        }
-        end => end,
-    }
+    let received = hear_request(alloc, wire);
+    answer_request(alloc, answers, wire, received)
 }
 
 /// Serves a connection that a door handed out, and gives it back.
@@ -198,6 +271,32 @@ pub fn serve_wire<A: Answers, D: Door>(
 {
     let mut wire = wire;
     let end = serve_connection(alloc, answers, &mut wire);
+    door.done(wire);
+    end
+}
+
+/// Answers a connection that a door handed out and that was heard, and gives it back. Others may have been taken and given back
+/// since it was heard.
+pub fn answer_wire<A: Answers, D: Door>(
+    alloc: Global,
+    answers: &mut A,
+    door: &mut D,
+    wire: D::Wire,
+    received: Result<HttpRequest, RequestFault>,
+) -> ConnectionEnd
+    // The log's entry of this connection says how it was served, and each other entry is as it was.
+    ensures served { (pieces : List (List ℕ))
+        → IsHeard received pieces (D.Wire.start wire) (D.Wire.left wire) (D.Wire.contents wire) (D.Wire.Source.faults wire) (D.Wire.Sink.faults wire)
+        → IsReturned (IsServed (RoutedAnswer A.routes (A.right answers.old answers.new)) result pieces) (D.Wire.number wire)
+        (D.log door.old) (D.log door.new) }
+    ensures kept { D.faults door.new ≡ D.faults door.old }
+    ensures coming { D.coming door.new ≡ D.coming door.old }
+
+    // What an answer leaves of the server.
+    ensures stays { A.stays answers.old answers.new }
+{
+    let mut wire = wire;
+    let end = answer_request(alloc, answers, &mut wire, received);
     door.done(wire);
     end
 }

@@ -3,7 +3,7 @@ use Rattle.std.proofs.Common.{◌≡◌, Bool, true, false, List, [], ◌∷◌,
 use Rattle.std.specs.Prelude.{option_and_then, ◌&&◌, if◌then◌else◌, slice_index}
 use Rattle.std.specs.Str.{bytes_eq}
 use Rattle.std.proofs.lemmas.Slice.Eq.{bytes_eq-Decides}
-use Rattle.sb_words.specs.About.{about_of, asked_by}
+use Rattle.sb_words.specs.About.{asked_by}
 use Rattle.sb_words.specs.CommandLine.{Text, Given, CommandShape, given_of}
 use Rattle.sb_words.specs.declared.asking.About.{About}
 use Rattle.sb_service.specs.declared.command.Command.{Command}

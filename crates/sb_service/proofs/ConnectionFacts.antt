@@ -1,5 +1,5 @@
 -- What a list server answers: one response to a request, by what its body reads as.
-use Rattle.std.proofs.Common.{◌≡◌, ◌≢◌, ◌⊎◌, ℕ, zero, suc, List, [], Option, Some, None, Result, Ok, Err, IfOk, IfSome, refl, sym, ap, ◌∙◌, subst, inl, inr}
+use Rattle.std.proofs.Common.{◌≡◌, ◌≢◌, ◌⊎◌, ℕ, List, [], Option, Some, None, Result, Ok, Err, IfOk, IfSome, refl, sym, ap, ◌∙◌, subst, inl, inr}
 use Rattle.std.specs.Prelude.{option_map, slice_get}
 use Rattle.serde_json.specs.Data.{Data}
 use Rattle.sb_outside.specs.Outside.{next_piece}
@@ -33,7 +33,7 @@ use Rattle.lookup_messages.specs.Reading.{ReadsLookup}
 use Rattle.sb_lookup.specs.Lookups.{lists_text}
 use Rattle.sb_service.specs.declared.connection.ListRoute.{ListRoute}
 use Rattle.sb_service.specs.declared.connection.ListRoute.TheVariants.{Updates, Hashes, Lookups, Lists}
-use Rattle.sb_service.specs.Connection.{fault_for, list_routes, updates_text, matches_text, lookups_text, route_at, IsCauseAt, IsCauseFor, IsResponseAt, IsResponseFor, IsResponseTo, IsTextAt, IsTextFor, HasGoodRequest}
+use Rattle.sb_service.specs.Connection.{fault_for, list_routes, updates_text, matches_text, lookups_text, route_at, IsCauseFor, IsResponseAt, IsResponseFor, IsResponseTo, IsTextFor, HasGoodRequest}
 use Rattle.sb_service.specs.ConnectionLaws.{AlwaysTellsLists, TellsFirstFault}
 use Rattle.sb_service.specs.ConnectionSteps.{IsBareRefusal}
 

@@ -6,7 +6,6 @@ pub mod Fronts
 pub mod Journals
 pub mod Keeping
 pub mod Loads
-pub mod Rooms
 pub mod Runs
 pub mod Stops
 pub mod Turns

@@ -2,7 +2,6 @@ ghost use Rattle.std.specs.Prelude.{◌≡◌, ◌≢◌, ◌≤◌, ℕ, List, 
 ghost use Rattle.sb_outside.specs.Outside.{Rose, next_piece};
 ghost use Rattle.sb_json.specs.Printed.{cause_text as message_cause};
 ghost use Rattle.sb_model.specs.History.{History as Versions};
-ghost use Rattle.http_edge.specs.Responses.{response_text};
 ghost use Rattle.http_edge.specs.declared.messages.Allow.{Allow};
 ghost use Rattle.http_edge.specs.declared.messages.HttpRequest.{HttpRequest};
 ghost use Rattle.http_edge.specs.declared.messages.Status.{Status};
@@ -13,19 +12,20 @@ ghost use Rattle.delta_server.specs.declared.answering.Settings.{Settings as Tim
 ghost use Rattle.sb_lookup.specs.Lookups.{lists_text};
 ghost use Rattle.sb_service.specs.Connection.{list_routes, lists_path, lookups_path, lookups_text, matches_text, route_at, updates_text, HasGoodRequest, IsResponseAt, IsResponseFor, IsResponseTo, ListServed};
 ghost use Rattle.sb_service.specs.ConnectionLaws.{AlwaysTellsLists, HasOneResponse, IsAnsweredAsRead, TellsFirstFault};
-ghost use Rattle.sb_service.specs.ConnectionSteps.{IsBareRefusal, IsSentAs, MayBeKept};
+ghost use Rattle.sb_service.specs.ConnectionSteps.{IsBareRefusal};
 ghost use Rattle.update_messages.specs.Messages.{Request};
 ghost use Rattle.update_messages.specs.Reading.{ReadsRequest, IsTextOf};
-ghost use Rattle.sb_service.specs.Kept.{AreKeptOf};
+ghost use Rattle.sb_service.specs.Kept.{AreKeptOf, IsKeptOf};
 
-use crate::kept::KeptAnswers;
-use crate::wish::{Wish, wishes_of};
+use crate::kept::{Wishes, nothing_kept};
+use crate::wish::wishes_of;
 use delta_server::{Settings, answer_fetch, answer_find};
 use hash_messages::{FindRequest, find_values_read_one_way, read_find, write_matches};
 use http_edge::{Allow, HttpRequest, Status, path_of};
 use http_serving::{
-    Answer, Answers, ConnectionEnd, Response, Route, Routed, SharedResponse,
-    answers_follow_requests, find_route, requests_have_one_answer, write_out,
+    Answer, Answers, ConnectionEnd, KeepsAnswers, KeptAnswers, Response, Route, Routed,
+    SharedResponse, answers_follow_requests, find_route, kept_answers_stay_right,
+    requests_have_one_answer,
 };
 use list_versions::History;
 use lookup_messages::{
@@ -33,16 +33,13 @@ use lookup_messages::{
 };
 use sb_json::{MessageFault, push_message_cause};
 use sb_lookup::{answer_lookup, write_lists};
-use sb_model::{Bytes, OutOfMemory, Row, names_go_by_their_codes};
+use sb_model::{Bytes, OutOfMemory, names_go_by_their_codes};
 use sb_outside::{Kind, Wire};
 use std::alloc::Global;
 use std::marker::Model;
 use update_messages::{
     FetchRequest, read_request as read_message, values_read_one_way, write_response as write_answer,
 };
-
-/// The most bytes that the body of a kept answer has: 16 MiB.
-const MOST_KEPT: usize = 16_777_216;
 
 /// The path of requests to look URLs up.
 #[tactic(auto, unfolding(crate::specs::Connection::lookups_path))]
@@ -237,58 +234,12 @@ fn answer_anew(
     }
 }
 
-/// The answer that a response is whose text is written out. It may be kept. If memory to share it is refused, it is sent all the
-/// same.
-fn keep_written(
-    kept: &mut KeptAnswers,
-    asked: &[u8],
-    wishes: Option<Row<Wish>>,
-    response: Response,
-    text: Bytes,
-) -> Answer
-    requires text { text ≡ response_text response.status response.allow response.body }
-    requires cause { response.cause ≡ [] }
-    ensures answer { IsSentAs response result }
-    ensures kept { MayBeKept asked.now wishes response kept.old kept.new }
-{
-    let Ok(text) = kept.shared(text) else {
-        return Answer::Made(response);
-    };
-    kept.keep(asked, wishes, &text);
-    Answer::Shared(SharedResponse {
-        status: response.status,
-        text,
-    })
-}
-
-/// The answer that a response is. It is written out and may be kept. If it is too long for that or memory is refused, it is sent
-/// all the same.
-fn keep_made(
-    alloc: Global,
-    kept: &mut KeptAnswers,
-    asked: &[u8],
-    wishes: Option<Row<Wish>>,
-    response: Response,
-) -> Answer
-    requires { response.cause ≡ [] }
-    ensures answer { IsSentAs response result }
-    ensures kept { MayBeKept asked.now wishes response kept.old kept.new }
-{
-    if response.body.len() > MOST_KEPT {
-        return Answer::Made(response);
-    }
-    match write_out(alloc, &response) {
-        Ok(written) => keep_written(kept, asked, wishes, response, written.text),
-        Err(OutOfMemory) => Answer::Made(response),
-    }
-}
-
 /// The answer to a message that asks for updates: the text that is kept of an answer to the same wishes, or a new one.
 fn answer_wishes(
     alloc: Global,
     history: &History,
     settings: &Settings,
-    kept: &mut KeptAnswers,
+    kept: &mut KeptAnswers<Wishes>,
     request: &HttpRequest,
     message: &FetchRequest,
 ) -> Result<Answer, OutOfMemory>
@@ -302,7 +253,8 @@ fn answer_wishes(
     // looked at for the prover: what holds of each history that was read
     let _ = history.len();
     let wishes = wishes_of(alloc, history, message.items.as_slice())?;
-    let found = kept.text_by_wishes(&wishes)?;
+    kept_answers_stay_right::<ListServer<'_>>();
+    let found = kept.text_by_meaning(&wishes)?;
     if let Some(text) = found {
         return Ok(Answer::Shared(SharedResponse {
             status: Status::Success,
@@ -311,7 +263,7 @@ fn answer_wishes(
     }
     let response = answer_message(alloc, history, settings, message)?;
     let asked = request.body.as_slice();
-    Ok(keep_made(alloc, kept, asked, wishes, response))
+    Ok(kept.keep_response(alloc, asked, wishes, response))
 }
 
 /// The answer to a request for updates: the text that is kept of an answer to the same body, or what its message is answered.
@@ -319,13 +271,14 @@ fn answer_updates(
     alloc: Global,
     history: &History,
     settings: &Settings,
-    kept: &mut KeptAnswers,
+    kept: &mut KeptAnswers<Wishes>,
     request: &HttpRequest,
 ) -> Result<Answer, OutOfMemory>
     requires { AreKeptOf history.now.versions settings.now kept.old }
     ensures right { IfOk result (λ answer. IsRightAnswer (IsResponseFor history.now.versions settings.now ListRoute.Updates request.now) answer) }
     ensures kept { AreKeptOf history.now.versions settings.now kept.new }
 {
+    kept_answers_stay_right::<ListServer<'_>>();
     let asked = request.body.as_slice();
     let found = kept.text_by_body(asked)?;
     if let Some(text) = found {
@@ -345,7 +298,7 @@ fn answer_at(
     alloc: Global,
     history: &History,
     settings: &Settings,
-    kept: &mut KeptAnswers,
+    kept: &mut KeptAnswers<Wishes>,
     place: usize,
     request: &HttpRequest,
 ) -> Result<Answer, OutOfMemory>
@@ -368,7 +321,7 @@ pub(crate) struct ListServer<'a> {
     pub history: &'a History,
     pub settings: &'a Settings,
     /// The answers that it has kept, each of which is one of this history and these settings.
-    pub kept: KeptAnswers,
+    pub kept: KeptAnswers<Wishes>,
 }
 
 impl<'a> Model for ListServer<'a> {
@@ -381,7 +334,7 @@ impl<'a> Model for ListServer<'a> {
 
 impl<'a> ListServer<'a> {
     /// The answers that it has kept, when it has answered.
-    pub fn into_kept(self) -> KeptAnswers
+    pub fn into_kept(self) -> KeptAnswers<Wishes>
         ensures { AreKeptOf self.entry.versions self.entry.times result }
     {
         let ListServer {
@@ -391,6 +344,12 @@ impl<'a> ListServer<'a> {
         } = self;
         kept
     }
+}
+
+impl<'a> KeepsAnswers for ListServer<'a> {
+    type Meaning = Wishes;
+
+    ghost is_right = { λ server. IsKeptOf server.versions server.times };
 }
 
 impl<'a> Answers for ListServer<'a> {
@@ -496,7 +455,7 @@ pub fn serve_connection<T: Wire>(
     let mut server = ListServer {
         history,
         settings,
-        kept: KeptAnswers::new(alloc),
+        kept: nothing_kept(alloc),
     };
     http_serving::serve_connection(alloc, &mut server, wire)
 }

@@ -10,11 +10,11 @@ ghost use Rattle.sb_service.specs.declared.serve.Further.{Further as Goes};
 
 use crate::answer::answer_fault;
 use crate::connection::ListServer;
-use crate::kept::KeptAnswers;
+use crate::kept::{Wishes, nothing_kept};
 use crate::stop::Stop;
 use delta_server::Settings;
 use http_edge::ResponseFault;
-use http_serving::{ConnectionEnd, give_back, print_connection, serve_wire};
+use http_serving::{ConnectionEnd, KeptAnswers, give_back, print_connection, serve_wire};
 use list_versions::{History, JournalFault, cuts_make_no_difference};
 use sb_model::OutOfMemory;
 use sb_outside::{Door, Failed, Sink, Source};
@@ -80,7 +80,7 @@ fn serve_taken<O: Sink, D: Door>(
     alloc: Global,
     history: &History,
     plan: &ServePlan,
-    kept: &mut KeptAnswers,
+    kept: &mut KeptAnswers<Wishes>,
     number: u32,
     out: &mut O,
     door: &mut D,
@@ -102,7 +102,7 @@ fn serve_taken<O: Sink, D: Door>(
     let mut server = ListServer {
         history,
         settings: &plan.settings,
-        kept: mem::replace(kept, KeptAnswers::new(alloc)),
+        kept: mem::replace(kept, nothing_kept(alloc)),
     };
     let end = serve_wire(alloc, &mut server, door, wire);
     *kept = server.into_kept();
@@ -154,7 +154,7 @@ fn take_turn<J: Source, O: Sink, D: Door>(
     alloc: Global,
     history: &mut History,
     plan: &ServePlan,
-    kept: &mut KeptAnswers,
+    kept: &mut KeptAnswers<Wishes>,
     number: u32,
     journal: &mut J,
     out: &mut O,
@@ -212,7 +212,7 @@ fn take_next<J: Source, O: Sink, D: Door>(
     alloc: Global,
     history: &mut History,
     plan: &ServePlan,
-    kept: &mut KeptAnswers,
+    kept: &mut KeptAnswers<Wishes>,
     number: u32,
     journal: &mut J,
     out: &mut O,
@@ -251,7 +251,7 @@ fn serve_one_held<O: Sink, D: Door>(
     alloc: Global,
     history: &History,
     plan: &ServePlan,
-    kept: &mut KeptAnswers,
+    kept: &mut KeptAnswers<Wishes>,
     number: u32,
     out: &mut O,
     door: &mut D,
@@ -290,7 +290,7 @@ fn serve_held<O: Sink, D: Door>(
     alloc: Global,
     history: &History,
     plan: &ServePlan,
-    kept: &mut KeptAnswers,
+    kept: &mut KeptAnswers<Wishes>,
     taken: u32,
     out: &mut O,
     door: &mut D,
@@ -334,7 +334,7 @@ fn serve_connections<J: Source, O: Sink, D: Door>(
     ensures door_failed { result ≡ Stop.DoorFault → Rose (D.faults door.old) (D.faults door.new) }
     ensures door_kept { result ≢ Stop.DoorFault → D.faults door.new ≡ D.faults door.old }
 {
-    let mut kept = KeptAnswers::new(alloc);
+    let mut kept = nothing_kept(alloc);
     for taken in 0..plan.connections {
         match take_next(
             alloc,

@@ -1,6 +1,5 @@
 ghost use Rattle.std.specs.Prelude.{◌≡◌, ℕ, List, true, None, IfOk, IfSome, IfNone};
-ghost use Rattle.std.specs.List.{Any, list_all};
-ghost use Rattle.std.specs.Cmp.Lexicographic.{pointwise};
+ghost use Rattle.std.specs.List.{Any};
 ghost use Rattle.sb_model.specs.Names.{same_name};
 ghost use Rattle.sb_model.specs.Target.{is_within};
 ghost use Rattle.sb_model.specs.History.{declares, History as Versions};
@@ -9,8 +8,10 @@ ghost use Rattle.update_messages.specs.Answer.{declared_items, fetch_answer, ver
 ghost use Rattle.update_messages.specs.Messages.{Request};
 ghost use Rattle.delta_server.specs.Tokens.{server_naming};
 ghost use Rattle.sb_service.specs.declared.wish.Wish.{Wish as ItemWish};
+ghost use Rattle.sb_service.specs.Kept.{are_whole, same_wishes};
 ghost use Rattle.sb_service.specs.Wish.{newest_size, is_free, is_whole, same_version, same_wish, wish_of, wished_answer, AreWishesOf};
 
+use crate::kept::Wishes;
 use delta_server::held_version;
 use list_versions::History;
 use sb_model::{ListName, OutOfMemory, Row};
@@ -59,7 +60,7 @@ fn is_same(first: Wish, second: Wish) -> bool
 
 /// Whether the items of two requests wish the same, in order.
 pub(crate) fn are_same(first: &[Wish], second: &[Wish]) -> bool
-    ensures { result ≡ pointwise same_wish first.now second.now }
+    ensures { result ≡ same_wishes first.now second.now }
 {
     match (first, second) {
         ([], []) => true,
@@ -72,7 +73,7 @@ pub(crate) fn are_same(first: &[Wish], second: &[Wish]) -> bool
 
 /// Whether each item wishes a whole list.
 pub(crate) fn are_whole(wishes: &[Wish]) -> bool
-    ensures { result ≡ list_all is_whole wishes.now }
+    ensures { result ≡ are_whole wishes.now }
 {
     wishes.iter().all(|wish| wish.held.is_none())
 }
@@ -132,7 +133,7 @@ pub(crate) fn wishes_of(
     alloc: Global,
     history: &History,
     items: &[ListRequest],
-) -> Result<Option<Row<Wish>>, OutOfMemory>
+) -> Result<Option<Wishes>, OutOfMemory>
     ensures wishes { IfOk result (λ found. IfSome found (AreWishesOf history.now.versions items.now)) }
     ensures none { IfOk result (λ found. IfNone found (Any (λ asked. wish_of history.now.versions asked ≡ None)
         (declared_items history.now.versions items.now))) }
@@ -147,7 +148,7 @@ pub(crate) fn wishes_of(
             None => return Ok(None),
         }
     }
-    Ok(Some(wishes))
+    Ok(Some(Wishes(wishes)))
 }
 
 /// Two requests to one history whose declared items wish the same have one answer, and it is the answer to what they wish.

@@ -6,8 +6,8 @@ use Rattle.http_serving.specs.Serving.{IsAnswerAfter}
 use Rattle.http_serving.specs.Written.{IsRightAnswer}
 use Rattle.http_serving.proofs.serving.respond.Goals as goal
 
-pub returns-in-Ok-answer_request-clause-right : goal.returns-in-Ok-answer_request-clause-right
-returns-in-Ok-answer_request-clause-right g c =
-    let right = RoutedAnswer g.A.Answers.routes (g.A.Answers.right c.args.answers.now c.answer_request.new.answers) in
-    subst (λ (received : Result HttpRequest RequestFault). IsRightAnswer (IsAnswerAfter right received) c.in-Ok-answer_request.answer) (sym c.in-Ok.is)
-    c.in-Ok-answer_request.ensures.right
+pub returns-in-Ok-answer_routed-clause-right : goal.returns-in-Ok-answer_routed-clause-right
+returns-in-Ok-answer_routed-clause-right g c =
+    let right = RoutedAnswer g.A.Answers.routes (g.A.Answers.right c.args.answers.now c.answer_routed.new.answers) in
+    subst (λ (received : Result HttpRequest RequestFault). IsRightAnswer (IsAnswerAfter right received) c.in-Ok-answer_routed.answer) (sym c.in-Ok.is)
+    c.in-Ok-answer_routed.ensures.right

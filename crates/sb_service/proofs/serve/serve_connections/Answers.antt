@@ -1,11 +1,10 @@
 use Rattle.std.proofs.Common.{◌+◌, ◌<◌, [], ap, refl, ◌∙◌, arith, Ok}
 use Rattle.sb_service.specs.Stops.{status_of}
-use Rattle.sb_service.proofs.Keeping.{none_kept}
 use Rattle.sb_service.proofs.Turns.{held, no_turn, one_more, stopped}
 use Rattle.sb_service.proofs.serve.serve_connections.Goals as goal
 
 pub loop-taken-init : goal.loop-taken-init
-loop-taken-init g c = ([], refl, no_turn _ _, refl, refl, refl, none_kept c.args.history.now.versions c.args.plan.now.settings c.new-kept.result c.new-kept.ensures)
+loop-taken-init g c = ([], refl, no_turn _ _, refl, refl, refl, c.nothing_kept-kept.ensures c.args.history.now.versions c.args.plan.now.settings)
 
 pub loop-taken-preserved : goal.loop-taken-preserved
 loop-taken-preserved g c =

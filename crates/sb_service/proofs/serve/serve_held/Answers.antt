@@ -1,4 +1,4 @@
-use Rattle.std.proofs.Common.{◌+◌, ◌<◌, ◌≤◌, suc, refl, ◌∙◌, arith}
+use Rattle.std.proofs.Common.{◌<◌, suc, refl, ◌∙◌, arith}
 use Rattle.sb_service.proofs.Turns.{held_to_the_end, held_until, one_more_held}
 use Rattle.sb_service.proofs.serve.serve_held.Goals as goal
 

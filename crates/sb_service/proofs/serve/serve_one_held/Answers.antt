@@ -1,4 +1,4 @@
-use Rattle.std.proofs.Common.{◌≡◌, ◌∷◌, ◌∙◌, ap, sym, refl, Option, List, ℕ}
+use Rattle.std.proofs.Common.{◌∷◌, ◌∙◌, ap, sym, refl, Option, List, ℕ}
 use Rattle.std.specs.Prelude.{option_map}
 use Rattle.sb_service.specs.declared.stop.Stop.TheVariants as stop
 use Rattle.sb_service.proofs.Stops.{one_stop}

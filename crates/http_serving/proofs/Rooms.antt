@@ -7,16 +7,16 @@ use Rattle.std.proofs.lemmas.List.{take-append-drop}
 use Rattle.std.proofs.lemmas.List.Sums.{sum_by-append}
 use Rattle.std.proofs.lemmas.List.Sorted.{sum_by-IsPermutation}
 use borrow.Rule.Slice.PartMut.{put_mid}
-use Rattle.sb_service.specs.Kept.{kept_size, AreFew}
-use Rattle.sb_service.specs.declared.kept.KeptAnswer.{KeptAnswer}
-use Rattle.sb_service.specs.declared.kept.Room.{Room}
+use Rattle.http_serving.specs.Kept.{kept_size, AreFew}
+use Rattle.http_serving.specs.declared.kept.KeptAnswer.{KeptAnswer}
+use Rattle.http_serving.specs.declared.kept.Room.{Room}
 
 -- the bytes of all, after a part of them was put in another order
-pub turned : (xs new : List KeptAnswer) (p : ℕ) → IsPermutation (take (length xs - p) (drop p xs)) new → sum_by kept_size (put_mid p (length xs - p) xs new) ≡ sum_by kept_size xs
-turned xs new p turns =
+pub turned : {K : Type 0} → (xs new : List (KeptAnswer K)) (p : ℕ) → IsPermutation (take (length xs - p) (drop p xs)) new → sum_by kept_size (put_mid p (length xs - p) xs new) ≡ sum_by kept_size xs
+turned {K} xs new p turns =
     let k : ℕ = length xs - p in
-    let front : List KeptAnswer = take p xs in
-    let back : List KeptAnswer = drop p xs in
+    let front : List (KeptAnswer K) = take p xs in
+    let back : List (KeptAnswer K) = drop p xs in
     let whole = sum_by-append kept_size front (new ++ drop k back) in
     let part = sum_by-append kept_size new (drop k back) in
     let same = sum_by-IsPermutation kept_size (take k back) new turns in
@@ -26,19 +26,19 @@ turned xs new p turns =
     let all = ap (sum_by kept_size) (take-append-drop p xs) in
     omega (arith, whole, part, same, cut, joined, halves, all)
 
-first_of_all : (x : KeptAnswer) (xs : List KeptAnswer) → sum_by kept_size (x ∷ xs) ≡ kept_size x + sum_by kept_size xs
-first_of_all x xs = let both = sum_by-append kept_size (x ∷ []) xs in omega (arith, both)
+first_of_all : {K : Type 0} → (x : KeptAnswer K) (xs : List (KeptAnswer K)) → sum_by kept_size (x ∷ xs) ≡ kept_size x + sum_by kept_size xs
+first_of_all {K} x xs = let both = sum_by-append kept_size (x ∷ []) xs in omega (arith, both)
 
 -- after the first one went
-pub went : (xs ys : List KeptAnswer) (first : KeptAnswer) (bytes size : ℕ) (room : Room) → AreFew xs bytes room → first ≡ get_or xs 0 first → ys ≡ remove xs 0
+pub went : {K : Type 0} → (xs ys : List (KeptAnswer K)) (first : KeptAnswer K) (bytes size : ℕ) (room : Room) → AreFew xs bytes room → first ≡ get_or xs 0 first → ys ≡ remove xs 0
     → (size < 2 ^ 32 → size ≡ kept_size first) → size ≤ kept_size first → AreFew ys (bytes - size) room
-went [] ys first bytes size room few is rest exact most = record {
+went {K} [] ys first bytes size room few is rest exact most = record {
   limit = few.limit;
   count = (let none = ap length rest in omega (arith, none));
   size = (let none = ap (sum_by kept_size) rest in let all = few.size in omega (arith, none, all));
   small = (let small = few.small in omega (arith, small));
 }
-went (x ∷ xs) ys first bytes size room few is rest exact most =
+went {K} (x ∷ xs) ys first bytes size room few is rest exact most =
     let limit = few.limit in
     let small = few.small in
     let sum = few.size in
@@ -55,9 +55,9 @@ went (x ∷ xs) ys first bytes size room few is rest exact most =
     }
 
 -- after one came
-pub came : (xs ys : List KeptAnswer) (last : KeptAnswer) (bytes size : ℕ) (room : Room) → AreFew xs bytes room → ys ≡ xs ++ last ∷ [] → length xs < room.answers
+pub came : {K : Type 0} → (xs ys : List (KeptAnswer K)) (last : KeptAnswer K) (bytes size : ℕ) (room : Room) → AreFew xs bytes room → ys ≡ xs ++ last ∷ [] → length xs < room.answers
     → sum_by kept_size xs + size ≤ room.bytes → (size < 2 ^ 32 → size ≡ kept_size last) → AreFew ys (bytes + size) room
-came xs ys last bytes size room few all there fits exact =
+came {K} xs ys last bytes size room few all there fits exact =
     let limit = few.limit in
     let sum = few.size in
     let low : size < 2 ^ 32 = omega (arith, limit, fits) in

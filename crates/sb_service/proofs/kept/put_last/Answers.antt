@@ -1,5 +1,0 @@
-use Rattle.sb_service.proofs.Rooms.{turned}
-use Rattle.sb_service.proofs.kept.put_last.Goals as goal
-
-pub returns-clause-size : goal.returns-clause-size
-returns-clause-size c = turned c.args.answers.now c.rotate_left.new.self c.args.place c.rotate_left.ensures.permutation
