@@ -29,6 +29,14 @@ talk_taken : (states : List (List ℕ)) (asked : List Hit) (talk : Option FindTa
 talk_taken states asked None pairs = refl
 talk_taken states asked (Some talk) pairs = answer_taken states asked talk.session.closed talk.answer pairs
 
+pub look_steps : (steps : List Step) (now : Moment) (hits : List Hit) → looked_up_pairs (after_steps [] steps) hits ≡ after_steps [] (steps ++ asks_of now hits)
+look_steps steps now hits = sym (fold-append after_step [] steps (asks_of now hits) ∙ looked_up now hits (after_steps [] steps))
+
+pub answer_steps : (steps : List Step) (states : List (List ℕ)) (asked : List Hit) (at : Moment) (answer : Result FindResponse Cause)
+    → kept_by at (lists_hit asked) (find_asked states asked) answer (after_steps [] steps) ≡ after_steps [] (steps ++ steps_of_answer states asked at answer)
+answer_steps steps states asked at answer =
+    sym (fold-append after_step [] steps (steps_of_answer states asked at answer) ∙ answer_taken states asked at answer (after_steps [] steps))
+
 pub resolution_steps : (steps : List Step) (states : List (List ℕ)) (hits : List Hit) (r : Resolution)
     → pairs_after states hits (after_steps [] steps) r ≡ after_steps [] (steps_after steps states hits r)
 resolution_steps steps states hits r =

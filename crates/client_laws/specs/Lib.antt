@@ -7,6 +7,7 @@ pub mod Full
 pub mod Rulings
 pub mod Faithful
 pub mod Resolved
+pub mod Shared
 pub mod Example
 pub mod Decided
 pub mod Verdicts

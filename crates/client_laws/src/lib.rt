@@ -8,7 +8,8 @@
 //! `verdicts` has that a verdict on a URL equals a look-up of each of its expressions' hashes in the full lists, where the answers that
 //! decided it were faithful to these lists. `specs/Full.antt` has the full hashes of held lists and which of them have a URL, `Rulings`
 //! what is said of hits, `Faithful` answers that tell which full hashes a list has, `Resolved` the verdict of a resolution, and `Decided`
-//! which ones decide a URL. `example` has that the premises can be met, with `specs/Example.antt`.
+//! which ones decide a URL. `shared` has the same of a look that is decided by an answer to a find for several looks, with
+//! `specs/Shared.antt`. `example` has that the premises can be met, with `specs/Example.antt`.
 //!
 //! `judgings` has what the verdicts of a whole run say of a server's lists, and what it saves beside them. Nothing is asked of an answer
 //! that did not decide a verdict. `specs/Verdicts.antt` has the verdicts of URLs that were judged in order, `Complete` which of them are
@@ -24,6 +25,9 @@ pub use runs::{
     kept_is_printed, rounds_leave_lists, rounds_save_replicas, rows_hold, runs_hold,
     stores_begin_runs,
 };
+pub use shared::{
+    faithful_finds_decide_each_look, looks_and_answers_are_steps, shared_verdicts_are_lookups,
+};
 pub use verdicts::{
     faithful_answers_rule_rightly, faithful_finds_decide, full_hashes_are_one,
     hits_find_listed_urls, resolutions_are_complete, resolutions_are_steps,
@@ -33,4 +37,5 @@ pub use verdicts::{
 mod example;
 mod judgings;
 mod runs;
+mod shared;
 mod verdicts;

@@ -25,6 +25,7 @@ ghost use Rattle.client_laws.specs.Rulings.{Rulings, IsRight, AreRight, AreAllSa
 ghost use Rattle.client_laws.specs.Faithful.{AgreeUnder, Begins, IsFaithfulFor, RestsOnFaithful, KeptAreFaithful, IsFaithful, TakenAreFaithful, said_after};
 ghost use Rattle.client_laws.specs.Resolved.{IsLookup, IsBorneOut, IsDecidedFaithfully, said_in, steps_after};
 
+use crate::shared::shared_verdicts_are_lookups;
 use full_hash_cache::{safe_hashes_were_not_returned, unsafe_hashes_were_told};
 use hash_messages::answers_match_what_is_asked;
 use prefix_set::sets_go_by_members;
@@ -144,9 +145,7 @@ pub fn resolved_verdicts_are_lookups()
         → IsNoneOpen hits (said_in steps waits r)
         ↔ (cause_of (answer_in waits r.talk) (hits_asked (after_steps [] steps) r.now hits) ≡ None) }
 {
-    names_go_by_their_codes();
-    faithful_answers_rule_rightly();
-    right_rulings_are_lookups();
+    shared_verdicts_are_lookups();
 }
 
 /// A resolution makes steps of a cache: what it leaves of pairs that some steps left from no pairs on, more steps leave. So the law

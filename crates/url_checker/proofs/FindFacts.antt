@@ -30,7 +30,7 @@ on_err P (Ok a) p = tt
 on_err P (Err e) p = p
 
 -- what is told of a session, and then the words that are drawn
-told_of_find : (waits : WaitState) (session : TimedSession) (before between after : LineView) (drawn : List ℕ)
+pub told_of_find : (waits : WaitState) (session : TimedSession) (before between after : LineView) (drawn : List ℕ)
     → IsTold waits session before.told between.told → Draws drawn between after → Grows before.told after.told (trace_after waits session drawn)
 told_of_find waits session before between after drawn told draws = record {
   log = rw draws.log told.logged;
@@ -80,6 +80,13 @@ module _ (states : List (List ℕ)) (target : Target) (need : Bool) (now : Momen
   made_if request answered (Ok verdict) same held settled kept by failed stays = made request answered verdict same held settled kept by failed stays
   made_if request answered (Err refused) same held settled kept by failed stays = tt
 
+pub stops_after : (states : List (List ℕ)) (target : Target) (need : Bool) (now : Moment) (asked : List Hit) (waits : WaitState) (before after : Outside) (request : AskedHashes) (answered : Answered) → request ≡ find_asked states asked
+    → HasAsked waits now target (body_of request) need before after answered → StopsAsking waits now target (body_asked states asked) before after
+stops_after states target need now asked waits before after request answered same held =
+    let it : HasAsked waits now target (body_asked states asked) need before after answered =
+    subst (λ (text : AskedHashes). HasAsked waits now target (body_of text) need before after answered) same held in
+    inr (record { session = it.holds.session; is = it.holds.is; told = it.holds.told; reading = it.holds.reading })
+
 -- a session that was held, of which no more is said
 pub stopped_after : (states : List (List ℕ)) (target : Target) (need : Bool) (now : Moment) (asked : List Hit) (waits : WaitState) (before : Outside) (between after : LineView) (request : AskedHashes) (answered : Answered) (result : Result Verdict OutOfMemory) → request ≡ find_asked states asked
     → HasAsked waits now target (body_of request) need before between.told answered
@@ -87,10 +94,8 @@ pub stopped_after : (states : List (List ℕ)) (target : Target) (need : Bool) (
     → OnErr result (StopsAsking waits now target (body_asked states asked) before after.told)
 stopped_after states target need now asked waits before between after request answered (Ok verdict) same held untouched = tt
 stopped_after states target need now asked waits before between after request answered (Err refused) same held untouched =
-    let it : HasAsked waits now target (body_asked states asked) need before between.told answered =
-    subst (λ (text : AskedHashes). HasAsked waits now target (body_of text) need before between.told answered) same held in
     subst (λ (last : LineView). StopsAsking waits now target (body_asked states asked) before last.told) (sym untouched)
-    (inr (record { session = it.holds.session; is = it.holds.is; told = it.holds.told; reading = it.holds.reading }))
+    (stops_after states target need now asked waits before between.told request answered same held)
 
 pub stopped_for : (states : List (List ℕ)) (target : Target) (now : Moment) (asked : List Hit) (waits : WaitState) (before after : Outside) (request : AskedHashes) → request ≡ find_asked states asked
     → StopsAsking waits now target (body_of request) before after

@@ -7,3 +7,4 @@ pub mod ResolveFacts
 pub mod TypeFacts
 pub mod RunOfFindings
 pub mod SizeFacts
+mod SeveralFacts

@@ -4,3 +4,4 @@ pub mod Resolving
 pub mod Resolved
 pub mod Findings
 pub mod Looking
+pub mod Several

@@ -1,4 +1,4 @@
-ghost use Rattle.std.specs.Prelude.{◌≡◌, ◌≤◌, ◌==◌, length, map, filter, codes, IfOk};
+ghost use Rattle.std.specs.Prelude.{◌≡◌, ◌≤◌, ◌==◌, ◌++◌, length, map, filter, codes, IfOk, OnOk};
 ghost use Rattle.std.specs.List.{list_any};
 ghost use Rattle.sb_model.specs.Names.{threats, platforms, entries, threat_code, platform_code, entry_code};
 ghost use Rattle.hash_messages.specs.Messages.{most_prefixes};
@@ -72,19 +72,27 @@ fn entries_of(alloc: Global, hits: &[Hit]) -> Result<Row<EntryType>, OutOfMemory
     Ok(row)
 }
 
+/// Appends the prefixes of hits as they stand.
+pub(crate) fn push_prefixes(prefixes: &mut Row<Prefix>, hits: &[Hit]) -> Result<(), OutOfMemory>
+    ensures { OnOk result (prefixes.new ≡ prefixes.old ++ map (λ hit. hit.prefix) hits.now) }
+{
+    for hit in hits {
+        prefixes.push(hit.prefix)?;
+    }
+    Ok(())
+}
+
 // The prefixes of hits as they stand.
 fn prefixes_in(alloc: Global, hits: &[Hit]) -> Result<Row<Prefix>, OutOfMemory>
     ensures { IfOk result (λ prefixes. prefixes ≡ map (λ hit. hit.prefix) hits.now) }
 {
     let mut prefixes = Row::with_capacity(alloc, hits.len())?;
-    for hit in hits {
-        prefixes.push(hit.prefix)?;
-    }
+    push_prefixes(&mut prefixes, hits)?;
     Ok(prefixes)
 }
 
-// The members of a set.
-fn members_of(alloc: Global, set: &PrefixSet) -> Result<Row<Prefix>, OutOfMemory>
+/// The members of a set.
+pub(crate) fn set_members(alloc: Global, set: &PrefixSet) -> Result<Row<Prefix>, OutOfMemory>
     ensures { IfOk result (λ members. members ≡ set.now) }
 {
     let mut members = Row::with_capacity(alloc, set.len() as usize)?;
@@ -102,7 +110,7 @@ fn rising_prefixes(alloc: Global, hits: &[Hit]) -> Result<Row<Prefix>, OutOfMemo
     let Ok(set) = PrefixSet::from_prefixes(alloc, prefixes.as_slice()) else {
         return Err(OutOfMemory);
     };
-    members_of(alloc, &set)
+    set_members(alloc, &set)
 }
 
 // The states once more.

@@ -11,10 +11,10 @@ ghost use Rattle.url_checker.specs.Resolving.{verdict_from, lists_hit, bids_of, 
 ghost use Rattle.url_checker.specs.Looking.{unsafe_in, verdict_after, IsOpenFind, MakesFind, StopsAsking};
 ghost use Rattle.url_checker.specs.Resolved.{Resolves, StopsResolving};
 
-use crate::asking::{Answered, OpenFind, begin_for, hear};
+use crate::asking::{Answered, OpenFind, hear};
 use crate::looking::{Looked, Looks, look, unsafe_names};
 use crate::naming::lists_of;
-use crate::request::find_for;
+use crate::several::begin_find_for;
 use crate::{Finding, Hit};
 use client_line::Line;
 use full_hash_cache::FullHashCache;
@@ -26,8 +26,8 @@ use timed_sessions::settle;
 use verdict_report::{Cause, Verdict};
 use wait_rules::WaitState;
 
-// The verdict where these lists are unsafe, and hits are open for this cause.
-fn verdict_with(names: Row<ListName>, cause: Option<Cause>) -> Verdict
+/// The verdict where these lists are unsafe, and hits are open for this cause.
+pub(crate) fn verdict_with(names: Row<ListName>, cause: Option<Cause>) -> Verdict
     ensures { result ≡ verdict_from names cause }
 {
     if !names.is_empty() {
@@ -137,9 +137,15 @@ pub fn begin_find<N: Line>(
     // The line's objects are the same.
     ensures same { (N.view line.new).objects ≡ (N.view line.old).objects }
 {
-    let request = find_for(alloc, states, looks.asked.as_slice())?;
-    let opening = begin_for(alloc, waits, now, target, &request, line)?;
-    Ok(OpenFind { request, opening })
+    begin_find_for(
+        alloc,
+        now,
+        looks.asked.as_slice(),
+        states,
+        waits,
+        target,
+        line,
+    )
 }
 
 /// Ends a find that `begin_find` left open, and says what comes of the finding. In between nothing of the line may be used, and the

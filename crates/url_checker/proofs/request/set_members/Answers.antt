@@ -1,6 +1,6 @@
 use Rattle.std.proofs.Common.{◌<◌, length, arith}
 use Rattle.url_checker.proofs.TypeFacts.{taken_more}
-use Rattle.url_checker.proofs.request.members_of.Goals as goal
+use Rattle.url_checker.proofs.request.set_members.Goals as goal
 
 pub loop-place-preserved : goal.loop-place-preserved
 loop-place-preserved c =

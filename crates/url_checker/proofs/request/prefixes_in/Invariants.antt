@@ -1,6 +1,0 @@
-use Rattle.std.proofs.Common.{◌≡◌, map, take}
-use Rattle.url_checker.specs.declared.findings.Hit.{Hit}
-use Rattle.url_checker.proofs.request.prefixes_in.Given as goal
-
-abbrev pub invariant-loop-hit : goal.invariant-loop-hit
-invariant-loop-hit l = l.prefixes ≡ map (λ (hit : Hit). hit.prefix) (take l.hit-index l.hits)
