@@ -17,8 +17,8 @@ use Rattle.judge_beside.specs.declared.plan.BesidePlan.{BesidePlan}
 use Rattle.sb_client.specs.declared.command.Command.{Command}
 use Rattle.update_run.specs.declared.plan.Plan.{Plan}
 use Rattle.sb_client.specs.declared.command.Command.TheVariants.{Replay, Run, Judge, Show, Vectors, Tell}
-use Rattle.sb_client.proofs.OneLines.{server_line, key_line, no_key_line}
-use Rattle.sb_client.specs.Command.{replay_shape, run_shape, judge_shape, bare_shape, given_to, lists_given, server_given, rounds_given, key_of, key_given, options_given, number_or, patience_given, updates_given, workers_given, has_flag, Asking, asking_of, asking_given, target_of, run_with, run_given, RunWords, run_words, judge_with, judge_given, JudgeWords, judge_words, replay_of, run_of, judge_of, asks_show, asks_vectors, asked_text_of, MakesItsText, IsNoCommand, IsCommandOf, AreFew, AreWorkers, IsSound}
+use Rattle.client_words.specs.Asking.{given_to, lists_given, server_given, key_of, key_given, options_given, number_or, has_flag, Asking, asking_of, asking_given, target_of}
+use Rattle.sb_client.specs.Command.{replay_shape, run_shape, judge_shape, bare_shape, rounds_given, patience_given, updates_given, workers_given, run_with, run_given, RunWords, run_words, judge_with, judge_given, JudgeWords, judge_words, replay_of, run_of, judge_of, asks_show, asks_vectors, asked_text_of, MakesItsText, IsNoCommand, IsCommandOf, AreFew, AreWorkers, IsSound}
 use Rattle.sb_client.specs.declared.texts.TheConstants.{CHECK_USAGE, UPDATE_USAGE}
 use Rattle.sb_words.specs.About.{about_of, about_text, asked_by}
 use Rattle.sb_words.specs.declared.asking.About.{About}
@@ -74,43 +74,6 @@ given_by (Some given) names e = few_lists given.positionals names e
 
 few_replayed : (words : List (List ℕ)) (names : List ListName) → replay_of words ≡ Some names → AreFew names
 few_replayed words names e = given_by (given_to (codes "sbupdate") (codes "replay") replay_shape words) names e
-
--- the host that the words give, and the key, stand each in one line
-server_by : (text : Option (List ℕ)) (server : List ℕ) → option_and_then (λ text. option_map (λ _. text) (host_port_of text)) text ≡ Some server → IsOneLine (chars server)
-server_by None server e = absurd (cc)
-server_by (Some text) server e = by_address (host_port_of text) refl e
-  where
-    by_address : (address : Option (List ℕ × ℕ)) → host_port_of text ≡ address → option_map (λ _. text) address ≡ Some server → IsOneLine (chars server)
-    by_address None h k = absurd (cc)
-    by_address (Some address) h k = let same : text ≡ server = cc in subst (λ (text : List ℕ). IsOneLine (chars text)) same (server_line text address h)
-
-key_by : (text : Option (List ℕ)) (key : List ℕ) → key_of text ≡ Some key → IsOneLine (chars key)
-key_by None key e = let same : [] ≡ key = cc in subst (λ (text : List ℕ). IsOneLine (chars text)) same no_key_line
-key_by (Some text) key e = by_test (is_key text) refl e
-  where
-    by_test : (b : Bool) → is_key text ≡ b → cond b (Some text) None ≡ Some key → IsOneLine (chars key)
-    by_test true h k = let same : text ≡ key = cc in subst (λ (text : List ℕ). IsOneLine (chars text)) same (key_line text h)
-    by_test false h k = absurd (cc)
-
--- what is asked for has a host and a key that stand each in one line
-asking_by : (store : Option (List ℕ)) (server : Option (List ℕ)) (key : Option (List ℕ)) (options : Option FetchOptions) (need : Bool) (asking : Asking)
-    → ((found : List ℕ) → server ≡ Some found → IsOneLine (chars found)) → ((found : List ℕ) → key ≡ Some found → IsOneLine (chars found))
-    → option_and_then (λ store. option_and_then (λ server. option_and_then (λ key. option_map
-    (λ options. asking_of store server key options need) options) key) server) store ≡ Some asking
-    → IsTarget (target_of asking)
-asking_by None server key options need asking host mark e = absurd (cc)
-asking_by (Some store) None key options need asking host mark e = absurd (cc)
-asking_by (Some store) (Some server) None options need asking host mark e = absurd (cc)
-asking_by (Some store) (Some server) (Some key) None need asking host mark e = absurd (cc)
-asking_by (Some store) (Some server) (Some key) (Some options) need asking host mark e =
-    let is : asking_of store server key options need ≡ asking = cc in
-    let target : IsTarget (target_of (asking_of store server key options need)) = record { host = host server refl; key = mark key refl } in
-    subst (λ (a : Asking). IsTarget (target_of a)) is target
-
-sound_asking : (named : List (List ℕ × List ℕ)) (asking : Asking) → asking_given named ≡ Some asking → IsTarget (target_of asking)
-sound_asking named asking e =
-    asking_by (value_among (codes "store") named) (server_given named) (key_given named) (options_given named) (not (has_flag (codes "no-digest") named)) asking
-    (λ found h. server_by (value_among (codes "server") named) found h) (λ found h. key_by (value_among (codes "key") named) found h) e
 
 -- a plan has the lists that its words name, and asks with the host and the key that they give
 run_by : (asking : Option Asking) (rounds : Option ℕ) (names : List ListName) (line : RunWords) → ((found : Asking) → asking ≡ Some found → IsTarget (target_of found))
@@ -190,16 +153,20 @@ module _ {Line : Type 0} (lists : Line → List ListName) (whom : Line → Targe
   line_by None line e = absurd (cc)
   line_by (Some given) line e = named_by given.named (lists_given given) line (few_lists given.positionals) e
 
-sound_run : (words : List (List ℕ)) (line : RunWords) → run_of words ≡ Some line → AreFew line.plan.names × IsTarget line.plan.target
-sound_run words line e =
+-- what is asked for has a host and a key that stand each in one line
+abbrev pub SoundTargets : Type 0
+SoundTargets = (named : List (List ℕ × List ℕ)) (asking : Asking) → asking_given named ≡ Some asking → IsTarget (target_of asking)
+
+sound_run : SoundTargets → (words : List (List ℕ)) (line : RunWords) → run_of words ≡ Some line → AreFew line.plan.names × IsTarget line.plan.target
+sound_run law words line e =
     line_by (λ (line : RunWords). line.plan.names) (λ (line : RunWords). line.plan.target) run_with
-    (λ names named line h. run_by (asking_given named) (rounds_given named) names line (sound_asking named) h)
+    (λ names named line h. run_by (asking_given named) (rounds_given named) names line (law named) h)
     (given_to (codes "sbupdate") (codes "run") run_shape words) line e
 
-sound_judge : (words : List (List ℕ)) (line : JudgeWords) → judge_of words ≡ Some line → AreFew line.plan.names × IsTarget line.plan.target × AreWorkers line.plan.workers
-sound_judge words line e =
+sound_judge : SoundTargets → (words : List (List ℕ)) (line : JudgeWords) → judge_of words ≡ Some line → AreFew line.plan.names × IsTarget line.plan.target × AreWorkers line.plan.workers
+sound_judge law words line e =
     let both = line_by (λ (line : JudgeWords). line.plan.names) (λ (line : JudgeWords). line.plan.target) judge_with
-    (λ names named line h. judge_by (asking_given named) (updates_given named) (workers_given named) (patience_given named) names line (sound_asking named) h)
+    (λ names named line h. judge_by (asking_given named) (updates_given named) (workers_given named) (patience_given named) names line (law named) h)
     (given_to (codes "sbcheck") (codes "judge") judge_shape words) line e in
     (both.0, both.1, workers_of (given_to (codes "sbcheck") (codes "judge") judge_shape words) line e)
 
@@ -217,17 +184,17 @@ pub is_found : (words : List (List ℕ)) (found : Option Command) (command : Com
 is_found words found command e h = subst (IsCommandOf words) e h
 
 -- a command keeps to what commands keep to
-pub is_sound : (words : List (List ℕ)) (command : Command) → IsCommandOf words (Some command) → IsSound command
-is_sound words (Replay names) e = few_replayed words names e
-is_sound words (Run plan) e =
+pub is_sound : SoundTargets → (words : List (List ℕ)) (command : Command) → IsCommandOf words (Some command) → IsSound command
+is_sound law words (Replay names) e = few_replayed words names e
+is_sound law words (Run plan) e =
     let line = planned (run_of words) plan e in
-    subst (λ (plan : Plan). AreFew plan.names × IsTarget plan.target) line.2 (sound_run words line.0 line.1)
-is_sound words (Judge plan) e =
+    subst (λ (plan : Plan). AreFew plan.names × IsTarget plan.target) line.2 (sound_run law words line.0 line.1)
+is_sound law words (Judge plan) e =
     let line = judge_planned (judge_of words) plan e in
-    subst (λ (plan : BesidePlan). AreFew plan.names × IsTarget plan.target × AreWorkers plan.workers) line.2 (sound_judge words line.0 line.1)
-is_sound words Show e = tt
-is_sound words Vectors e = tt
-is_sound words (Tell text) e = tt
+    subst (λ (plan : BesidePlan). AreFew plan.names × IsTarget plan.target × AreWorkers plan.workers) line.2 (sound_judge law words line.0 line.1)
+is_sound law words Show e = tt
+is_sound law words Vectors e = tt
+is_sound law words (Tell text) e = tt
 
 -- ---- a word is no other
 

@@ -1,8 +1,6 @@
 pub mod Commands
 pub mod Endings
 pub mod Judgings
-pub mod OneLines
-pub mod RunOptions
 pub mod Runs
 pub mod Served
 pub mod Shows

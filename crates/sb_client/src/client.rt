@@ -39,6 +39,7 @@ use client_laws::{
     judged_urls_are_decided, judgings_save_replicas, runs_hold, runs_of_verdicts_hold,
 };
 use client_line::{LentLine, Line};
+use client_words::asked_targets_are_sound;
 use input_lines::{Stop, fronts_are_within};
 use judge_run::cases_keep_to_waits;
 use sb_model::{ListName, OutOfMemory};
@@ -457,6 +458,7 @@ pub fn run_client<
     cases_keep_to_waits();
     rounds_keep_to_waits();
     judged_urls_are_decided();
+    asked_targets_are_sound();
     match command_of(alloc, words) {
         Ok(Some(command)) => run_lent(
             rt, alloc, command, input, out, keep, link, clock, dice, gate,

@@ -1,10 +1,11 @@
 ghost use Rattle.std.specs.Prelude.{◌≡◌, ℕ, List, Some, None, if◌then◌else◌, map, string_bytes, is_some, option_map, option_and_then, IfOk};
 ghost use Rattle.sb_words.specs.CommandLine.{given_of};
-ghost use Rattle.sb_client.specs.Command.{asking_of, bare_shape, judge_given, judge_shape, lists_given, replay_shape, rounds_given, run_given, run_of, run_shape, run_with, run_words, asked_text_of, IsCommandOf, JudgeWords, RunWords};
+ghost use Rattle.client_words.specs.Asking.{asking_of, lists_given};
+ghost use Rattle.sb_client.specs.Command.{bare_shape, judge_given, judge_shape, replay_shape, rounds_given, run_given, run_of, run_shape, run_with, run_words, asked_text_of, IsCommandOf, JudgeWords, RunWords};
 
 use crate::judge_words::judge_plan;
-use crate::options::{Asking, are_words, asking_in, target_of};
 use crate::telling::told;
+use client_words::{Asking, are_words, asking_in, target_of};
 use judge_beside::BesidePlan;
 use sb_model::{Bytes, ListName, OutOfMemory, Row};
 use sb_words::{OptionKind, OptionShape, Shape, Words, lists, number, read_words};

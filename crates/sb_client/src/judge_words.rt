@@ -1,8 +1,9 @@
 ghost use Rattle.std.specs.Prelude.{◌≡◌, ◌*◌, ◌≤◌, ℕ, List, Some, None, map, string_bytes, is_some, option_map, option_and_then, IfOk, IfSome};
 ghost use Rattle.sb_words.specs.CommandLine.{given_of};
-ghost use Rattle.sb_client.specs.Command.{asking_of, judge_given, judge_of, judge_shape, judge_with, judge_words, patience_given, updates_given, workers_given, JudgeWords};
+ghost use Rattle.client_words.specs.Asking.{asking_of};
+ghost use Rattle.sb_client.specs.Command.{judge_given, judge_of, judge_shape, judge_with, judge_words, patience_given, updates_given, workers_given, JudgeWords};
 
-use crate::options::{Asking, are_words, asking_in, number_in, target_of};
+use client_words::{Asking, are_words, asking_in, number_in, target_of};
 use judge_beside::BesidePlan;
 use sb_model::{ListName, OutOfMemory, Row};
 use sb_words::{OptionKind, OptionShape, Shape, Words, lists, read_words};

@@ -14,7 +14,6 @@ mod command;
 mod judge_words;
 mod judged;
 mod objects;
-mod options;
 mod show;
 mod targeting;
 mod telling;

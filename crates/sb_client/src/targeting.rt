@@ -5,7 +5,7 @@ ghost use Rattle.sb_client.specs.Command.{replaces_store, server_of, store_of};
 use crate::command::run_line;
 use crate::judge_words::judge_line;
 use crate::objects::Targets;
-use crate::options::Asking;
+use client_words::Asking;
 use sb_model::{OutOfMemory, Text};
 use std::alloc::Global;
 

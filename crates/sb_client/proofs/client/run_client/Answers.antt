@@ -7,7 +7,7 @@ use Rattle.sb_client.proofs.Served.{run_answered, run_complete, run_versions}
 use Rattle.sb_client.proofs.client.run_client.Goals as goal
 
 pub run_lent-requires-clause-sound : goal.run_lent-requires-clause-sound
-run_lent-requires-clause-sound g c _ _ = is_sound (map string_bytes c.args.words.now) c.in-Ok-Some.command (is_found _ _ _ c.in-Ok-Some.field-0-is c.in-Ok-Some.ensures)
+run_lent-requires-clause-sound g c _ _ = is_sound c.asked_targets_are_sound.ensures (map string_bytes c.args.words.now) c.in-Ok-Some.command (is_found _ _ _ c.in-Ok-Some.field-0-is c.in-Ok-Some.ensures)
 
 -- ---- the statuses
 

@@ -1,6 +1,6 @@
 use Rattle.std.proofs.Common.{sym}
-use Rattle.sb_client.proofs.RunOptions.{options_made}
-use Rattle.sb_client.proofs.options.options_in.Goals as goal
+use Rattle.client_words.proofs.AskedOptions.{options_made}
+use Rattle.client_words.proofs.options.options_in.Goals as goal
 
 pub returns : goal.returns
 returns c =

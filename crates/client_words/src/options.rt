@@ -1,6 +1,6 @@
 ghost use Rattle.std.specs.Prelude.{◌≡◌, ◌&&◌, ◌≤◌, ℕ, Some, option_map, string_bytes, IfOk, IfSome};
 ghost use Rattle.std.specs.Str.{bytes_eq};
-ghost use Rattle.sb_client.specs.Command.{asking_given, asking_of, key_given as key_of_words, limit_given, number_given, options_given, server_given, target_of as target_asked};
+ghost use Rattle.client_words.specs.Asking.{asking_given, asking_of, key_given as key_of_words, limit_given, number_given, options_given, server_given, target_of as target_asked};
 
 use http_edge::Target;
 use sb_model::{OutOfMemory, Text};
@@ -13,7 +13,7 @@ const MOST_ENTRIES: u64 = 2_147_483_647;
 
 /// What the words say of the store and of the server, and what is asked for.
 #[derive(Clone, Copy, Debug)]
-pub(crate) struct Asking<'a> {
+pub struct Asking<'a> {
     /// The path of the store.
     pub store: &'a str,
     /// The address of the server.
@@ -25,7 +25,7 @@ pub(crate) struct Asking<'a> {
 }
 
 /// Whether the first two words are these.
-pub(crate) fn are_words(program: &String, command: &String, first: &str, second: &str) -> bool
+pub fn are_words(program: &String, command: &String, first: &str, second: &str) -> bool
     ensures { result ≡ (bytes_eq (string_bytes program.now) first.now && bytes_eq (string_bytes command.now) second.now) }
 {
     program.as_str() == first && command.as_str() == second
@@ -56,13 +56,7 @@ fn key_in<'a>(given: &Words<'a>) -> Option<&'a str>
 }
 
 /// The number that the words give an option, in its range, or its default.
-pub(crate) fn number_in(
-    given: &Words<'_>,
-    name: &str,
-    low: u64,
-    high: u64,
-    default: u64,
-) -> Option<u64>
+pub fn number_in(given: &Words<'_>, name: &str, low: u64, high: u64, default: u64) -> Option<u64>
     requires { default ≤ high }
     ensures number { result ≡ number_given name.now low high default given.now.named }
     ensures small { IfSome result (λ number. number ≤ high) }
@@ -99,7 +93,7 @@ fn options_in(given: &Words<'_>) -> Option<FetchOptions>
 }
 
 /// What the words say of the store and of the server, and what they ask for.
-pub(crate) fn asking_in<'a>(given: &Words<'a>) -> Option<Asking<'a>>
+pub fn asking_in<'a>(given: &Words<'a>) -> Option<Asking<'a>>
     ensures { option_map (λ asking. asking_of asking.store.now asking.server.now asking.key.now asking.options asking.need_digest) result
         ≡ asking_given given.now.named }
 {
@@ -117,7 +111,7 @@ pub(crate) fn asking_in<'a>(given: &Words<'a>) -> Option<Asking<'a>>
 }
 
 /// Whom the client asks.
-pub(crate) fn target_of(alloc: Global, asking: &Asking<'_>) -> Result<Target, OutOfMemory>
+pub fn target_of(alloc: Global, asking: &Asking<'_>) -> Result<Target, OutOfMemory>
     ensures { IfOk result (λ target. target
         ≡ target_asked (asking_of asking.now.store.now asking.now.server.now asking.now.key.now asking.now.options asking.now.need_digest)) }
 {

@@ -1,9 +1,9 @@
--- What the words of a run ask for beside its lists.
+-- What words ask for beside the lists.
 use Rattle.std.proofs.Common.{◌≡◌, ℕ, ◌≤◌, List, Bool, true, false, refl, sym, Option, Some, codes, le-leb}
 use Rattle.std.specs.Prelude.{nat_le, option_and_then}
 use Rattle.std.specs.Coded.{le_prop}
 use Rattle.update_client.specs.declared.options.FetchOptions.{FetchOptions}
-use Rattle.sb_client.specs.Command.{options_by, options_of, options_given, limit_given, has_flag}
+use Rattle.client_words.specs.Asking.{options_by, options_of, options_given, limit_given, has_flag}
 
 -- the bounds of limits have one proof
 same_options : (options : FetchOptions) (small : options.max_update ≤ 2147483647) (few : options.max_database ≤ 2147483647)

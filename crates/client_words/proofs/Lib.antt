@@ -1,0 +1,3 @@
+pub mod OneLines
+pub mod AskedOptions
+pub mod Targets
