@@ -6,7 +6,7 @@ use crate::words::numbers_of;
 use sb_model::Row;
 
 /// The names of all fields.
-const FIELDS: [&[u8]; 30] = [
+const FIELDS: [&[u8]; 32] = [
     b"text",
     b"client",
     b"server",
@@ -21,6 +21,8 @@ const FIELDS: [&[u8]; 30] = [
     b"session",
     b"serve",
     b"session-fails",
+    b"session-asks",
+    b"session-line",
     b"connection",
     b"read-fails",
     b"write-fails",

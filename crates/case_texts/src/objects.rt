@@ -330,8 +330,24 @@ fn wire_of(
     Ok(wire.with_step(place.step.max(1)))
 }
 
-/// The calls that the field of this name lets fail that stands after a line of a list, before the next field of another name
-/// than those of failing calls.
+/// The number that the field of this name says that stands after a line of a list, before the next session or connection, or this
+/// one where none says it.
+pub fn number_after(
+    reader: &mut Reader,
+    place: &Place<'_>,
+    lines: &[usize],
+    at: usize,
+    name: &[u8],
+    default: u64,
+) -> u64 {
+    let line = line_after(place, lines, at, name);
+    match numbers(reader, &place.book.sheet, line).as_slice().first() {
+        Some(number) => *number,
+        None => default,
+    }
+}
+
+/// The calls that the field of this name lets fail that stands after a line of a list, before the next session or connection.
 pub fn calls_after(
     reader: &mut Reader,
     place: &Place<'_>,
@@ -357,11 +373,16 @@ fn line_after(place: &Place<'_>, lines: &[usize], at: usize, name: &[u8]) -> Opt
         if word == name {
             return Some(*line);
         }
-        if !word.ends_with(b"-fails") {
+        if !is_of_the_line_above(word) {
             return None;
         }
     }
     None
+}
+
+/// Whether a field says something of the session or of the connection above.
+fn is_of_the_line_above(word: &[u8]) -> bool {
+    word.ends_with(b"-fails") || word.starts_with(b"session-")
 }
 
 /// What stands after a place of a list.

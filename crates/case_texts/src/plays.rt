@@ -1,7 +1,7 @@
 //! The sessions of a link.
 use crate::book::Reader;
 use crate::fields::is_each;
-use crate::objects::{Place, append_text, calls_after, is_each_after, line_at};
+use crate::objects::{Place, append_text, calls_after, is_each_after, line_at, number_after};
 use crate::sheet::{rest_of, word_of};
 use crate::words::{found_in, number_of, size_of_number};
 use sb_model::{Bytes, Row};
@@ -44,6 +44,8 @@ pub struct Coming {
     pub failing: Row<u64>,
     /// Whether these are each in turn.
     pub has_each: bool,
+    /// After how many asks it is answered.
+    pub asks: u64,
     /// What the server's journal gains before it.
     pub gains: Bytes,
 }
@@ -83,9 +85,10 @@ fn is_serve(line: &[u8]) -> bool {
     word_of(line) == b"serve".as_slice()
 }
 
-/// Sessions, and what the journal gains before the next one.
+/// The sessions of a line, and what the journal gains before the next one.
 #[derive(Drop)]
 struct Gathered {
+    line: u64,
     coming: Row<Coming>,
     gains: Bytes,
 }
@@ -97,9 +100,14 @@ impl Gathered {
         let word = word_of(place.book.sheet.line(line));
         if word == b"append".as_slice() {
             append_text(reader, place, &mut self.gains, line);
-        } else if word != b"session-fails".as_slice() {
+        } else if is_session(word) && self.has(reader, place, lines, at) {
             self.push(reader, place, lines, at);
         }
+    }
+
+    /// Whether the session of a line of a list is one of these.
+    fn has(&self, reader: &mut Reader, place: &Place<'_>, lines: &[usize], at: usize) -> bool {
+        number_after(reader, place, lines, at, b"session-line", 1) == self.line
     }
 
     /// Appends the session of a line of a list.
@@ -107,11 +115,13 @@ impl Gathered {
         let play = play_of(reader, place, line_at(lines, at));
         let failing = calls_after(reader, place, lines, at, b"session-fails");
         let has_each = is_each_after(place, lines, at, b"session-fails");
+        let asks = number_after(reader, place, lines, at, b"session-asks", 0);
         let gains = mem::replace(&mut self.gains, Bytes::new(reader.alloc));
         let done = self.coming.push(Coming {
             play,
             failing,
             has_each,
+            asks,
             gains,
         });
         reader.faults.note(done);
@@ -123,13 +133,30 @@ impl Gathered {
     }
 }
 
-/// The sessions, each with its failing calls and with what the journal gains before it.
-pub fn sessions(reader: &mut Reader, place: &Place<'_>) -> Row<Coming> {
+/// The names of what is said of sessions.
+const OF_SESSIONS: [&[u8]; 6] = [
+    b"session",
+    b"serve",
+    b"append",
+    b"session-fails",
+    b"session-asks",
+    b"session-line",
+];
+
+/// Whether a word begins a session.
+fn is_session(word: &[u8]) -> bool {
+    word == b"session".as_slice() || word == b"serve".as_slice()
+}
+
+/// The sessions of the line with this number, counted from 1, each with its failing calls and with what the journal gains before it.
+/// A line's server gains what stands before its next session, also where it stands before one of another line.
+pub fn sessions(reader: &mut Reader, place: &Place<'_>, line: u64) -> Row<Coming> {
     let mut gathered = Gathered {
+        line,
         coming: Row::new(reader.alloc),
         gains: Bytes::new(reader.alloc),
     };
-    let lines = place.fields(reader, &[b"session", b"serve", b"append", b"session-fails"]);
+    let lines = place.fields(reader, &OF_SESSIONS);
     for at in 0..lines.len() {
         gathered.take(reader, place, lines.as_slice(), at);
     }

@@ -1,3 +1,5 @@
+ghost use Rattle.std.specs.Prelude.{◌≡◌, ◌/◌};
+
 /// How many connections a door keeps open, and how long and how much each may take. Times are in milliseconds of the door's
 /// clock, on which each stretch between two looks at it counts, up to a second of it.
 #[derive(Clone, Copy, Debug, PartialEq, Eq, Hash)]
@@ -42,6 +44,16 @@ impl DoorLimits {
         answer_bytes: 536_870_912,
         finish: 10_000,
     };
+}
+
+impl DoorLimits {
+    /// How many connections whoever takes them may put off at most, beside the one that he works at: a quarter of those that are
+    /// open at most. One that is handed out has no deadline and never gives way, so the others need room.
+    pub fn most_put_off(&self) -> usize
+        ensures { result ≡ self.now.connections / 4 }
+    {
+        self.connections / 4
+    }
 }
 
 impl Default for DoorLimits {

@@ -6,6 +6,7 @@ ghost use Rattle.gathering_door.specs.Doors.{taken_after};
 
 use crate::open::OpenDoor;
 use crate::{DoorFault, Teller};
+use door_bell::Bell;
 use gathering::{DoorLimits, GatheredWire};
 use sb_model::Moment;
 use sb_outside::{Arrival, Door, Failed};
@@ -86,6 +87,19 @@ impl<R: Drop, T: Drop> GatheringDoor<R, T> {
     /// given as 0 is the one that the system chose.
     pub fn local_addr(&self) -> Option<SocketAddr> {
         self.open.as_ref()?.local_addr()
+    }
+
+    /// The bell of this door, which any thread may ring. `next_before` then comes back as if its moment had come: within its
+    /// wait, or at once if it is called later. A connection whose turn it is goes first, and then the ring counts for the next
+    /// call. `next` is not ended by it.
+    pub fn bell(&mut self, alloc: Global) -> Result<Bell, DoorFault>
+        ensures unusable { self.old.is_usable ≡ false → IsErr result }
+        ensures same { self.new ≡ self.old }
+    {
+        match &mut self.open {
+            Some(open) if self.is_usable => open.bell(alloc),
+            _ => Err(DoorFault::refusal("has no bell")),
+        }
     }
 
     /// How many calls failed.
@@ -187,7 +201,7 @@ impl<R: time::Clock + Drop, T: Teller + Drop> Door for GatheringDoor<R, T> {
         }
     }
 
-    /// Its clock is the system's; where that cannot be read, the call fails.
+    /// Its clock is the system's; where that cannot be read, the call fails. A ring of the bell counts as the moment.
     #[tactic(auto, using(crate::proofs::Untold::takes_first))]
     fn next_before(&mut self, moment: Moment) -> Result<Arrival<GatheredWire>, Failed>
         ensures some { result ≢ Ok Arrival.NoMore }

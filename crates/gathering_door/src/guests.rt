@@ -32,7 +32,6 @@ pub(crate) struct Guest {
     pub(crate) address: Address,
     pub(crate) phase: Phase,
     // since when it has its turn, in nanoseconds of all the time that passed
-    pub(crate) turn_began: u64,
     // what its peer has sent so far, while its request is gathered, and until it is handed out
     pub(crate) gathered: Option<Gathered>,
     // how many of these bytes count among all that are gathered
@@ -114,7 +113,6 @@ impl Guest {
             stream,
             serial,
             address,
-            turn_began: 0,
             phase: Phase::Gathering { since: now },
             gathered: Some(gathered),
             held: 0,

@@ -5,7 +5,6 @@ ghost use Rattle.gathering_door.specs.Houses.{Answers as AnswersIn, HandsOut, Is
 ghost use Rattle.slab.specs.Slab.{get, Updates};
 
 use crate::answers::Answers;
-use crate::door_time::begun_millis;
 use crate::guests::{Guest, is_held};
 use crate::line::Line;
 use crate::losses::Untold;
@@ -50,20 +49,13 @@ fn keep_piece(guest: &mut Guest, buffer: &[u8], count: u64) -> Result<bool, OutO
 }
 
 /// What a connection has gathered, in its turn, as a wire of this number.
-fn turn_of(
-    alloc: Global,
-    guest: &mut Guest,
-    slot: usize,
-    number: u64,
-    passed: u64,
-) -> Option<GatheredWire>
+fn turn_of(alloc: Global, guest: &mut Guest, slot: usize, number: u64) -> Option<GatheredWire>
     ensures fresh { IfSome result (λ wire. IsFreshWire number wire) }
     ensures turn { IfSome result HasItsTurn }
     ensures slot { IfSome result (λ wire. wire.slot ≡ slot) }
     ensures stands { IfSome result (λ wire. StandsFor wire guest.old) }
-    ensures took { guest.new ≡ record guest.old { turn_began = passed; gathered = None } }
+    ensures took { guest.new ≡ record guest.old { gathered = None } }
 {
-    guest.turn_began = passed;
     let gathered = guest.gathered.take()?;
     let (serial, has_ended, ending) = (guest.serial, guest.has_ended, guest.ending);
     GatheredWire::in_turn(alloc, number, slot, serial, gathered, has_ended, ending)
@@ -79,7 +71,7 @@ pub(crate) struct House {
     // those whose sockets may have something, in order
     ready: VecDeque<usize>,
     // those that wait for their turn, and how many wait for it or have it
-    line: Line,
+    pub(crate) line: Line,
     held: usize,
     // how many connections of each address are open, and how many may be in all
     crowd: Crowd,
@@ -563,7 +555,7 @@ impl House {
     }
 
     /// A connection in its turn, as a wire of this number.
-    fn wire_of(&mut self, one: &InLine, number: u64, passed: u64) -> Option<GatheredWire>
+    fn wire_of(&mut self, one: &InLine, number: u64) -> Option<GatheredWire>
         ensures fresh { IfSome result (λ wire. IsFreshWire number wire) }
         ensures turn { IfSome result HasItsTurn }
         ensures stands { IfSome result (λ wire. HandsOut self.old.guests wire) }
@@ -572,13 +564,14 @@ impl House {
     {
         self.move_to(one.slot, Phase::InTurn);
         let guest = self.guests.get_mut(one.slot)?;
-        turn_of(self.alloc, guest, one.slot, number, passed)
+        self.line.begin_turn(guest.serial, guest.address);
+        turn_of(self.alloc, guest, one.slot, number)
     }
 
     /// The next connection whose turn it is, as a wire of this number. Those that have failed, or waited for too long, are
-    /// closed. The moment is that of the door's clock, and so much time passed in all.
+    /// closed. The moment is that of the door's clock.
     #[tactic(auto, using(crate::proofs::Rounds::nothing_closed, crate::proofs::Rounds::closes_more, crate::proofs::Rounds::out_before))]
-    pub(crate) fn hand_out(&mut self, number: u64, now: u64, passed: u64) -> Option<GatheredWire>
+    pub(crate) fn hand_out(&mut self, number: u64, now: u64) -> Option<GatheredWire>
         ensures fresh { IfSome result (λ wire. IsFreshWire number wire) }
         ensures turn { IfSome result HasItsTurn }
         ensures stands { IfSome result (λ wire. HandsOut self.old.guests wire) }
@@ -587,7 +580,7 @@ impl House {
         'line: for _ in 0..self.line.len() {
             let one = self.line.next()?;
             if self.is_to_have_turn(&one, now)
-                && let Some(wire) = self.wire_of(&one, number, passed)
+                && let Some(wire) = self.wire_of(&one, number)
             {
                 return Some(wire);
             }
@@ -619,10 +612,9 @@ impl House {
         let Some(guest) = self.guests.get_mut(slot) else {
             return;
         };
-        let took = passed.saturating_sub(guest.turn_began);
-        let (address, held) = (guest.address, guest.held);
+        let (serial, address, held) = (guest.serial, guest.address, guest.held);
         guest.held = 0;
-        self.line.took(address, begun_millis(took));
+        self.line.end_turn(serial, address, passed);
         self.gathered = self.gathered.saturating_sub(held);
     }
 

@@ -1,3 +1,4 @@
+use crate::door_time::begun_millis;
 use gathering::{Address, InLine, Shares, first_turn};
 use sb_model::OutOfMemory;
 use std::alloc::Global;
@@ -5,11 +6,23 @@ use std::alloc::Global;
 /// How many milliseconds a minute has.
 const MINUTE: u64 = 60_000;
 
-/// Those that wait for their turn, and what the answers of each address took.
+/// A connection that has its turn, and was handed out last.
+#[derive(Clone, Copy, Debug)]
+struct Running {
+    serial: u64,
+    address: Address,
+}
+
+/// Those that wait for their turn, and what the answers of each address took: what the door's caller spent on them, and not how long
+/// he put them off.
 #[derive(Drop)]
 pub(crate) struct Line {
     waiting: Vec<InLine>,
     shares: Shares,
+    // whoever was handed out last, if his turn is not over and he was not put off
+    running: Option<Running>,
+    // what passed in all, in nanoseconds, when the caller began with what he does now
+    since: u64,
     // until when the shares are halved
     halved: u64,
 }
@@ -19,6 +32,8 @@ impl Line {
         Line {
             waiting: Vec::new(alloc),
             shares: Shares::new(alloc),
+            running: None,
+            since: 0,
             halved: 0,
         }
     }
@@ -71,9 +86,38 @@ impl Line {
         }
     }
 
-    /// An answer of an address took so long. Where memory is refused, that is forgotten.
-    pub(crate) fn took(&mut self, address: Address, millis: u64) {
-        let _ = self.shares.add(address, millis);
+    /// What the caller did until so much time had passed in all was for this address. Where memory is refused, that is forgotten.
+    fn took(&mut self, address: Address, passed: u64) {
+        let took = passed.saturating_sub(self.since);
+        let _ = self.shares.add(address, begun_millis(took));
+        self.since = passed;
+    }
+
+    /// The turn of a connection begins.
+    pub(crate) fn begin_turn(&mut self, serial: u64, address: Address) {
+        self.running = Some(Running { serial, address });
+    }
+
+    /// The turn of a connection is over, at once or once it was put off.
+    pub(crate) fn end_turn(&mut self, serial: u64, address: Address, passed: u64) {
+        self.took(address, passed);
+        if let Some(running) = self.running
+            && running.serial == serial
+        {
+            self.running = None;
+        }
+    }
+
+    /// The caller comes back to the door. If the turn of whoever was handed out last is not over, he is put off.
+    pub(crate) fn put_off(&mut self, passed: u64) {
+        if let Some(running) = self.running.take() {
+            self.took(running.address, passed);
+        }
+    }
+
+    /// The caller goes from the door.
+    pub(crate) fn go_on(&mut self, passed: u64) {
+        self.since = passed;
     }
 
     /// The shares are halved with each whole minute.

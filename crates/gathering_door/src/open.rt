@@ -4,8 +4,9 @@ ghost use Rattle.gathering_door.specs.Houses.{IsOut, TakesBack};
 
 use crate::door_time::{DoorTime, system_millis};
 use crate::house::House;
-use crate::port::{PORT, Port};
+use crate::port::{BELL, PORT, Port};
 use crate::{DoorFault, Teller};
+use door_bell::Bell;
 use gathering::{AcceptFault, DoorLimits, GatheredWire, accept_fault, address_of};
 use mio::{Events, Poll};
 use sb_model::Moment;
@@ -32,6 +33,8 @@ const LONGEST_WAIT: u64 = 1_000;
 #[derive(Drop)]
 pub(crate) struct OpenDoor {
     port: Port,
+    // once somebody asked for one
+    bell: Option<Bell>,
     house: House,
     time: DoorTime,
     // how long its end takes at most
@@ -61,7 +64,7 @@ fn wait_for_events(
         let token = event.token();
         if token == PORT {
             at_port = true;
-        } else {
+        } else if token != BELL {
             house.mark(token.0.saturating_sub(1), event);
         }
     }
@@ -130,6 +133,7 @@ impl OpenDoor {
         };
         Ok(OpenDoor {
             port,
+            bell: None,
             house,
             time: DoorTime::new(),
             finish: limits.finish,
@@ -142,6 +146,55 @@ impl OpenDoor {
 
     pub(crate) fn local_addr(&self) -> Option<SocketAddr> {
         self.port.local_addr()
+    }
+
+    /// Hangs a bell at the door, where there is none.
+    fn hang_bell(&mut self, alloc: Global) -> io::Result<()> {
+        if self.bell.is_none() {
+            self.bell = Some(Bell::new(alloc, self.port.poll.registry(), BELL)?);
+        }
+        Ok(())
+    }
+
+    /// The bell of the door, for another owner.
+    pub(crate) fn bell(&mut self, alloc: Global) -> Result<Bell, DoorFault> {
+        if let Err(e) = self.hang_bell(alloc) {
+            return Err(DoorFault::system("cannot have a bell", e));
+        }
+        match &self.bell {
+            Some(bell) => match bell.again() {
+                Ok(bell) => Ok(bell),
+                Err(_) => Err(DoorFault::refusal("cannot have a bell: out of memory")),
+            },
+            None => Err(DoorFault::refusal("has no bell")),
+        }
+    }
+
+    /// Whether the bell was rung, and nobody came back for it yet.
+    fn is_rung(&self) -> bool {
+        match &self.bell {
+            Some(bell) => bell.is_rung(),
+            None => false,
+        }
+    }
+
+    /// Who waits comes back for each ring so far.
+    fn hear_bell(&self) {
+        if let Some(bell) = &self.bell {
+            bell.hear();
+        }
+    }
+
+    /// How long it is until a moment, where there is one: not at all once the bell was rung.
+    fn left(
+        &self,
+        rt: &impl time::Clock,
+        moment: Option<Moment>,
+    ) -> Result<Option<u64>, DoorFault> {
+        if moment.is_some() && self.is_rung() {
+            return Ok(Some(0));
+        }
+        left_until(rt, moment)
     }
 
     /// Notes that the system has no room for a connection, where that came first.
@@ -265,8 +318,9 @@ impl OpenDoor {
         Ok(())
     }
 
-    /// The next connection whose turn it is, as a wire of this number, or `None` where the moment came first. The teller hears
-    /// in that turn that the system had no room for a connection, where that came first.
+    /// The next connection whose turn it is, as a wire of this number, or `None` where the moment came first, or a ring of the
+    /// bell. Without a moment no ring ends it. The teller hears in that turn that the system had no room for a connection, where
+    /// that came first.
     pub(crate) fn wait_for_one<T: Teller>(
         &mut self,
         rt: &impl time::Clock,
@@ -278,17 +332,21 @@ impl OpenDoor {
         ensures turn { IfOk result (λ next. IfSome next HasItsTurn) }
         ensures out { IfOk result (λ next. IfSome next (λ wire. IsOut self.new.house.guests wire)) }
     {
+        self.time.look(rt);
+        self.house.line.put_off(self.time.passed());
         for _ in 0..u64::MAX {
-            let left = left_until(rt, moment)?;
+            let left = self.left(rt, moment)?;
             self.turn(rt, left)?;
             self.tell(teller);
             self.time.look(rt);
             let (now, passed) = (self.time.now(), self.time.passed());
             self.house.untold.tell(passed, teller);
-            if let Some(wire) = self.house.hand_out(number, now, passed) {
+            self.house.line.go_on(passed);
+            if let Some(wire) = self.house.hand_out(number, now) {
                 return Ok(Some(wire));
             }
             if left == Some(0) {
+                self.hear_bell();
                 return Ok(None);
             }
         }

@@ -7,6 +7,9 @@ use std::net::{Net, SocketAddr, ToSocketAddrs};
 /// The token of the port. Those of connections are their slots and one more.
 pub(crate) const PORT: Token = Token(0);
 
+/// The token of the door's bell, which no slot comes to.
+pub(crate) const BELL: Token = Token(usize::MAX);
+
 /// How many events one wait reports at most.
 const EVENTS: usize = 256;
 

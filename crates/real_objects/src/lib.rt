@@ -10,7 +10,8 @@ pub use link_teller::{LinkTeller, Nobody};
 pub use standard::{StdSink, StdSource};
 pub use system_clock::SystemClock;
 pub use system_dice::SystemDice;
-pub use tcp_limits::TcpLimits;
+pub use tcp_calls::{connect_within, read_within, send_within};
+pub use tcp_limits::{TcpLimits, Term};
 pub use tcp_link::TcpLink;
 pub use why::Why;
 

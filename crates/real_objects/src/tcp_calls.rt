@@ -1,18 +1,31 @@
 ghost use Rattle.std.specs.Prelude.{◌≡◌, ◌≤◌, [], length, IfOk};
 
-use crate::Why;
-use crate::tcp_limits::time_left;
+use crate::{Term, Why};
 use std::io::{ErrorKind, Read, Write};
-use std::net::TcpStream;
-use std::time::Instant;
+use std::net::{Net, TcpStream, ToSocketAddrs};
 use std::{io, time};
 
-/// When a connection began, and how long it and each of its calls may take, in milliseconds.
-#[derive(Clone, Copy)]
-pub(crate) struct Term {
-    pub(crate) begun: Instant,
-    pub(crate) whole: u64,
-    pub(crate) call: u64,
+/// A connection to the first of some addresses that answers, within a term. A host's name is looked up first, which has
+/// no limit of time.
+pub fn connect_within<R: Net<Stream = TcpStream> + time::Clock, A: ToSocketAddrs>(
+    rt: &R,
+    address: A,
+    term: Term,
+) -> io::Result<TcpStream> {
+    let mut last = io::Error::from(ErrorKind::TimedOut);
+    for addr in address.to_socket_addrs(rt)? {
+        let Some(left) = term.left(rt) else {
+            break;
+        };
+        match TcpStream::connect_timeout(rt, &addr, left) {
+            Ok(stream) => {
+                stream.set_nodelay(true)?;
+                return Ok(stream);
+            }
+            Err(e) => last = e,
+        }
+    }
+    Err(last)
 }
 
 fn not_read(error: io::Error) -> Why {
@@ -24,7 +37,7 @@ fn not_written(error: io::Error) -> Why {
 }
 
 /// One read within the term. If it is interrupted, it is made again.
-pub(crate) fn read_within(
+pub fn read_within(
     rt: &impl time::Clock,
     stream: &mut TcpStream,
     term: Term,
@@ -33,7 +46,7 @@ pub(crate) fn read_within(
     ensures { IfOk result (λ n. n ≤ length buffer.new) }
 {
     for _ in 0..u64::MAX {
-        let left = time_left(rt, term.begun, term.whole, term.call);
+        let left = term.left(rt);
         if left.is_none() {
             return Err(Why::refusal("has sent nothing within its time"));
         }
@@ -61,7 +74,7 @@ pub(crate) fn write_within(
     ensures some { IfOk result (λ n. n ≡ 0 → piece.now ≡ []) }
 {
     for _ in 0..u64::MAX {
-        let left = time_left(rt, term.begun, term.whole, term.call);
+        let left = term.left(rt);
         if left.is_none() {
             return Err(Why::refusal("has taken nothing within its time"));
         }
@@ -79,7 +92,7 @@ pub(crate) fn write_within(
 }
 
 /// Writes a whole piece within the term.
-pub(crate) fn send_within(
+pub fn send_within(
     rt: &impl time::Clock,
     stream: &mut TcpStream,
     term: Term,

@@ -1,8 +1,8 @@
 ghost use Rattle.std.specs.Prelude.{◌<◌, IfSome};
 ghost use Rattle.std.specs.Duration.{as_nanos};
 
-use std::time;
 use std::time::{Duration, Instant};
+use std::{io, time};
 
 /// How long a connection may take. Times are in milliseconds. A peer that is silent past a limit is a fault.
 #[derive(Clone, Copy, Debug, PartialEq, Eq, Hash)]
@@ -27,21 +27,34 @@ impl Default for TcpLimits {
     }
 }
 
-/// How long a call may take: what is left until so many milliseconds after a start, and at most the limit of a
-/// call. `None` where nothing is left, or where the clock cannot be read.
-pub(crate) fn time_left(
-    rt: &impl time::Clock,
+/// When a connection began, and how long it and each of its calls may take.
+#[derive(Clone, Copy, Debug)]
+pub struct Term {
     begun: Instant,
-    whole: u64,
-    call: u64,
-) -> Option<Duration>
-    ensures { IfSome result (λ left. 0 < as_nanos left) }
-{
-    let passed = begun.elapsed(rt).ok()?;
-    let left = Duration::from_millis(whole).checked_sub(passed)?;
-    let shortest = left.min(Duration::from_millis(call));
-    if shortest.is_zero() {
-        return None;
+    limits: TcpLimits,
+}
+
+impl Term {
+    /// One that begins now.
+    pub fn from_now(rt: &impl time::Clock, limits: TcpLimits) -> io::Result<Term> {
+        Ok(Term {
+            begun: Instant::now(rt)?,
+            limits,
+        })
     }
-    Some(shortest)
+
+    /// How long a call may take: what is left of the connection's time, and at most the limit of a call. `None` where
+    /// nothing is left, or where the clock cannot be read.
+    pub fn left(&self, rt: &impl time::Clock) -> Option<Duration>
+        ensures { IfSome result (λ left. 0 < as_nanos left) }
+    {
+        let passed = self.begun.elapsed(rt).ok()?;
+        let whole = Duration::from_millis(self.limits.connection);
+        let left = whole.checked_sub(passed)?;
+        let shortest = left.min(Duration::from_millis(self.limits.call));
+        if shortest.is_zero() {
+            return None;
+        }
+        Some(shortest)
+    }
 }

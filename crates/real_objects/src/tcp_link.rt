@@ -2,16 +2,12 @@ ghost use Rattle.std.specs.Prelude.{◌≡◌, ◌≤◌, length, is_some, None,
 ghost use Rattle.sb_outside.specs.Outside.{Rose};
 ghost use Rattle.real_objects.specs.Tcp.{TcpSession};
 
-use crate::tcp_calls::{Term, read_within, send_within};
-use crate::tcp_limits::time_left;
-use crate::{LinkTeller, Nobody, TcpLimits, Why};
+use crate::{LinkTeller, Nobody, TcpLimits, Term, Why, connect_within, read_within, send_within};
 use sb_model::{Moment, OutOfMemory};
 use sb_outside::{Failed, Kind, Link};
 use std::alloc::Global;
-use std::io::ErrorKind;
 use std::marker::Model;
-use std::net::{Net, TcpStream, ToSocketAddrs};
-use std::time::Instant;
+use std::net::{Net, TcpStream};
 use std::{io, time};
 
 /// A link that holds each session on a TCP connection of its own. Its times count from `begin`, whatever
@@ -151,31 +147,15 @@ impl<R, T: LinkTeller> TcpLink<R, T> {
     }
 }
 
-/// A connection to the first of the addresses that answers.
+/// A session that begins now.
 fn connect<R: Net<Stream = TcpStream> + time::Clock>(
     rt: &R,
     address: &str,
     limits: TcpLimits,
 ) -> io::Result<Open> {
-    let term = Term {
-        begun: Instant::now(rt)?,
-        whole: limits.connection,
-        call: limits.call,
-    };
-    let mut last = io::Error::from(ErrorKind::TimedOut);
-    for addr in address.to_socket_addrs(rt)? {
-        let Some(left) = time_left(rt, term.begun, term.whole, term.call) else {
-            break;
-        };
-        match TcpStream::connect_timeout(rt, &addr, left) {
-            Ok(stream) => {
-                stream.set_nodelay(true)?;
-                return Ok(Open { stream, term });
-            }
-            Err(e) => last = e,
-        }
-    }
-    Err(last)
+    let term = Term::from_now(rt, limits)?;
+    let stream = connect_within(rt, address, term)?;
+    Ok(Open { stream, term })
 }
 
 /// What a call fails with that has no open session.

@@ -11,7 +11,7 @@ pub struct Why {
 
 impl Why {
     /// What the system refused.
-    pub(crate) fn system(what: &'static str, reason: io::Error) -> Why {
+    pub fn system(what: &'static str, reason: io::Error) -> Why {
         Why {
             part: "",
             what,
@@ -20,7 +20,7 @@ impl Why {
     }
 
     /// What the object itself refuses.
-    pub(crate) fn refusal(what: &'static str) -> Why {
+    pub fn refusal(what: &'static str) -> Why {
         Why {
             part: "",
             what,

@@ -3,7 +3,7 @@ ghost use Rattle.std.specs.Prelude.{◌≤◌, length, None, IfSome};
 ghost use Rattle.sb_outside.specs.Outside.{Rose};
 
 use crate::server::Server;
-use case_texts::{Coming, Harm, Play};
+use case_texts::{Coming, Harm, Play, Reader};
 use delta_server::Settings;
 use list_versions::History;
 use sb_model::{Bytes, Moment, OutOfMemory, Row};
@@ -21,6 +21,8 @@ struct Held {
     has_response: bool,
     is_open: bool,
     calls: u64,
+    // after how many asks more it is answered
+    asks: u64,
 }
 
 /// Sessions that are played from a list.
@@ -75,13 +77,10 @@ impl CaseLink {
         CaseLink { plays, faults: 0 }
     }
 
-    /// Puts what the last session sent to what those before it sent.
-    pub fn retire(&mut self) -> Result<(), OutOfMemory> {
-        self.plays.retire()
-    }
-
-    /// Takes what each session sent, in order. What the last one sent is there once it was retired.
-    pub fn take_sent(&mut self) -> Row<Bytes> {
+    /// Takes what each session sent, in order.
+    pub fn take_sent(&mut self, reader: &mut Reader) -> Row<Bytes> {
+        let done = self.plays.retire();
+        reader.faults.note(done);
         self.plays.take_sent()
     }
 
@@ -140,6 +139,7 @@ impl Plays {
         if !self.server.grow(&coming.gains) {
             return false;
         }
+        let asks = coming.asks;
         self.held = Some(Held {
             coming,
             sent: Bytes::new(self.alloc),
@@ -147,6 +147,7 @@ impl Plays {
             has_response: false,
             is_open: true,
             calls: 0,
+            asks,
         });
         self.call()
     }
@@ -214,6 +215,17 @@ impl Plays {
             held.is_open = false;
         }
     }
+
+    /// Whether the session is answered, which it is after so many asks as it says.
+    fn is_answered(&mut self) -> bool {
+        match &mut self.held {
+            Some(held) if held.asks > 0 => {
+                held.asks -= 1;
+                false
+            }
+            _ => true,
+        }
+    }
 }
 
 impl Held {
@@ -277,7 +289,7 @@ impl Link for CaseLink {
     }
 
     fn is_answered(&mut self) -> bool {
-        true
+        self.plays.is_answered()
     }
 
     fn recv(&mut self, buffer: &mut [u8]) -> Result<usize, Failed> {

@@ -1,5 +1,5 @@
 //! Cases one after the other.
-use crate::running::run;
+use crate::running::{Programs, run};
 use case_texts::{
     Book, CaseFault, Differences, Left, Met, Page, Place, Reader, Scope, Sheet, Span, between,
     check, compare_parts, field, given, numbers, size_of_number,
@@ -34,8 +34,9 @@ struct Case<'a> {
 }
 
 /// Runs all cases of a book, and says what is printed.
-pub fn run_book<R: Threads + Wait + Sync>(
+pub fn run_book<R: Threads + Wait + Sync, P: Programs>(
     rt: &R,
+    programs: &P,
     alloc: Global,
     book: &Book,
 ) -> Result<Bytes, CaseFault> {
@@ -44,23 +45,29 @@ pub fn run_book<R: Threads + Wait + Sync>(
         cases: 0,
         differing: 0,
     };
-    run_cases(rt, alloc, book, &mut summary);
+    run_cases(rt, programs, alloc, book, &mut summary);
     summary.end();
     summary.into_page().into_bytes()
 }
 
-fn run_cases<R: Threads + Wait + Sync>(rt: &R, alloc: Global, book: &Book, summary: &mut Summary) {
+fn run_cases<R: Threads + Wait + Sync, P: Programs>(
+    rt: &R,
+    programs: &P,
+    alloc: Global,
+    book: &Book,
+    summary: &mut Summary,
+) {
     let mut open = Open {
         group: Span { from: 0, to: 0 },
         case: None,
     };
     for number in 0..book.sheet.len() {
         if is_heading(book.sheet.line(number)) {
-            end_case(rt, alloc, book, open, number, summary);
+            end_case(rt, programs, alloc, book, open, number, summary);
             open = next_open(open, book.sheet.line(number).starts_with(b"## "), number);
         }
     }
-    end_case(rt, alloc, book, open, book.sheet.len(), summary);
+    end_case(rt, programs, alloc, book, open, book.sheet.len(), summary);
 }
 
 /// Whether a line begins a group or a case.
@@ -94,8 +101,9 @@ fn next_open(open: Open, is_case: bool, number: usize) -> Open {
 }
 
 /// Runs the case that is open, and tells how it differs. After a fault nothing is run.
-fn end_case<R: Threads + Wait + Sync>(
+fn end_case<R: Threads + Wait + Sync, P: Programs>(
     rt: &R,
+    programs: &P,
     alloc: Global,
     book: &Book,
     open: Open,
@@ -116,7 +124,7 @@ fn end_case<R: Threads + Wait + Sync>(
         step: usize::MAX,
     };
     let mut differences = Differences::new(alloc);
-    run_case(rt, alloc, case, &mut differences);
+    run_case(rt, programs, alloc, case, &mut differences);
     summary.add(book.sheet.line(from.saturating_sub(1)), &differences);
 }
 
@@ -167,8 +175,9 @@ fn run_end(sheet: &Sheet, from: usize, end: usize) -> usize {
 }
 
 /// The first differences of a case, over each step and each round.
-fn run_case<R: Threads + Wait + Sync>(
+fn run_case<R: Threads + Wait + Sync, P: Programs>(
     rt: &R,
+    programs: &P,
     alloc: Global,
     case: Case<'_>,
     differences: &mut Differences,
@@ -181,7 +190,14 @@ fn run_case<R: Threads + Wait + Sync>(
         if differences.is_decided() {
             break;
         }
-        run_rounds(rt, alloc, case.with_step(*step), &mut met, differences);
+        run_rounds(
+            rt,
+            programs,
+            alloc,
+            case.with_step(*step),
+            &mut met,
+            differences,
+        );
     }
     if !differences.is_decided() {
         met.tell(&case.book.sheet, case.span, differences);
@@ -225,8 +241,9 @@ impl<'a> Case<'a> {
 }
 
 /// The first differences of a case at a step, over each round.
-fn run_rounds<R: Threads + Wait + Sync>(
+fn run_rounds<R: Threads + Wait + Sync, P: Programs>(
     rt: &R,
+    programs: &P,
     alloc: Global,
     case: Case<'_>,
     met: &mut Met,
@@ -235,7 +252,7 @@ fn run_rounds<R: Threads + Wait + Sync>(
     let mut cut = 0;
     for _ in 0..u64::MAX {
         let mut reader = Reader::new(alloc, cut);
-        run_runs(rt, &mut reader, case, met, differences);
+        run_runs(rt, programs, &mut reader, case, met, differences);
         differences.page.faults.join(&reader.faults);
         cut = cut.saturating_add(1);
         if differences.is_decided() || !reader.goes_on() {
@@ -245,8 +262,9 @@ fn run_rounds<R: Threads + Wait + Sync>(
 }
 
 /// The differences of the runs of a case. Each but the first begins with what the keeper kept in the one before.
-fn run_runs<R: Threads + Wait + Sync>(
+fn run_runs<R: Threads + Wait + Sync, P: Programs>(
     rt: &R,
+    programs: &P,
     reader: &mut Reader,
     case: Case<'_>,
     met: &mut Met,
@@ -261,7 +279,7 @@ fn run_runs<R: Threads + Wait + Sync>(
             scope: case.scope(from, to),
             step: case.step,
         };
-        run_one(rt, reader, &place, &mut store, met, differences);
+        run_one(rt, programs, reader, &place, &mut store, met, differences);
         from = to.saturating_add(1);
         if to >= case.span.to || !reader.faults.is_none() {
             break;
@@ -270,8 +288,9 @@ fn run_runs<R: Threads + Wait + Sync>(
 }
 
 /// Makes a run, which begins with this store and leaves another, and compares what it left.
-fn run_one<R: Threads + Wait + Sync>(
+fn run_one<R: Threads + Wait + Sync, P: Programs>(
     rt: &R,
+    programs: &P,
     reader: &mut Reader,
     place: &Place<'_>,
     store: &mut Option<Bytes>,
@@ -279,7 +298,7 @@ fn run_one<R: Threads + Wait + Sync>(
     differences: &mut Differences,
 ) {
     check(reader, &place.book.sheet, place.scope.own);
-    if let Some(left) = run(rt, reader, &given(place), store.take()) {
+    if let Some(left) = run(rt, programs, reader, &given(place), store.take()) {
         compare_left(reader, place, &left, met, differences);
         *store = copy_of(reader, left.objects.keep.kept());
     }
