@@ -21,6 +21,8 @@ mod read_values;
 #[cfg(test)]
 mod sound_targets;
 #[cfg(test)]
+mod wire_fields;
+#[cfg(test)]
 mod words;
 #[cfg(test)]
 mod written_journals;

@@ -1,0 +1,4 @@
+pub mod Wire
+pub mod Spelling
+pub mod Reading
+pub mod Given
