@@ -57,15 +57,24 @@ where
     say(&stage.rt, line, &outcome);
 }
 
-fn main(rt: HostRuntime) -> ExitCode {
-    let Some(mut stage) = Stage::new(rt, rt) else {
-        return ExitCode::from(1);
-    };
+/// Takes the steps of all lines.
+fn run_lines<R>(stage: &mut Stage<R>) -> ExitCode
+where
+    R: Threads + Wait + Copy + Send + Sync + 'static,
+{
+    let rt = stage.rt;
     for line in rt.lines(rt.alloc()) {
         match line {
-            Ok(line) => run_line(&mut stage, line.as_str()),
+            Ok(line) => run_line(stage, line.as_str()),
             Err(_) => return ExitCode::from(2),
         }
     }
     ExitCode::SUCCESS
+}
+
+fn main(rt: HostRuntime) -> ExitCode {
+    match Stage::new(rt, rt) {
+        Some(mut stage) => run_lines(&mut stage),
+        None => ExitCode::from(1),
+    }
 }

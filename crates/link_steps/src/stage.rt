@@ -37,19 +37,43 @@ pub(crate) struct Stage<R> {
     pub(crate) link: BackgroundLink<R>,
 }
 
+/// A door at any port, and its bell.
+fn belled(rt: HostRuntime) -> Option<(GatheringDoor<HostRuntime, Deaf>, Bell)> {
+    let alloc = rt.alloc();
+    let mut door = GatheringDoor::bind(rt, alloc, "127.0.0.1:0", DoorLimits::STANDARD, Deaf);
+    match door.bell(alloc) {
+        Ok(bell) => Some((door, bell)),
+        Err(_) => None,
+    }
+}
+
+/// A link that leads nowhere.
+fn astray<R: Threads + Wait + Copy + Send + 'static>(
+    threads: R,
+    rt: HostRuntime,
+) -> Option<BackgroundLink<R>> {
+    BackgroundLink::new(
+        threads,
+        rt,
+        rt.alloc(),
+        "nowhere",
+        TcpLimits::STANDARD,
+        None,
+    )
+    .ok()
+}
+
 impl<R: Threads + Wait + Copy + Send + 'static> Stage<R> {
     /// A door with a bell, and a link that leads nowhere.
     pub(crate) fn new(threads: R, rt: HostRuntime) -> Option<Stage<R>> {
-        let alloc = rt.alloc();
-        let limits = TcpLimits::STANDARD;
-        let mut door = GatheringDoor::bind(rt, alloc, "127.0.0.1:0", DoorLimits::STANDARD, Deaf);
-        let bell = door.bell(alloc).ok()?;
-        let link = BackgroundLink::new(threads, rt, alloc, "nowhere", limits, None).ok()?;
+        let address = String::from_str(rt.alloc(), "nowhere").ok()?;
+        let (door, bell) = belled(rt)?;
+        let link = astray(threads, rt)?;
         Some(Stage {
             threads,
             rt,
-            limits,
-            address: String::from_str(alloc, "nowhere").ok()?,
+            limits: TcpLimits::STANDARD,
+            address,
             port: None,
             peer: None,
             door,
