@@ -17,6 +17,7 @@ turns with those of another program, which takes the same words and has to write
 import argparse
 import base64
 import bisect
+import contextlib
 import ctypes
 import dataclasses
 import hashlib
@@ -47,6 +48,9 @@ MOST_ITEMS = 8
 MOST_BODY = 1_048_576
 HELD_VERSIONS = 32
 SPELLINGS = 64
+CROWD = 64
+READERS = 100
+READ_A_SECOND = 1_500_000
 MIB = 1 << 20
 
 A_CHANGE = 1_024
@@ -90,12 +94,12 @@ class Journal:
     """A journal that grows. Each change adds the hashes of the next numbers of its list and takes out those of the lowest, so a
     list at a version is what stands between two numbers."""
 
-    def __init__(self, path, lists=(LIST,)):
+    def __init__(self, path, lists=(LIST,), size=4):
         self.path, self.version, self.sets = path, 0, {}
         self.windows = {name: ([0], [(0, 0)]) for name in lists}
         with open(path, "w", encoding="ascii") as file:
             file.write(f"sblist 1 {EPOCH:016x}\n")
-            file.writelines(f"list {name} 4\n" for name in lists)
+            file.writelines(f"list {name} {size}\n" for name in lists)
 
     def window(self, name, version):
         versions, windows = self.windows[name]
@@ -386,6 +390,60 @@ def tell_spellings(journal, sizes):
         cost(server, orders * 4, sizes.rounds, anew=False).tell_rate("two lists in both orders, asked again in the same bytes")
 
 
+def tell_crowd(journal, sizes):
+    """Who has nothing, in another spelling each time, while as many others ask between them as have older versions each. Eight of the
+    former come before each of the latter, whose answers are made anew the first time."""
+    first, newest = fetch(Item()), journal.version
+    with Server(journal) as server:
+        server.ask(first)
+        took = []
+        for behind in range(1, CROWD + 1):
+            for _ in range(8):
+                body = spelled_anew(first)
+                begun = time.perf_counter()
+                server.ask(body)
+                took.append(time.perf_counter() - begun)
+            server.ask(fetch(Item(max(newest - behind, 1))))
+    rate = len(took) / sum(took)
+    print(f"  nothing held, {CROWD} others at older versions between them: {rate:,.1f} a second, the longest {max(took) * 1e3:.1f} ms", flush=True)
+
+
+def tell_slow_readers(folder, sizes):
+    """One answer of some 16.8 MB that a hundred clients read at 1.5 MB a second each, all at once: how many get it whole."""
+    journal = Journal(os.path.join(folder, "wide"), size=12)
+    journal.grow([(LIST, A_CHANGE, 0)] * sizes.growing)
+    body = fetch(Item(codings=("RAW",)))
+    with Server(journal) as server:
+        with server.send(body) as stream:
+            length = sum(map(len, iter(lambda: stream.recv(MIB), b"")))
+        begun, came = time.perf_counter(), {server.send(spelled_anew(body)): 0 for _ in range(READERS)}
+        for stream in came:
+            stream.setblocking(False)
+        server.forget_peak()
+        open_ones = set(came)
+        while open_ones:
+            most = (time.perf_counter() - begun) * READ_A_SECOND
+            for stream in list(open_ones):
+                with contextlib.suppress(BlockingIOError):
+                    try:
+                        piece = stream.recv(min(MIB, max(1, int(most - came[stream]))))
+                    except ConnectionError:
+                        piece = b""
+                    came[stream] += len(piece)
+                    if not piece:
+                        open_ones.discard(stream)
+            time.sleep(0.005)
+        took, peak = time.perf_counter() - begun, server.memory("VmHWM")
+        for stream in came:
+            stream.close()
+    whole = sum(count == length for count in came.values())
+    what = f"{READERS} clients of one answer of {length:,} bytes at {READ_A_SECOND / 1e6:.1f} MB a second"
+    print(f"  {what}: {whole} got it whole in {took:.1f} s, {peak / MIB:.1f} MiB at most", flush=True)
+    os.remove(journal.path)
+    if whole != READERS:
+        raise SystemExit("answers: a slow reader was cut")
+
+
 def limited_items(journal, sizes):
     """Items with limits that do not bind, and that do, with what they are called."""
     few, most, database = 5, 1_048_576, journal.size() * 19 // 20
@@ -587,6 +645,7 @@ def measure(folder, sizes, beside=None):
     tell_whole(journal, sizes)
     tell_partial(journal, sizes)
     tell_spellings(journal, sizes)
+    tell_crowd(journal, sizes)
     print("limits")
     tell_limits(journal, sizes)
     print("the dearest requests")
@@ -605,6 +664,8 @@ def measure(folder, sizes, beside=None):
     os.remove(turned.path)
     print(f"loads of journals of {lines:,} lines")
     tell_longest(folder, sizes)
+    print("slow readers")
+    tell_slow_readers(folder, sizes)
 
 
 def main():

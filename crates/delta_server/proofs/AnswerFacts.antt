@@ -14,10 +14,9 @@ use Rattle.sb_model.specs.History.{History, IsPrefixSize, IsWellFormed, declares
 use Rattle.sb_model.specs.Names.{same_name}
 use Rattle.sb_model.specs.Target.{is_within, can_reach, target_version}
 use Rattle.list_versions.specs.Journal.{declared_size_of}
-use Rattle.update_messages.specs.Answer.{version_named, size_in, declared_size, update_to, update_for}
+use Rattle.update_messages.specs.Answer.{version_named, size_in, declared_size, update_to, update_for, whole_update, difference_update}
 use Rattle.update_messages.specs.Messages.{AskedList, UpdatedList}
 use Rattle.delta_server.specs.Tokens.{server_token, server_naming}
-use Rattle.delta_server.specs.Updates.{whole_update, difference_update}
 use Rattle.delta_server.specs.Walk.{HasSizes, may_take, held_set}
 use Rattle.delta_server.proofs.Membership.{In}
 use Rattle.delta_server.proofs.SetCounts.{in_has}

@@ -3,7 +3,8 @@ ghost use Rattle.sha2.specs.Sha256.{sha256};
 ghost use Rattle.sb_model.specs.Difference.{removed_places, added_members};
 ghost use Rattle.sb_model.specs.Prefixes.{concatenation};
 ghost use Rattle.list_versions.specs.Numbers.{AreNumbersOf};
-ghost use Rattle.delta_server.specs.Updates.{MayBeSent, whole_update, difference_update};
+ghost use Rattle.update_messages.specs.Answer.{whole_update, difference_update};
+ghost use Rattle.delta_server.specs.Updates.{MayBeSent};
 
 use crate::sets::{addition_sets, removal_sets, whole_sets};
 use prefix_set::{Delta, PrefixSet};

@@ -1,14 +1,16 @@
 -- What is kept is found by what it answers, and stays right.
-use Rattle.std.proofs.Common.{◌≡◌, ℕ, Bool, true, false, List, ◌++◌, take, drop, get_or, Option, Some, None, refl, sym, ap, ◌∙◌, subst, inl, inr}
-use Rattle.std.specs.Prelude.{All, if◌then◌else◌, is_some, option_map, position, slice_get}
+use Rattle.std.proofs.Common.{◌≡◌, ℕ, Bool, true, false, List, ◌++◌, take, drop, get_or, Option, Some, None, refl, sym, ap, ◌∙◌, subst}
+use Rattle.std.specs.Prelude.{All, MatchBool, if◌then◌else◌, is_some, option_map, position, slice_get}
 use Rattle.std.specs.Str.{bytes_eq}
 use Rattle.std.proofs.lemmas.List.Elements.{All-append, All-drop, All-get_or, All-nil, All-push, All-take}
 use Rattle.std.proofs.lemmas.List.Quantifiers.{position-Some}
 use Rattle.std.proofs.lemmas.Option.{get_or_from_slice_get, slice_get_within}
 use Rattle.std.proofs.lemmas.Slice.Eq.{bytes_eq-Decides}
 use Rattle.http_edge.specs.Responses.{response_text}
-use Rattle.http_serving.specs.Kept.{after_asking, after_first, after_meaning, after_other, first_text, has_meaning, is_for_first, place_by_body, place_by_meaning, text_at, AreKept, FindsByBody, FindsByMeaning, HasKept, HasKeptIn, KeptLists, KeptPart, MayBeKept, StaysAsked, StaysKept}
+use Rattle.http_serving.specs.Kept.{after_asking, after_first, after_meaning, after_other, first_text, has_meaning, is_for_first, place_by_body, place_by_meaning, text_at, is_kept_in, AreKept, Comes, FindsByBody, FindsByMeaning, HasKept, HasKeptIn, KeepsSent, KeptLists, KeptPart, StaysAsked, StaysKept}
 use Rattle.http_serving.specs.declared.kept.KeptAnswer.{KeptAnswer}
+use Rattle.http_serving.specs.declared.responses.Answer.{Answer}
+use Rattle.http_serving.specs.declared.responses.Answer.TheVariants as answer
 use Rattle.http_serving.specs.declared.responses.Response.{Response}
 
 module _ {K : Type 0} (P : KeptAnswer K → Type 0) where
@@ -99,9 +101,12 @@ module _ {K : Type 0} (P : KeptAnswer K → Type 0) where
   -- ---- a new answer
 
   one_part : (answer : KeptAnswer K) (before after : KeptPart K) → All P before.answers → P answer → HasKept answer before after → All P after.answers
-  one_part answer before after are is (gone, room, inl e) = subst (All P) (sym e) (All-drop P gone before.answers are)
-  one_part answer before after are is (gone, room, inr e) =
-      subst (All P) (sym e) (All-push P (drop gone before.answers) answer (All-drop P gone before.answers are) is)
+  one_part answer before after are is has = go (is_kept_in answer before.room) has
+    where
+      go : (keeps : Bool) → MatchBool keeps (Comes answer before after) (after ≡ before) → All P after.answers
+      go true comes =
+          subst (All P) (sym comes.answers) (All-push P (drop comes.gone before.answers) answer (All-drop P comes.gone before.answers are) is)
+      go false same = subst (λ (part : KeptPart K). All P part.answers) (sym same) are
 
   one_more_kept : (answer : KeptAnswer K) (is_first : Bool) (before after : KeptLists K) → AreKept P before → P answer → HasKeptIn answer is_first before after → AreKept P after
   one_more_kept answer true before after are is has = record {
@@ -113,11 +118,12 @@ module _ {K : Type 0} (P : KeptAnswer K → Type 0) where
     others = one_part answer before.others after.others are.others is has.0;
   }
 
-  more_kept : (first : K → Bool) (asked : List ℕ) (meaning : Option K) (response : Response) (before after : KeptLists K) → AreKept P before
+  more_kept : (first : K → Bool) (asked : List ℕ) (meaning : Option K) (response : Response) (sent : Answer) (before after : KeptLists K) → AreKept P before
       → P (record { asked = asked; meaning = meaning; text = response_text response.status response.allow response.body })
-      → MayBeKept first asked meaning response before after → AreKept P after
-  more_kept first asked meaning response before after are is (inl e) = subst (AreKept P) (sym e) are
-  more_kept first asked meaning response before after are is (inr has) =
+      → KeepsSent first asked meaning response sent before after → AreKept P after
+  more_kept first asked meaning response (answer.Made made) before after are is same = subst (AreKept P) (sym same) are
+  more_kept first asked meaning response (answer.Written written) before after are is same = subst (AreKept P) (sym same) are
+  more_kept first asked meaning response (answer.Shared shared) before after are is has =
       one_more_kept (record { asked = asked; meaning = meaning; text = response_text response.status response.allow response.body }) (is_for_first first meaning) before after are is has
 
   pub stays_kept : (first : K → Bool) → StaysKept first P
@@ -131,11 +137,10 @@ module _ {K : Type 0} (P : KeptAnswer K → Type 0) where
 -- a written text that was shared and kept
 pub kept_written : {K : Type 0} (first : K → Bool) (asked : List ℕ) (meaning : Option K) (response : Response) (text shared : List ℕ) (before between after : KeptLists K)
     → text ≡ response_text response.status response.allow response.body → shared ≡ text → between ≡ before
-    → HasKeptIn (record { asked = asked; meaning = meaning; text = shared }) (is_for_first first meaning) between after → MayBeKept first asked meaning response before after
+    → HasKeptIn (record { asked = asked; meaning = meaning; text = shared }) (is_for_first first meaning) between after
+    → HasKeptIn (record { asked = asked; meaning = meaning; text = response_text response.status response.allow response.body }) (is_for_first first meaning) before after
 kept_written {K} first asked meaning response text shared before between after whole is same has =
     let made : List ℕ → KeptAnswer K = λ t. record { asked = asked; meaning = meaning; text = t } in
     let written : List ℕ = response_text response.status response.allow response.body in
-    inr (
     subst (λ (b : KeptLists K). HasKeptIn (made written) (is_for_first first meaning) b after) same
     (subst (λ (t : List ℕ). HasKeptIn (made t) (is_for_first first meaning) between after) (is ∙ whole) has)
-    )

@@ -1,13 +1,14 @@
 -- How much is kept, after one was asked for, went or came.
-use Rattle.std.proofs.Common.{◌≡◌, ◌+◌, ◌-◌, ◌^◌, ◌<◌, ◌≤◌, ℕ, List, [], ◌∷◌, ◌++◌, length, take, drop, get_or, ap, arith, length-append}
-use Rattle.std.specs.Prelude.{sum_by}
+use Rattle.std.proofs.Common.{◌≡◌, ◌≢◌, ◌+◌, ◌-◌, ◌^◌, ◌<◌, ◌≤◌, ℕ, Bool, true, false, List, [], ◌∷◌, ◌++◌, length, take, drop, get_or, refl, sym, ap, subst, ◌∙◌, arith}
+use Rattle.std.specs.Prelude.{◌&&◌, MatchBool, nat_le, nat_lt, sum_by}
 use Rattle.std.specs.List.{remove}
 use Rattle.std.specs.List.Sorted.{IsPermutation}
-use Rattle.std.proofs.lemmas.List.{take-append-drop}
+use Rattle.std.proofs.lemmas.Bool.{leb-true, ltb-true, ltb-false}
+use Rattle.std.proofs.lemmas.List.{drop_all, drop-append-le, take-append-drop}
 use Rattle.std.proofs.lemmas.List.Sums.{sum_by-append}
 use Rattle.std.proofs.lemmas.List.Sorted.{sum_by-IsPermutation}
 use borrow.Rule.Slice.PartMut.{put_mid}
-use Rattle.http_serving.specs.Kept.{kept_size, AreFew}
+use Rattle.http_serving.specs.Kept.{is_kept_in, kept_size, AreLeft, Comes, FitIn, HasKept, KeptPart}
 use Rattle.http_serving.specs.declared.kept.KeptAnswer.{KeptAnswer}
 use Rattle.http_serving.specs.declared.kept.Room.{Room}
 
@@ -29,43 +30,81 @@ turned {K} xs new p turns =
 first_of_all : {K : Type 0} → (x : KeptAnswer K) (xs : List (KeptAnswer K)) → sum_by kept_size (x ∷ xs) ≡ kept_size x + sum_by kept_size xs
 first_of_all {K} x xs = let both = sum_by-append kept_size (x ∷ []) xs in omega (arith, both)
 
--- after the first one went
-pub went : {K : Type 0} → (xs ys : List (KeptAnswer K)) (first : KeptAnswer K) (bytes size : ℕ) (room : Room) → AreFew xs bytes room → first ≡ get_or xs 0 first → ys ≡ remove xs 0
-    → (size < 2 ^ 32 → size ≡ kept_size first) → size ≤ kept_size first → AreFew ys (bytes - size) room
-went {K} [] ys first bytes size room few is rest exact most = record {
-  limit = few.limit;
-  count = (let none = ap length rest in omega (arith, none));
-  size = (let none = ap (sum_by kept_size) rest in let all = few.size in omega (arith, none, all));
-  small = (let small = few.small in omega (arith, small));
-}
-went {K} (x ∷ xs) ys first bytes size room few is rest exact most =
-    let limit = few.limit in
-    let small = few.small in
-    let sum = few.size in
-    let count = few.count in
+-- ---- as many go as have to
+
+-- The first of some went: these are left, with so many bytes.
+pub record HasGone {K : Type 0} (left : List (KeptAnswer K)) (bytes size : ℕ) : Type 0 where
+  pub within : size ≤ bytes
+  pub bytes_are : sum_by kept_size left ≡ bytes - size
+
+pub gone : {K : Type 0} → (xs ys : List (KeptAnswer K)) (first : KeptAnswer K) (bytes size : ℕ) → xs ≢ [] → sum_by kept_size xs ≡ bytes → bytes < 2 ^ 33 → first ≡ get_or xs 0 first → ys ≡ remove xs 0
+    → (size < 2 ^ 33 → size ≡ kept_size first) → size ≤ kept_size first → HasGone ys bytes size
+gone {K} [] ys first bytes size some sum low is rest exact most = absurd (some refl)
+gone {K} (x ∷ xs) ys first bytes size some sum low is rest exact most =
     let parts = first_of_all x xs in
     let own : kept_size first ≡ kept_size x = ap kept_size is in
-    let fits : size < 2 ^ 32 = omega (arith, limit, small, sum, parts, own, most) in
+    let fits : size < 2 ^ 33 = omega (arith, low, sum, parts, own, most) in
     let same : size ≡ kept_size first = exact fits in
     record {
-      limit = limit;
-      count = (let fewer = ap length rest in omega (arith, fewer, count));
-      size = (let others = ap (sum_by kept_size) rest in omega (arith, others, sum, parts, own, same));
-      small = omega (arith, small);
+      within = omega (arith, same, own, parts, sum);
+      bytes_are = (let others = ap (sum_by kept_size) rest in omega (arith, others, sum, parts, own, same));
     }
 
--- after one came
-pub came : {K : Type 0} → (xs ys : List (KeptAnswer K)) (last : KeptAnswer K) (bytes size : ℕ) (room : Room) → AreFew xs bytes room → ys ≡ xs ++ last ∷ [] → length xs < room.answers
-    → sum_by kept_size xs + size ≤ room.bytes → (size < 2 ^ 32 → size ≡ kept_size last) → AreFew ys (bytes + size) room
-came {K} xs ys last bytes size room few all there fits exact =
-    let limit = few.limit in
-    let sum = few.size in
-    let low : size < 2 ^ 32 = omega (arith, limit, fits) in
-    let same : size ≡ kept_size last = exact low in
-    let parts = sum_by-append kept_size xs (last ∷ []) in
+-- There is room for none.
+pub nothing_fits : {K : Type 0} → (xs : List (KeptAnswer K)) (room : Room) → (FitIn xs room → ⊥) → xs ≢ []
+nothing_fits {K} xs room past none = past (omega (arith, ap length none), omega (arith, ap (sum_by kept_size) none))
+
+-- With one more gone no fewer would do either.
+pub none_fewer : {K : Type 0} → (all xs : List (KeptAnswer K)) (gone : ℕ) (room : Room) → xs ≡ drop gone all → (FitIn xs room → ⊥)
+    → ((fewer : ℕ) → fewer < gone → FitIn (drop fewer all) room → ⊥) → (fewer : ℕ) → fewer < gone + 1 → FitIn (drop fewer all) room → ⊥
+none_fewer {K} all xs gone room is not before fewer below fit = go (nat_lt fewer gone) refl
+  where
+    go : (less : Bool) → nat_lt fewer gone ≡ less → ⊥
+    go true less = before fewer (ltb-true fewer gone less) fit
+    go false less =
+        let same : fewer ≡ gone = omega (arith, below, ltb-false fewer gone less) in
+        not (subst (λ (n : ℕ). FitIn (drop n all) room → FitIn xs room) (sym same) (subst (λ (ys : List (KeptAnswer K)). FitIn ys room) (sym is)) fit)
+
+-- An answer that fits alone is not among those that go.
+pub comes : {K : Type 0} → (answer : KeptAnswer K) (before after : KeptPart K) → after.room ≡ before.room → length (answer ∷ []) ≤ before.room.answers → kept_size answer ≤ before.room.bytes
+    → AreLeft (before.answers ++ answer ∷ []) after.answers before.room → Comes answer before after
+comes {K} answer before after room one small left =
+    let few : left.gone ≤ length before.answers = stays (nat_lt (length before.answers) left.gone) refl in
+    let parted : (n : ℕ) → n ≤ length before.answers → drop n (before.answers ++ answer ∷ []) ≡ drop n before.answers ++ answer ∷ []
+    = λ n within. drop-append-le n before.answers (answer ∷ []) within in
     record {
-      limit = limit;
-      count = (let one_more = ap length all in omega (arith, one_more, length-append xs (last ∷ []), there));
-      size = (let whole = ap (sum_by kept_size) all in omega (arith, whole, parts, sum, same));
-      small = omega (arith, sum, fits);
+      gone = left.gone;
+      room = room;
+      answers = left.are ∙ parted left.gone few;
+      fits = left.fit;
+      least = λ fewer below fit.
+          left.least fewer below (subst (λ (ys : List (KeptAnswer K)). FitIn ys before.room) (sym (parted fewer (omega (arith, below, few)))) fit);
     }
+  where
+    alone : FitIn (answer ∷ []) before.room
+    alone = (one, (let parts = first_of_all answer [] in omega (arith, small, parts)))
+
+    last : drop (length before.answers) (before.answers ++ answer ∷ []) ≡ answer ∷ []
+    last = drop-append-le (length before.answers) before.answers (answer ∷ []) (omega arith) ∙ ap (λ (ys : List (KeptAnswer K)). ys ++ answer ∷ []) (drop_all (length before.answers) before.answers (omega arith))
+
+    stays : (past : Bool) → nat_lt (length before.answers) left.gone ≡ past → left.gone ≤ length before.answers
+    stays true past =
+        absurd (left.least (length before.answers) (ltb-true (length before.answers) left.gone past) (subst (λ (ys : List (KeptAnswer K)). FitIn ys before.room) (sym last) alone))
+    stays false past = ltb-false (length before.answers) left.gone past
+
+both_hold : (a b : Bool) → (a && b) ≡ true → (a ≡ true) × (b ≡ true)
+both_hold true true is = (refl, refl)
+both_hold true false is = absurd (cc)
+both_hold false b is = absurd (cc)
+
+-- A kept answer was put behind the others, and as many went as had to.
+pub came : {K : Type 0} → (answer : KeptAnswer K) (before : KeptPart K) (pushed left : List (KeptAnswer K)) → is_kept_in answer before.room ≡ true → pushed ≡ before.answers ++ answer ∷ []
+    → AreLeft pushed left before.room → HasKept answer before (record { answers = left; room = before.room })
+came {K} answer before pushed left keeps is fewer =
+    let after : KeptPart K = record { answers = left; room = before.room } in
+    let room : Room = before.room in
+    let parts = both_hold (nat_le room.least (length answer.text)) (nat_lt 0 room.answers && nat_le (kept_size answer) room.bytes) keeps in
+    let rest = both_hold (nat_lt 0 room.answers) (nat_le (kept_size answer) room.bytes) parts.1 in
+    subst (λ (b : Bool). MatchBool b (Comes answer before after) (after ≡ before)) (sym keeps)
+    (comes answer before after refl (omega (arith, ltb-true 0 room.answers rest.0)) (leb-true (kept_size answer) room.bytes rest.1)
+    (subst (λ (xs : List (KeptAnswer K)). AreLeft xs left room) is fewer))

@@ -1,7 +1,7 @@
 -- Answers that a server keeps, each by the body of the request that it answered and, if the request has one, by its meaning: two
 -- requests with one meaning have one answer, however they are spelled. What a meaning is, which of them are the same, and which belong
 -- to the first part are parameters.
-use Rattle.std.specs.Prelude.{◌≡◌, ◌⊎◌, ◌+◌, ◌^◌, ◌<◌, ◌≤◌, ℕ, Bool, true, false, if◌then◌else◌, List, [], ◌∷◌, ◌++◌, length, take, drop, position, slice_get, sum_by, Option, Some, None, is_some, option_map, All}
+use Rattle.std.specs.Prelude.{◌≡◌, ◌&&◌, ◌+◌, ◌^◌, ◌<◌, ◌≤◌, ℕ, Bool, true, false, if◌then◌else◌, List, [], ◌∷◌, ◌++◌, length, take, drop, position, slice_get, sum_by, Option, Some, None, is_some, nat_le, nat_lt, option_map, All, MatchBool}
 use Rattle.std.specs.Str.{bytes_eq}
 use Rattle.http_edge.specs.Responses.{response_text}
 use Rattle.http_serving.specs.declared.kept.KeptAnswer.{KeptAnswer}
@@ -118,12 +118,34 @@ after_meaning same first (Some meaning) kept =
 
 -- ---- what is kept anew
 
--- Some of those went that were asked for least lately, and this answer came, or none.
-abbrev pub HasKept : {K : Type 0} → KeptAnswer K → (before after : KeptPart K) → Type 0
-HasKept answer before after =
-    (gone : ℕ) × (after.room ≡ before.room) × ((after.answers ≡ drop gone before.answers) ⊎ (after.answers ≡ drop gone before.answers ++ answer ∷ []))
+-- Whether a part keeps an answer: its text is long enough, and there is room for it if nothing else is kept.
+abbrev pub is_kept_in : {K : Type 0} → KeptAnswer K → Room → Bool
+is_kept_in answer room = nat_le room.least (length answer.text) && (nat_lt 0 room.answers && nat_le (kept_size answer) room.bytes)
 
--- It came into its part, and the other part is as it was.
+-- A part has room for these.
+abbrev pub FitIn : {K : Type 0} → List (KeptAnswer K) → Room → Type 0
+FitIn kept room = (length kept ≤ room.answers) × (sum_by kept_size kept ≤ room.bytes)
+
+-- Left of all of these are those behind the first ones, as many of which went as had to for a part to have room for the others.
+pub record AreLeft {K : Type 0} (all left : List (KeptAnswer K)) (room : Room) : Type 0 where
+  pub gone : ℕ
+  pub are : left ≡ drop gone all
+  pub fit : FitIn left room
+  pub least : (fewer : ℕ) → fewer < gone → FitIn (drop fewer all) room → ⊥
+
+-- An answer came behind the others. So many went that were asked for least lately, and no more than had to.
+pub record Comes {K : Type 0} (answer : KeptAnswer K) (before after : KeptPart K) : Type 0 where
+  pub gone : ℕ
+  pub room : after.room ≡ before.room
+  pub answers : after.answers ≡ drop gone before.answers ++ answer ∷ []
+  pub fits : FitIn after.answers before.room
+  pub least : (fewer : ℕ) → fewer < gone → FitIn (drop fewer before.answers ++ answer ∷ []) before.room → ⊥
+
+-- It came if its part keeps it, and else all is as it was.
+abbrev pub HasKept : {K : Type 0} → KeptAnswer K → (before after : KeptPart K) → Type 0
+HasKept answer before after = MatchBool (is_kept_in answer before.room) (Comes answer before after) (after ≡ before)
+
+-- So it is in the part of its meaning, and the other part is as it was.
 abbrev pub HasKeptIn : {K : Type 0} → KeptAnswer K → Bool → (before after : KeptLists K) → Type 0
 HasKeptIn answer true before after = HasKept answer before.first after.first × (after.others ≡ before.others)
 HasKeptIn answer false before after = HasKept answer before.others after.others × (after.first ≡ before.first)
@@ -136,12 +158,14 @@ IsSentAs response (answer.Written written) =
 IsSentAs response (answer.Shared shared) =
     (shared.status ≡ response.status) × (response.cause ≡ []) × (shared.text ≡ response_text response.status response.allow response.body)
 
--- The text of a response to a body came to what is kept, with this meaning, or nothing did.
-abbrev pub MayBeKept : {K : Type 0} → (K → Bool) → List ℕ → Option K → Response → (before after : KeptLists K) → Type 0
-MayBeKept first asked meaning response before after =
-    (after ≡ before)
-    ⊎ HasKeptIn (record { asked = asked; meaning = meaning; text = response_text response.status response.allow response.body })
+-- What comes of a response to a body, with this meaning, that is sent as this answer: one whose text is shared was kept as its part
+-- keeps answers, and with any other all is as it was.
+abbrev pub KeepsSent : {K : Type 0} → (K → Bool) → List ℕ → Option K → Response → Answer → (before after : KeptLists K) → Type 0
+KeepsSent first asked meaning response (answer.Shared shared) before after =
+    HasKeptIn (record { asked = asked; meaning = meaning; text = response_text response.status response.allow response.body })
     (is_for_first first meaning) before after
+KeepsSent first asked meaning response (answer.Made made) before after = after ≡ before
+KeepsSent first asked meaning response (answer.Written written) before after = after ≡ before
 
 -- ---- what is kept stays as it is to be
 
@@ -164,7 +188,7 @@ pub record StaysAsked {K : Type 0} (same : K → K → Bool) (first : K → Bool
 
 -- So does what is kept with one answer more that is such, and what is kept of nothing.
 pub record StaysKept {K : Type 0} (first : K → Bool) (P : KeptAnswer K → Type 0) : Type 0 where
-  pub more : (asked : List ℕ) (meaning : Option K) (response : Response) (before after : KeptLists K) → AreKept P before
+  pub more : (asked : List ℕ) (meaning : Option K) (response : Response) (sent : Answer) (before after : KeptLists K) → AreKept P before
       → P (record { asked = asked; meaning = meaning; text = response_text response.status response.allow response.body })
-      → MayBeKept first asked meaning response before after → AreKept P after
+      → KeepsSent first asked meaning response sent before after → AreKept P after
   pub none : (kept : KeptLists K) → AreKept P (emptied kept)

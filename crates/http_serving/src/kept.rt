@@ -1,6 +1,6 @@
-ghost use Rattle.std.specs.Prelude.{◌≡◌, ◌+◌, ◌^◌, ◌≤◌, ◌<◌, ℕ, Bool, List, [], false, drop, length, if◌then◌else◌, sum_by, IfOk, OnOk, OnErr, Some};
+ghost use Rattle.std.specs.Prelude.{◌≡◌, ◌+◌, ◌^◌, ◌≤◌, ◌<◌, ℕ, Bool, List, [], true, false, drop, length, if◌then◌else◌, sum_by, IfOk, OnOk, OnErr, Some};
 ghost use Rattle.http_edge.specs.Responses.{response_text};
-ghost use Rattle.http_serving.specs.Kept.{after_asking, after_body, after_first, after_meaning, after_other, emptied, has_meaning, is_for_first, kept_size, place_by_body, place_by_meaning, text_at, text_by_body, text_by_meaning, HasKept, HasKeptIn, HaveRoom, IsSentAs, MayBeKept};
+ghost use Rattle.http_serving.specs.Kept.{after_asking, after_body, after_first, after_meaning, after_other, emptied, has_meaning, is_for_first, kept_size, place_by_body, place_by_meaning, text_at, text_by_body, text_by_meaning, is_kept_in, AreFew, AreLeft, FitIn, HasKept, HasKeptIn, HaveRoom, IsSentAs, KeepsSent};
 
 use crate::responses::{Answer, Response, SharedResponse, write_out};
 use sb_model::{Bytes, OutOfMemory};
@@ -52,7 +52,7 @@ pub struct KeptAnswer<M> {
 impl<M> KeptAnswer<M> {
     /// How many bytes are counted for it, or some number that is too great.
     fn size(&self) -> usize
-        ensures exact { result < 2 ^ 32 → result ≡ kept_size self.now }
+        ensures exact { result < 2 ^ 33 → result ≡ kept_size self.now }
         ensures most { result ≤ kept_size self.now }
     {
         self.asked
@@ -108,6 +108,30 @@ fn put_last<M>(answers: &mut [KeptAnswer<M>], place: usize)
     ensures size { sum_by kept_size answers.new ≡ sum_by kept_size answers.old }
 {
     answers[place..].rotate_left(1);
+}
+
+/// Whether there are more answers, or more bytes of them, than there is room for.
+fn is_past<M>(answers: &[KeptAnswer<M>], bytes: usize, room: Room) -> bool
+    ensures past { result ≡ true → sum_by kept_size answers.now ≡ bytes → FitIn answers.now room → ⊥ }
+    ensures fits { result ≡ false → sum_by kept_size answers.now ≡ bytes → FitIn answers.now room }
+{
+    answers.len() > room.answers || bytes > room.bytes
+}
+
+/// Lets those go that were asked for least lately, until there is room for the others, and says how many bytes these have.
+fn let_go<M: Drop>(answers: &mut Vec<KeptAnswer<M>>, bytes: usize, room: Room) -> usize
+    requires limit { room.bytes < 2 ^ 32 }
+    requires few { bytes < 2 ^ 33 }
+    requires size { sum_by kept_size answers.old.items ≡ bytes }
+    ensures few { AreFew answers.new.items result room }
+    ensures left { AreLeft answers.old.items answers.new.items room }
+{
+    let mut left = bytes;
+    'kept: while is_past(answers.as_slice(), left, room) {
+        let oldest = answers.remove(0);
+        left -= oldest.size();
+    }
+    left
 }
 
 /// Answers in the order in which they were asked for, the one asked for least lately first.
@@ -168,54 +192,47 @@ impl<M: Drop> KeptPart<M> {
         Ok(Some(text))
     }
 
-    /// Whether there is no room for an answer of so many bytes.
-    fn is_full(&self, size: usize) -> bool
-        ensures { result ≡ false → (length self.now.answers < self.now.room.answers) × (sum_by kept_size self.now.answers + size ≤ self.now.room.bytes) }
+    /// Whether the part keeps an answer.
+    fn is_keeping(&self, answer: &KeptAnswer<M>) -> bool
+        ensures { result ≡ is_kept_in answer.now self.now.room }
     {
-        self.answers.len() >= self.room.answers || size > self.room.bytes - self.bytes
+        answer.text.as_slice().len() >= self.room.least
+            && self.room.answers > 0
+            && answer.size() <= self.room.bytes
     }
 
-    /// Lets those go that were asked for least lately, until there is room for so many bytes or none is left.
-    fn make_room(&mut self, size: usize)
-        ensures { (gone : ℕ) × (self.new ≡ record self.old { answers = drop gone self.old.answers }) }
+    /// Keeps an answer, and lets those go that were asked for least lately as far as its room is wanted.
+    fn keep(&mut self, answer: KeptAnswer<M>) -> Result<(), OutOfMemory>
+        ensures kept { OnOk result (HasKept answer self.old self.new) }
+        ensures err { OnErr result (self.new ≡ self.old) }
     {
-        'kept: while self.is_full(size) {
-            if self.answers.is_empty() {
-                return;
-            }
-            let oldest = self.answers.remove(0);
-            self.bytes -= oldest.size();
+        if !self.is_keeping(&answer) {
+            return Ok(());
         }
+        let bytes = self.bytes + answer.size();
+        if self.answers.push(answer).is_err() {
+            return Err(OutOfMemory);
+        }
+        self.bytes = let_go(&mut self.answers, bytes, self.room);
+        Ok(())
     }
 
-    /// Keeps an answer, and lets those go that were asked for least lately if there is no room. One for which the part has no
-    /// room at all is not kept, and none is if memory is refused.
-    fn keep(&mut self, answer: KeptAnswer<M>)
-        ensures { HasKept answer self.old self.new }
-    {
-        let size = answer.size();
-        if size > self.room.bytes {
-            return;
-        }
-        self.make_room(size);
-        if self.is_full(size) {
-            return;
-        }
-        if self.answers.push(answer).is_ok() {
-            self.bytes += size;
-        }
-    }
-
-    /// The same of an answer with this text, unless it is shorter than the part keeps.
-    fn keep_text(&mut self, alloc: Global, asked: &[u8], meaning: Option<M>, text: &SharedText)
-        ensures { HasKept (record { asked = asked.now; meaning = meaning; text = text.now }) self.old self.new }
+    /// The same of an answer with this text. One that is too short is not copied.
+    fn keep_text(
+        &mut self,
+        alloc: Global,
+        asked: &[u8],
+        meaning: Option<M>,
+        text: &SharedText,
+    ) -> Result<(), OutOfMemory>
+        ensures kept { OnOk result (HasKept (record { asked = asked.now; meaning = meaning; text = text.now }) self.old self.new) }
+        ensures err { OnErr result (self.new ≡ self.old) }
     {
         if text.as_slice().len() < self.room.least {
-            return;
+            return Ok(());
         }
-        if let Ok(answer) = copied(alloc, asked, meaning, text) {
-            self.keep(answer);
-        }
+        let answer = copied(alloc, asked, meaning, text)?;
+        self.keep(answer)
     }
 
     /// Lets all go.
@@ -316,19 +333,25 @@ impl<M: Meaning + Drop> KeptAnswers<M> {
         self.others.ask(place)
     }
 
-    /// Keeps an answer in its part, unless its text is shorter than that part keeps. None is kept if memory is refused.
-    fn keep(&mut self, asked: &[u8], meaning: Option<M>, text: &SharedText)
-        ensures { HasKeptIn (record { asked = asked.now; meaning = meaning; text = text.now }) (is_for_first M.first meaning) self.old self.new }
+    /// Keeps an answer in the part of its meaning.
+    fn keep(
+        &mut self,
+        asked: &[u8],
+        meaning: Option<M>,
+        text: &SharedText,
+    ) -> Result<(), OutOfMemory>
+        ensures kept { OnOk result (HasKeptIn (record { asked = asked.now; meaning = meaning; text = text.now }) (is_for_first M.first meaning) self.old self.new) }
+        ensures err { OnErr result (self.new ≡ self.old) }
     {
         if is_for_first(&meaning) {
-            self.first.keep_text(self.alloc, asked, meaning, text);
+            self.first.keep_text(self.alloc, asked, meaning, text)
         } else {
-            self.others.keep_text(self.alloc, asked, meaning, text);
+            self.others.keep_text(self.alloc, asked, meaning, text)
         }
     }
 
-    /// The answer that a response is whose text is written out. It may be kept. If memory to share it is refused, it is sent all
-    /// the same.
+    /// The answer that a response is whose text is written out. Its text is shared and kept. If memory for that is refused, the
+    /// response is sent as it is.
     fn keep_written(
         &mut self,
         asked: &[u8],
@@ -339,20 +362,23 @@ impl<M: Meaning + Drop> KeptAnswers<M> {
         requires text { text ≡ response_text response.status response.allow response.body }
         requires cause { response.cause ≡ [] }
         ensures answer { IsSentAs response result }
-        ensures kept { MayBeKept M.first asked.now meaning response self.old self.new }
+        ensures kept { KeepsSent M.first asked.now meaning response result self.old self.new }
     {
         let Ok(text) = self.shared(text) else {
             return Answer::Made(response);
         };
-        self.keep(asked, meaning, &text);
-        Answer::Shared(SharedResponse {
-            status: response.status,
-            text,
-        })
+        match self.keep(asked, meaning, &text) {
+            Ok(()) => Answer::Shared(SharedResponse {
+                status: response.status,
+                text,
+            }),
+            Err(OutOfMemory) => Answer::Made(response),
+        }
     }
 
-    /// The answer that a response is to a request with this body and this meaning, if it has one. It is written out and may be kept.
-    /// If it is too long for that or memory is refused, it is sent all the same.
+    /// The answer that a response is to a request with this body and this meaning, if it has one. Its text is written out and shared,
+    /// and kept if the part of its meaning keeps it: then those go that were asked for least lately, and no more than have to. If the
+    /// body has more than 16 MiB or memory is refused, the response is sent as it is and nothing is kept.
     pub fn keep_response(
         &mut self,
         alloc: Global,
@@ -362,7 +388,7 @@ impl<M: Meaning + Drop> KeptAnswers<M> {
     ) -> Answer
         requires { response.cause ≡ [] }
         ensures answer { IsSentAs response result }
-        ensures kept { MayBeKept M.first asked.now meaning response self.old self.new }
+        ensures kept { KeepsSent M.first asked.now meaning response result self.old self.new }
     {
         if response.body.len() > MOST_KEPT {
             return Answer::Made(response);

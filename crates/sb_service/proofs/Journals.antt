@@ -10,7 +10,7 @@ use Rattle.list_versions.specs.declared.fault.JournalFault.{JournalFault}
 use Rattle.list_versions.specs.declared.fault.JournalFault.TheVariants as journal
 use Rattle.sb_service.specs.Answer.{AfterFault, IsSilent}
 use Rattle.sb_service.specs.declared.serve.ServePlan.{ServePlan}
-use Rattle.sb_service.specs.Serving.{Turn, Gains, Grows, gained_in, AreOfJournal, HasHeld, HasNoBadLine, HasNotGrown, HasRun, IsLined, IsRefusal, IsServeRun, IsTurn, Seen, Stops, HasBegun, AfterLoad}
+use Rattle.sb_service.specs.Serving.{Turn, Gains, Grows, gained_in, AreOfJournal, HasHeld, HasNoBadLine, HasNotGrown, HasRun, IsLined, IsRefusal, IsServeRun, IsTurn, Seen, ServeView, Stops, HasBegun, AfterLoad, seen_with}
 use Rattle.http_serving.specs.declared.ends.ConnectionEnd.{ConnectionEnd}
 use Rattle.sb_service.proofs.Loads.{told_front, IsLoadedAs, loaded_as}
 use Rattle.sb_outside.specs.declared.doors.Connection.{Connection}
@@ -180,32 +180,32 @@ run_ends law pieces hold plan connections status first after none at other run =
     ends_with_0 law pieces hold (length run.turns) plan connections status run.last after none
     (after_turns law pieces run.turns first.left run.last.left first.kept run.last.kept at run.turned.gains run.turned.grows) other run.stops
 
-begun_ends : CutsLaw → (pieces : List (List ℕ)) (plan : ServePlan) (status : ℕ) (bytes : List ℕ) (kept : Kept) (read left' : Option (List (List ℕ))) (held held' : Option (List ℕ)) (log log' : Option (List Connection))
-    (coming coming' : Option (List (List (List ℕ)))) → HasNoBadLine pieces → IsAfter pieces 0 read kept → IsOther status → HasBegun plan status bytes kept read left' held held' log log' coming coming' → status ≡ 0
-begun_ends law pieces plan status bytes kept read left' held held' log log' coming coming' none at other begun =
-    run_ends law pieces plan.hold plan plan.connections status (record { left = read; kept = kept; held = held; log = log; coming = coming }) (record { left = left'; kept = begun.last; held = held'; log = log'; coming = coming' }) none at other begun.run
+begun_ends : CutsLaw → (pieces : List (List ℕ)) (plan : ServePlan) (status : ℕ) (bytes : List ℕ) (kept : Kept) (before after : ServeView) → HasNoBadLine pieces → IsAfter pieces 0 before.left kept
+    → IsOther status → HasBegun plan status bytes kept before after → status ≡ 0
+begun_ends law pieces plan status bytes kept before after none at other begun =
+    run_ends law pieces plan.hold plan plan.connections status (seen_with kept before) (seen_with begun.last after) none at other begun.run
 
-load_ends : CutsLaw → (pieces : List (List ℕ)) (plan : ServePlan) (status : ℕ) (bytes : List ℕ) (ended : Bool) (read left' : Option (List (List ℕ))) (held held' : Option (List ℕ)) (log log' : Option (List Connection))
-    (coming coming' : Option (List (List (List ℕ)))) (kept : Kept) → HasNoBadLine pieces → kept_of (next_piece pieces) ≡ Ok kept → IsOther status → Gives bytes ended (Some pieces) read
-    → (loaded : Result Kept JournalFault) → JournalOutcome bytes ended loaded → IsLoadedAs kept loaded → AfterLoad plan bytes loaded status read left' held held' log log' coming coming' → status ≡ 0
-load_ends law pieces plan status bytes ended read left' held held' log log' coming coming' kept none told other gives (Ok found) outcome (inl is) begun =
-    let whole : Gives bytes true (Some pieces) read = subst (λ (e : Bool). Gives bytes e (Some pieces) read) outcome.0 gives in
-    let rest = some_left (Some pieces) pieces bytes read refl whole in
+load_ends : CutsLaw → (pieces : List (List ℕ)) (plan : ServePlan) (status : ℕ) (bytes : List ℕ) (ended : Bool) (before after : ServeView) (kept : Kept) → HasNoBadLine pieces
+    → kept_of (next_piece pieces) ≡ Ok kept → IsOther status → Gives bytes ended (Some pieces) before.left
+    → (loaded : Result Kept JournalFault) → JournalOutcome bytes ended loaded → IsLoadedAs kept loaded → AfterLoad plan bytes loaded status before after → status ≡ 0
+load_ends law pieces plan status bytes ended before after kept none told other gives (Ok found) outcome (inl is) begun =
+    let whole : Gives bytes true (Some pieces) before.left = subst (λ (e : Bool). Gives bytes e (Some pieces) before.left) outcome.0 gives in
+    let rest = some_left (Some pieces) pieces bytes before.left refl whole in
     let first : kept_of (next_piece pieces) ≡ Ok found = told ∙ sym is in
-    begun_ends law pieces plan status bytes found read left' held held' log log' coming coming' none (begins pieces read found rest.1 first) other begun
-load_ends law pieces plan status bytes ended read left' held held' log log' coming coming' kept none told other gives (Ok found) outcome (inr (inl is)) begun = absurd (cc)
-load_ends law pieces plan status bytes ended read left' held held' log log' coming coming' kept none told other gives (Ok found) outcome (inr (inr is)) begun = absurd (cc)
-load_ends law pieces plan status bytes ended read left' held held' log log' coming coming' kept none told other gives (Err fault) outcome (inl is) not = absurd (cc)
-load_ends law pieces plan status bytes ended read left' held held' log log' coming coming' kept none told other gives (Err fault) outcome (inr (inl is)) not =
-    absurd (faultless fault status held held' other (inl (cc)) not.refusal)
-load_ends law pieces plan status bytes ended read left' held held' log log' coming coming' kept none told other gives (Err fault) outcome (inr (inr is)) not =
-    absurd (faultless fault status held held' other (inr (cc)) not.refusal)
+    begun_ends law pieces plan status bytes found before after none (begins pieces before.left found rest.1 first) other begun
+load_ends law pieces plan status bytes ended before after kept none told other gives (Ok found) outcome (inr (inl is)) begun = absurd (cc)
+load_ends law pieces plan status bytes ended before after kept none told other gives (Ok found) outcome (inr (inr is)) begun = absurd (cc)
+load_ends law pieces plan status bytes ended before after kept none told other gives (Err fault) outcome (inl is) not = absurd (cc)
+load_ends law pieces plan status bytes ended before after kept none told other gives (Err fault) outcome (inr (inl is)) not =
+    absurd (faultless fault status before.output after.output other (inl (cc)) not.refusal)
+load_ends law pieces plan status bytes ended before after kept none told other gives (Err fault) outcome (inr (inr is)) not =
+    absurd (faultless fault status before.output after.output other (inr (cc)) not.refusal)
 
-pub served_to_the_end : CutsLaw → (plan : ServePlan) (status : ℕ) (pieces : List (List ℕ)) (left left' : Option (List (List ℕ))) (held held' : Option (List ℕ)) (log log' : Option (List Connection))
-    (coming coming' : Option (List (List (List ℕ)))) → left ≡ Some pieces → HasNoBadLine pieces → IsServeRun plan status left left' held held' log log' coming coming' → IsOther status → status ≡ 0
-served_to_the_end law plan status pieces left left' held held' log log' coming coming' told none run other =
+pub served_to_the_end : CutsLaw → (plan : ServePlan) (status : ℕ) (pieces : List (List ℕ)) (before after : ServeView) → before.left ≡ Some pieces → HasNoBadLine pieces
+    → IsServeRun plan status before after → IsOther status → status ≡ 0
+served_to_the_end law plan status pieces before after told none run other =
     let first = none 0 in
     let begins : kept_of (next_piece pieces) ≡ Ok first.0 = ap kept_of (sym (one_further 0 pieces)) ∙ first.1 in
     let gives : Gives run.bytes run.ended (Some pieces) run.read = subst (λ (l : Option (List (List ℕ))). Gives run.bytes run.ended l run.read) told run.gives in
-    load_ends law pieces plan status run.bytes run.ended run.read left' held held' log log' coming coming' first.0 none begins other gives run.loaded run.outcome
-    (loaded_as run.bytes run.ended pieces run.read first.0 run.loaded gives begins run.outcome) run.after
+    load_ends law pieces plan status run.bytes run.ended (record before { left = run.read }) after first.0 none begins other gives run.loaded run.outcome
+    (loaded_as run.bytes run.ended pieces run.read first.0 run.loaded gives begins run.outcome) run.leads

@@ -7,7 +7,7 @@ use Rattle.sb_outside.specs.declared.doors.Connection.{Connection}
 use Rattle.delta_server.specs.declared.answering.Settings.{Settings}
 use Rattle.http_serving.specs.Serving.{IsServed}
 use Rattle.sb_service.specs.Connection.{IsResponseTo}
-use Rattle.sb_service.specs.Serving.{IsTaken, pieces_of, AreServed, Turn, Seen, HasTurns, HasGrown, HasHeld, HasHeldOn, HasStayed, HeldEnds, Holds, IsLined, IsRefusal, IsTold, IsTurn, lines_of, printed_of, with_entries, HasRun, IsServeRun, Stays, StopsAt}
+use Rattle.sb_service.specs.Serving.{IsTaken, pieces_of, AreServed, Turn, Seen, HasTurns, HasGrown, HasHeld, HasHeldOn, HasStayed, HeldEnds, Holds, IsLined, IsRefusal, IsTold, IsTurn, lines_of, printed_of, with_entries, HasRun, IsServeRun, ServeView, Stays, StopsAt}
 use Rattle.sb_service.specs.Stops.{status_of}
 use Rattle.sb_service.specs.declared.serve.ServePlan.{ServePlan}
 use Rattle.sb_service.specs.declared.stop.Stop.{Stop}
@@ -229,13 +229,13 @@ gives_nothing : (left : Option (List (List ℕ))) → GivesFront [] left left
 gives_nothing None = record { front = refl; later = refl }
 gives_nothing (Some left) = record { front = refl; later = refl }
 
-pub nothing_done : (plan : ServePlan) (left : Option (List (List ℕ))) (held : Option (List ℕ)) (log : Option (List Connection)) (coming : Option (List (List (List ℕ)))) → IsServeRun plan 8 left left held held log log coming coming
-nothing_done plan left held log coming = record {
+pub nothing_done : (plan : ServePlan) (view : ServeView) → IsServeRun plan 8 view view
+nothing_done plan view = record {
   bytes = [];
   ended = false;
-  read = left;
-  gives = gives_nothing left;
+  read = view.left;
+  gives = gives_nothing view.left;
   loaded = Err journal.OutOfMemory;
   outcome = tt;
-  after = record { unread = refl; refusal = inl (record { ends = refl; nothing = refl }); untouched = refl; untaken = refl };
+  leads = record { unread = refl; refusal = inl (record { ends = refl; nothing = refl }); untouched = refl; untaken = refl };
 }

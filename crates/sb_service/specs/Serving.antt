@@ -250,41 +250,49 @@ pub record HasRun (hold : Bool) (plan : ServePlan) (connections status : ℕ) (b
   pub turned : HasTurns plan turns before last
   pub stops : Stops hold plan connections (length turns) status last after
 
+-- What is seen of a run beside what its journal tells: what the journal has left, what the output holds, what the door's log says, and
+-- what is to come at the door.
+pub record ServeView : Type 0 where
+  pub left : Option (List (List ℕ))
+  pub output : Option (List ℕ)
+  pub log : Option (List Connection)
+  pub coming : Option (List (List (List ℕ)))
+
+abbrev pub serve_view : Option (List (List ℕ)) → Option (List ℕ) → Option (List Connection) → Option (List (List (List ℕ))) → ServeView
+serve_view left output log coming = record { left = left; output = output; log = log; coming = coming }
+
+-- the same with what the journal tells
+abbrev pub seen_with : Kept → ServeView → Seen
+seen_with kept view = record { left = view.left; kept = kept; held = view.output; log = view.log; coming = view.coming }
+
 -- A journal that was not loaded ends the run before any connection.
-pub record HasNotBegun (fault : JournalFault) (status : ℕ) (left left' : Option (List (List ℕ)))
-    (held held' : Option (List ℕ)) (log log' : Option (List Connection)) (coming coming' : Option (List (List (List ℕ)))) : Type 0 where
-  pub unread : left' ≡ left
-  pub refusal : IsRefusal fault status held held'
-  pub untouched : log' ≡ log
-  pub untaken : coming' ≡ coming
+pub record HasNotBegun (fault : JournalFault) (status : ℕ) (before after : ServeView) : Type 0 where
+  pub unread : after.left ≡ before.left
+  pub refusal : IsRefusal fault status before.output after.output
+  pub untouched : after.log ≡ before.log
+  pub untaken : after.coming ≡ before.coming
 
 -- One that was loaded grew from turn to turn, and each history that was lent is the one of its bytes so far.
-pub record HasBegun (plan : ServePlan) (status : ℕ) (bytes : List ℕ) (kept : Kept) (left left' : Option (List (List ℕ)))
-    (held held' : Option (List ℕ)) (log log' : Option (List Connection)) (coming coming' : Option (List (List (List ℕ)))) : Type 0 where
+pub record HasBegun (plan : ServePlan) (status : ℕ) (bytes : List ℕ) (kept : Kept) (before after : ServeView) : Type 0 where
   pub last : Kept
-  pub run : HasRun plan.hold plan plan.connections status (record { left = left; kept = kept; held = held; log = log; coming = coming })
-      (record { left = left'; kept = last; held = held'; log = log'; coming = coming' })
+  pub run : HasRun plan.hold plan plan.connections status (seen_with kept before) (seen_with last after)
   pub journal : AreOfJournal bytes run.turns
 
 -- what the journal led to
-abbrev pub AfterLoad : ServePlan → List ℕ → Result Kept JournalFault → ℕ → (left left' : Option (List (List ℕ)))
-    → (held held' : Option (List ℕ)) → (log log' : Option (List Connection)) → (coming coming' : Option (List (List (List ℕ)))) → Type 0
-AfterLoad plan bytes (Ok kept) status left left' held held' log log' coming coming' =
-    HasBegun plan status bytes kept left left' held held' log log' coming coming'
-AfterLoad plan bytes (Err fault) status left left' held held' log log' coming coming' =
-    HasNotBegun fault status left left' held held' log log' coming coming'
+abbrev pub AfterLoad : ServePlan → List ℕ → Result Kept JournalFault → ℕ → (before after : ServeView) → Type 0
+AfterLoad plan bytes (Ok kept) status before after = HasBegun plan status bytes kept before after
+AfterLoad plan bytes (Err fault) status before after = HasNotBegun fault status before after
 
 -- A run of `serve`, by this plan: the journal gave these bytes, with its end or without, and what they come to decided what became
 -- of the rest.
-pub record IsServeRun (plan : ServePlan) (status : ℕ) (left left' : Option (List (List ℕ)))
-    (held held' : Option (List ℕ)) (log log' : Option (List Connection)) (coming coming' : Option (List (List (List ℕ)))) : Type 0 where
+pub record IsServeRun (plan : ServePlan) (status : ℕ) (before after : ServeView) : Type 0 where
   pub bytes : List ℕ
   pub ended : Bool
   pub read : Option (List (List ℕ))
-  pub gives : Gives bytes ended left read
+  pub gives : Gives bytes ended before.left read
   pub loaded : Result Kept JournalFault
   pub outcome : JournalOutcome bytes ended loaded
-  pub after : AfterLoad plan bytes loaded status read left' held held' log log' coming coming'
+  pub leads : AfterLoad plan bytes loaded status (record before { left = read }) after
 
 -- A journal that is told has no bad line up to any of its ends.
 abbrev pub HasNoBadLine : List (List ℕ) → Type 0

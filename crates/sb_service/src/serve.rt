@@ -4,7 +4,7 @@ ghost use Rattle.sb_outside.specs.declared.doors.Connection.{Connection};
 ghost use Rattle.list_versions.specs.declared.fault.JournalFault.{JournalFault};
 ghost use Rattle.http_serving.specs.Returning.{IsFresh};
 ghost use Rattle.sb_service.specs.Kept.{AreKeptOf};
-ghost use Rattle.sb_service.specs.Serving.{HasGrown, HasHeld, HasHeldOn, HasRun, HasStayed, HeldEnds, IsLined, IsOpened, IsRefusal, IsServeRun, IsTaken, IsTold, IsTurn, StopsAt};
+ghost use Rattle.sb_service.specs.Serving.{HasGrown, HasHeld, HasHeldOn, HasRun, HasStayed, HeldEnds, IsLined, IsOpened, IsRefusal, IsServeRun, IsTaken, IsTold, IsTurn, StopsAt, serve_view};
 ghost use Rattle.sb_service.specs.Stops.{status_of};
 ghost use Rattle.sb_service.specs.declared.serve.Further.{Further as Goes};
 
@@ -40,6 +40,13 @@ enum Further {
     Looking,
     /// A bad line was told. The lists are held as they are.
     Holding,
+}
+
+/// What is served: the history that the journal told so far, and the answers that are kept of it.
+#[derive(Drop)]
+struct Served {
+    history: History,
+    kept: KeptAnswers<Wishes>,
 }
 
 /// Prints the line of a connection that ended. Answers `Done`, or what ends the run.
@@ -152,34 +159,33 @@ fn goes_on(stop: Stop, further: Further) -> Result<Further, Stop>
 /// was, and else it goes back. Answers how the run goes on, or what ends it.
 fn take_turn<J: Source, O: Sink, D: Door>(
     alloc: Global,
-    history: &mut History,
+    served: &mut Served,
     plan: &ServePlan,
-    kept: &mut KeptAnswers<Wishes>,
     number: u32,
     journal: &mut J,
     out: &mut O,
     door: &mut D,
     wire: D::Wire,
 ) -> Result<Further, Stop>
-    requires { AreKeptOf history.old.versions plan.now.settings kept.old }
+    requires { AreKeptOf served.old.history.versions plan.now.settings served.old.kept }
     ensures looking { (before : Option (List Connection)) (coming : Option (List (List (List ℕ)))) (pieces : List (List ℕ))
         → IsOpened before (D.log door.old) (D.Wire.number wire) → IsTaken pieces coming (D.coming door.old)
         → IsFresh pieces (D.Wire.start wire) (D.Wire.left wire) (D.Wire.contents wire) (D.Wire.Source.faults wire) (D.Wire.Sink.faults wire)
         → result ≡ Ok Further.Looking → HasGrown plan.now number 0
-        (record { left = J.left journal.old; kept = history.old; held = O.contents out.old; log = before; coming = coming })
-        (record { left = J.left journal.new; kept = history.new; held = O.contents out.new; log = D.log door.new; coming = D.coming door.new }) }
+        (record { left = J.left journal.old; kept = served.old.history; held = O.contents out.old; log = before; coming = coming })
+        (record { left = J.left journal.new; kept = served.new.history; held = O.contents out.new; log = D.log door.new; coming = D.coming door.new }) }
     ensures holding { (before : Option (List Connection)) (coming : Option (List (List (List ℕ)))) (pieces : List (List ℕ))
         → IsOpened before (D.log door.old) (D.Wire.number wire) → IsTaken pieces coming (D.coming door.old)
         → IsFresh pieces (D.Wire.start wire) (D.Wire.left wire) (D.Wire.contents wire) (D.Wire.Source.faults wire) (D.Wire.Sink.faults wire)
         → result ≡ Ok Further.Holding → (plan.now.hold ≡ true) × HasHeld plan.now number 0
-        (record { left = J.left journal.old; kept = history.old; held = O.contents out.old; log = before; coming = coming })
-        (record { left = J.left journal.new; kept = history.new; held = O.contents out.new; log = D.log door.new; coming = D.coming door.new }) }
+        (record { left = J.left journal.old; kept = served.old.history; held = O.contents out.old; log = before; coming = coming })
+        (record { left = J.left journal.new; kept = served.new.history; held = O.contents out.new; log = D.log door.new; coming = D.coming door.new }) }
     ensures stops { (before : Option (List Connection)) (coming : Option (List (List (List ℕ)))) (pieces : List (List ℕ))
         → IsOpened before (D.log door.old) (D.Wire.number wire) → IsTaken pieces coming (D.coming door.old)
         → IsFresh pieces (D.Wire.start wire) (D.Wire.left wire) (D.Wire.contents wire) (D.Wire.Source.faults wire) (D.Wire.Sink.faults wire)
         → IfErr result (λ stop. IsTurn plan.now.hold plan.now number (status_of stop)
-        (record { left = J.left journal.old; kept = history.old; held = O.contents out.old; log = before; coming = coming })
-        (record { left = J.left journal.new; kept = history.new; held = O.contents out.new; log = D.log door.new; coming = D.coming door.new })) }
+        (record { left = J.left journal.old; kept = served.old.history; held = O.contents out.old; log = before; coming = coming })
+        (record { left = J.left journal.new; kept = served.new.history; held = O.contents out.new; log = D.log door.new; coming = D.coming door.new })) }
     ensures ends { IfErr result (λ stop. (stop ≡ Stop.ReadFault) ⊎ (stop ≡ Stop.WriteFault) ⊎ (stop ≡ Stop.BadJournal) ⊎ (stop ≡ Stop.OutOfMemory)) }
     ensures read_failed { result ≡ Err Stop.ReadFault → Rose (J.faults journal.old) (J.faults journal.new) }
     ensures read_kept { result ≢ Err Stop.ReadFault → J.faults journal.new ≡ J.faults journal.old }
@@ -187,18 +193,18 @@ fn take_turn<J: Source, O: Sink, D: Door>(
     ensures kept { result ≢ Err Stop.WriteFault → O.faults out.new ≡ O.faults out.old }
     ensures door_kept { D.faults door.new ≡ D.faults door.old }
     ensures coming { D.coming door.new ≡ D.coming door.old }
-    ensures answers { AreKeptOf history.new.versions plan.now.settings kept.new }
+    ensures answers { AreKeptOf served.new.history.versions plan.now.settings served.new.kept }
 {
-    match history.grow_if_more(alloc, journal) {
+    match served.history.grow_if_more(alloc, journal) {
         Ok(grown) => {
-            kept.forget_if(grown);
-            let stop = serve_taken(alloc, history, plan, kept, number, out, door, wire);
+            served.kept.forget_if(grown);
+            let stop = serve_taken(alloc, &served.history, plan, &mut served.kept, number, out, door, wire);
             goes_on(stop, Further::Looking)
         }
         Err(fault) => {
             let stop = refuse(alloc, fault, out);
             if plan.hold && is_bad_journal(stop) {
-                let stop = serve_taken(alloc, history, plan, kept, number, out, door, wire);
+                let stop = serve_taken(alloc, &served.history, plan, &mut served.kept, number, out, door, wire);
                 return goes_on(stop, Further::Holding);
             }
             give_back(door, wire);
@@ -210,24 +216,23 @@ fn take_turn<J: Source, O: Sink, D: Door>(
 /// Takes the next connection, and what follows on it. Answers how the run goes on, or what ends it.
 fn take_next<J: Source, O: Sink, D: Door>(
     alloc: Global,
-    history: &mut History,
+    served: &mut Served,
     plan: &ServePlan,
-    kept: &mut KeptAnswers<Wishes>,
     number: u32,
     journal: &mut J,
     out: &mut O,
     door: &mut D,
 ) -> Result<Further, Stop>
-    requires { AreKeptOf history.old.versions plan.now.settings kept.old }
+    requires { AreKeptOf served.old.history.versions plan.now.settings served.old.kept }
     ensures looking { result ≡ Ok Further.Looking → HasGrown plan.now number 0
-        (record { left = J.left journal.old; kept = history.old; held = O.contents out.old; log = D.log door.old; coming = D.coming door.old })
-        (record { left = J.left journal.new; kept = history.new; held = O.contents out.new; log = D.log door.new; coming = D.coming door.new }) }
+        (record { left = J.left journal.old; kept = served.old.history; held = O.contents out.old; log = D.log door.old; coming = D.coming door.old })
+        (record { left = J.left journal.new; kept = served.new.history; held = O.contents out.new; log = D.log door.new; coming = D.coming door.new }) }
     ensures holding { result ≡ Ok Further.Holding → (plan.now.hold ≡ true) × HasHeld plan.now number 0
-        (record { left = J.left journal.old; kept = history.old; held = O.contents out.old; log = D.log door.old; coming = D.coming door.old })
-        (record { left = J.left journal.new; kept = history.new; held = O.contents out.new; log = D.log door.new; coming = D.coming door.new }) }
+        (record { left = J.left journal.old; kept = served.old.history; held = O.contents out.old; log = D.log door.old; coming = D.coming door.old })
+        (record { left = J.left journal.new; kept = served.new.history; held = O.contents out.new; log = D.log door.new; coming = D.coming door.new }) }
     ensures stops { IfErr result (λ stop. StopsAt plan.now.hold plan.now number (status_of stop)
-        (record { left = J.left journal.old; kept = history.old; held = O.contents out.old; log = D.log door.old; coming = D.coming door.old })
-        (record { left = J.left journal.new; kept = history.new; held = O.contents out.new; log = D.log door.new; coming = D.coming door.new })) }
+        (record { left = J.left journal.old; kept = served.old.history; held = O.contents out.old; log = D.log door.old; coming = D.coming door.old })
+        (record { left = J.left journal.new; kept = served.new.history; held = O.contents out.new; log = D.log door.new; coming = D.coming door.new })) }
     ensures ends { IfErr result (λ stop.
         (stop ≡ Stop.Done) ⊎ (stop ≡ Stop.ReadFault) ⊎ (stop ≡ Stop.WriteFault) ⊎ (stop ≡ Stop.BadJournal) ⊎ (stop ≡ Stop.OutOfMemory) ⊎ (stop ≡ Stop.DoorFault)) }
     ensures read_failed { result ≡ Err Stop.ReadFault → Rose (J.faults journal.old) (J.faults journal.new) }
@@ -236,10 +241,10 @@ fn take_next<J: Source, O: Sink, D: Door>(
     ensures kept { result ≢ Err Stop.WriteFault → O.faults out.new ≡ O.faults out.old }
     ensures door_failed { result ≡ Err Stop.DoorFault → Rose (D.faults door.old) (D.faults door.new) }
     ensures door_kept { result ≢ Err Stop.DoorFault → D.faults door.new ≡ D.faults door.old }
-    ensures answers { AreKeptOf history.new.versions plan.now.settings kept.new }
+    ensures answers { AreKeptOf served.new.history.versions plan.now.settings served.new.kept }
 {
     match door.next() {
-        Ok(Some(wire)) => take_turn(alloc, history, plan, kept, number, journal, out, door, wire),
+        Ok(Some(wire)) => take_turn(alloc, served, plan, number, journal, out, door, wire),
         Ok(None) => Err(Stop::Done),
         Err(Failed) => Err(Stop::DoorFault),
     }
@@ -317,15 +322,16 @@ fn serve_held<O: Sink, D: Door>(
 /// Serves the connections that the plan says, and answers what ends the run.
 fn serve_connections<J: Source, O: Sink, D: Door>(
     alloc: Global,
-    history: &mut History,
+    served: &mut Served,
     plan: &ServePlan,
     journal: &mut J,
     out: &mut O,
     door: &mut D,
 ) -> Stop
+    requires { AreKeptOf served.old.history.versions plan.now.settings served.old.kept }
     ensures run { HasRun plan.now.hold plan.now plan.now.connections (status_of result)
-        (record { left = J.left journal.old; kept = history.old; held = O.contents out.old; log = D.log door.old; coming = D.coming door.old })
-        (record { left = J.left journal.new; kept = history.new; held = O.contents out.new; log = D.log door.new; coming = D.coming door.new }) }
+        (record { left = J.left journal.old; kept = served.old.history; held = O.contents out.old; log = D.log door.old; coming = D.coming door.old })
+        (record { left = J.left journal.new; kept = served.new.history; held = O.contents out.new; log = D.log door.new; coming = D.coming door.new }) }
     ensures ends { (result ≡ Stop.Done) ⊎ (result ≡ Stop.ReadFault) ⊎ (result ≡ Stop.WriteFault) ⊎ (result ≡ Stop.BadJournal) ⊎ (result ≡ Stop.OutOfMemory) ⊎ (result ≡ Stop.DoorFault) }
     ensures read_failed { result ≡ Stop.ReadFault → Rose (J.faults journal.old) (J.faults journal.new) }
     ensures read_kept { result ≢ Stop.ReadFault → J.faults journal.new ≡ J.faults journal.old }
@@ -334,21 +340,11 @@ fn serve_connections<J: Source, O: Sink, D: Door>(
     ensures door_failed { result ≡ Stop.DoorFault → Rose (D.faults door.old) (D.faults door.new) }
     ensures door_kept { result ≢ Stop.DoorFault → D.faults door.new ≡ D.faults door.old }
 {
-    let mut kept = nothing_kept(alloc);
     for taken in 0..plan.connections {
-        match take_next(
-            alloc,
-            history,
-            plan,
-            &mut kept,
-            taken + 1,
-            journal,
-            out,
-            door,
-        ) {
+        match take_next(alloc, served, plan, taken + 1, journal, out, door) {
             Ok(Further::Looking) => {}
             Ok(Further::Holding) => {
-                return serve_held(alloc, history, plan, &mut kept, taken + 1, out, door);
+                return serve_held(alloc, &served.history, plan, &mut served.kept, taken + 1, out, door);
             }
             Err(stop) => return stop,
         }
@@ -364,8 +360,9 @@ pub(crate) fn serve<J: Source, O: Sink, D: Door>(
     out: &mut O,
     door: &mut D,
 ) -> Stop
-    ensures run { IsServeRun plan.now (status_of result) (J.left journal.old) (J.left journal.new)
-        (O.contents out.old) (O.contents out.new) (D.log door.old) (D.log door.new) (D.coming door.old) (D.coming door.new) }
+    ensures run { IsServeRun plan.now (status_of result)
+        (serve_view (J.left journal.old) (O.contents out.old) (D.log door.old) (D.coming door.old))
+        (serve_view (J.left journal.new) (O.contents out.new) (D.log door.new) (D.coming door.new)) }
     ensures ends { (result ≡ Stop.Done) ⊎ (result ≡ Stop.ReadFault) ⊎ (result ≡ Stop.WriteFault) ⊎ (result ≡ Stop.BadJournal) ⊎ (result ≡ Stop.OutOfMemory) ⊎ (result ≡ Stop.DoorFault) }
     ensures read_failed { result ≡ Stop.ReadFault → Rose (J.faults journal.old) (J.faults journal.new) }
     ensures read_kept { result ≢ Stop.ReadFault → J.faults journal.new ≡ J.faults journal.old }
@@ -376,7 +373,13 @@ pub(crate) fn serve<J: Source, O: Sink, D: Door>(
 {
     cuts_make_no_difference();
     match History::load(alloc, journal) {
-        Ok(mut history) => serve_connections(alloc, &mut history, plan, journal, out, door),
+        Ok(history) => {
+            let mut served = Served {
+                history,
+                kept: nothing_kept(alloc),
+            };
+            serve_connections(alloc, &mut served, plan, journal, out, door)
+        }
         Err(fault) => refuse(alloc, fault, out),
     }
 }

@@ -13,7 +13,7 @@ ghost use Rattle.sb_service.specs.declared.serve.ServePlan.{ServePlan};
 ghost use Rattle.sb_service.specs.Made.{generated_text, printed_whole};
 ghost use Rattle.sb_service.specs.Printed.{answer_line};
 ghost use Rattle.sb_service.specs.Answer.{AreCounted, HasNoFault, IsAnswerOf, IsAnswerRun, IsStatus, IsWritten, TellsUsage, most_body};
-ghost use Rattle.sb_service.specs.Serving.{HasNoBadLine, IsServeRun};
+ghost use Rattle.sb_service.specs.Serving.{HasNoBadLine, IsServeRun, serve_view};
 
 use crate::answer::answer;
 use crate::command::{Command, GenerateLine, command_of};
@@ -74,8 +74,9 @@ fn run_command<J: Source, S: Source, O: Sink, D: Door>(
     ensures memory { IsNoService command → result ≡ 8 → out.new ≡ out.old }
     ensures untouched { IsNoService command → door.new ≡ door.old }
     ensures serves { (plan : ServePlan) → command ≡ Command.Serve plan
-        → IsServeRun plan result (J.left journal.old) (J.left journal.new)
-        (O.contents out.old) (O.contents out.new) (D.log door.old) (D.log door.new) (D.coming door.old) (D.coming door.new) }
+        → IsServeRun plan result
+        (serve_view (J.left journal.old) (O.contents out.old) (D.log door.old) (D.coming door.old))
+        (serve_view (J.left journal.new) (O.contents out.new) (D.log door.new) (D.coming door.new)) }
     ensures unread { (plan : ServePlan) → command ≡ Command.Serve plan
         → input.new ≡ input.old }
     ensures journal_failed { (plan : ServePlan) → command ≡ Command.Serve plan
@@ -165,8 +166,9 @@ pub fn run_server<J: Source, S: Source, O: Sink, D: Door>(
 
     // `serve`: what became of the journal, the connections and the output.
     ensures serves { (line : ServeWords) → serve_of (map string_bytes words.now) ≡ Some line
-        → IsServeRun line.plan result (J.left journal.old) (J.left journal.new)
-        (O.contents out.old) (O.contents out.new) (D.log door.old) (D.log door.new) (D.coming door.old) (D.coming door.new) }
+        → IsServeRun line.plan result
+        (serve_view (J.left journal.old) (O.contents out.old) (D.log door.old) (D.coming door.old))
+        (serve_view (J.left journal.new) (O.contents out.new) (D.log door.new) (D.coming door.new)) }
     ensures no_input { (line : ServeWords) → serve_of (map string_bytes words.now) ≡ Some line → input.new ≡ input.old }
 
     // `generate`: the text of the load alone is written, whole or, with status 3, a front of it that lacks something.

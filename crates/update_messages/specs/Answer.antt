@@ -65,27 +65,38 @@ removal_sets rice size [] = []
 removal_sets rice size (place ∷ places) =
     (if size == 4 && rice then removed.Rice (encoding_of (place ∷ places)) else removed.Raw (place ∷ places)) ∷ []
 
--- The update of an asked list to a version. One who holds a version that the history names gets what leads from its set to
--- the new one, made for its state; any other gets the whole set.
-abbrev pub update_to : History → Naming → AskedList → Option ℕ → ℕ → UpdatedList
-update_to history token_at asked (Some held) version = record {
-  name = asked.name;
-  full = false;
-  base = asked.state;
-  additions = addition_sets asked.rice (added_members (prefixes_at history asked.name held) (prefixes_at history asked.name version));
-  removals = removal_sets asked.rice (declared_size history asked.name) (removed_places (prefixes_at history asked.name held) (prefixes_at history asked.name version));
-  new_state = token_at asked.name version;
-  checksum = sha256 (concatenation (prefixes_at history asked.name version));
-}
-update_to history token_at asked None version = record {
+-- the whole of a set, under its token
+abbrev pub whole_update : AskedList → List (List ℕ) → List ℕ → UpdatedList
+whole_update asked newer token = record {
   name = asked.name;
   full = true;
   base = [];
-  additions = addition_sets asked.rice (prefixes_at history asked.name version);
+  additions = addition_sets asked.rice newer;
   removals = [];
-  new_state = token_at asked.name version;
-  checksum = sha256 (concatenation (prefixes_at history asked.name version));
+  new_state = token;
+  checksum = sha256 (concatenation newer);
 }
+
+-- What leads from the set of the asked state to a newer one, of a list with a declared size.
+abbrev pub difference_update : AskedList → ℕ → List (List ℕ) → List (List ℕ) → List ℕ → UpdatedList
+difference_update asked size old newer token = record {
+  name = asked.name;
+  full = false;
+  base = asked.state;
+  additions = addition_sets asked.rice (added_members old newer);
+  removals = removal_sets asked.rice size (removed_places old newer);
+  new_state = token;
+  checksum = sha256 (concatenation newer);
+}
+
+-- The update of an asked list to a version. One who holds a version that the history names gets what leads from its set to
+-- the new one, made for its state; any other gets the whole set.
+abbrev pub update_to : History → Naming → AskedList → Option ℕ → ℕ → UpdatedList
+update_to history token_at asked (Some held) version =
+    difference_update asked (declared_size history asked.name) (prefixes_at history asked.name held) (prefixes_at history asked.name version)
+    (token_at asked.name version)
+update_to history token_at asked None version =
+    whole_update asked (prefixes_at history asked.name version) (token_at asked.name version)
 
 -- the update of an asked list to its target
 abbrev pub update_for : History → Naming → AskedList → UpdatedList

@@ -4,10 +4,9 @@ use Rattle.sha2.specs.Sha256.{sha256}
 use Rattle.sb_model.specs.Difference.{removed_places, added_members}
 use Rattle.sb_model.specs.History.{History, prefixes_at}
 use Rattle.sb_model.specs.Prefixes.{concatenation}
-use Rattle.update_messages.specs.Answer.{update_to}
+use Rattle.update_messages.specs.Answer.{update_to, difference_update}
 use Rattle.update_messages.specs.Messages.{AskedList, UpdatedList}
 use Rattle.delta_server.specs.Tokens.{server_token, server_naming}
-use Rattle.delta_server.specs.Updates.{difference_update}
 use Rattle.delta_server.proofs.AnswerFacts.{partial_is, token_same}
 use Rattle.delta_server.proofs.UpdateFacts.{may_be_sent, few_prefixes}
 use Rattle.delta_server.proofs.items.led_answer.Goals as goal

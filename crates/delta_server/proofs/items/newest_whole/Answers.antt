@@ -2,10 +2,9 @@ use Rattle.std.proofs.Common.{◌≡◌, ℕ, List, None, ap, refl, ◌∙◌}
 use Rattle.std.proofs.lemmas.Result.{IfOk-weaker}
 use Rattle.sb_model.specs.declared.names.ListName.{ListName}
 use Rattle.sb_model.specs.History.{History, prefixes_at, version_count}
-use Rattle.update_messages.specs.Answer.{update_to}
+use Rattle.update_messages.specs.Answer.{update_to, whole_update}
 use Rattle.update_messages.specs.Messages.{AskedList, UpdatedList}
 use Rattle.delta_server.specs.Tokens.{server_token, server_naming}
-use Rattle.delta_server.specs.Updates.{whole_update}
 use Rattle.delta_server.proofs.AnswerFacts.{whole_is}
 use Rattle.delta_server.proofs.items.newest_whole.Goals as goal
 

@@ -6,10 +6,9 @@ use Rattle.sha2.specs.Sha256.{sha256}
 use Rattle.sb_model.specs.History.{History, version_count, prefixes_at}
 use Rattle.sb_model.specs.Prefixes.{concatenation}
 use Rattle.sb_model.specs.Target.{target_version}
-use Rattle.update_messages.specs.Answer.{update_to}
+use Rattle.update_messages.specs.Answer.{update_to, difference_update}
 use Rattle.update_messages.specs.Messages.{AskedList, UpdatedList}
 use Rattle.delta_server.specs.Tokens.{server_naming}
-use Rattle.delta_server.specs.Updates.{difference_update}
 use Rattle.delta_server.proofs.AnswerFacts.{partial_is, token_same, target_same}
 use Rattle.delta_server.proofs.TargetFacts.{stays_newest}
 use Rattle.delta_server.proofs.items.partial_answer.Goals as goal

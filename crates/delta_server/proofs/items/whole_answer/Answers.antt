@@ -3,10 +3,9 @@ use Rattle.std.proofs.lemmas.Result.{IfOk-weaker}
 use Rattle.sb_model.specs.declared.names.ListName.{ListName}
 use Rattle.sb_model.specs.History.{History, prefixes_at, version_count}
 use Rattle.sb_model.specs.Target.{target_version}
-use Rattle.update_messages.specs.Answer.{update_to}
+use Rattle.update_messages.specs.Answer.{update_to, whole_update}
 use Rattle.update_messages.specs.Messages.{AskedList, UpdatedList}
 use Rattle.delta_server.specs.Tokens.{server_token, server_naming}
-use Rattle.delta_server.specs.Updates.{whole_update}
 use Rattle.delta_server.proofs.AnswerFacts.{whole_is, target_same, token_same}
 use Rattle.delta_server.proofs.items.whole_answer.Goals as goal
 

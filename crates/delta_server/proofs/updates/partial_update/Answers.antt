@@ -4,7 +4,7 @@ use Rattle.sha2.specs.Sha256.{sha256}
 use Rattle.sb_model.specs.Difference.{removed_places, added_members}
 use Rattle.sb_model.specs.Prefixes.{concatenation}
 use Rattle.update_messages.specs.Messages.{UpdatedList}
-use Rattle.delta_server.specs.Updates.{difference_update}
+use Rattle.update_messages.specs.Answer.{difference_update}
 use Rattle.delta_server.proofs.updates.partial_update.Goals as goal
 
 pub returns : goal.returns

@@ -50,7 +50,7 @@ returns-clause-kept c =
     let before : AreKeptOf served.versions served.times c.text_by_meaning.new.self =
     subst (λ (kept : KeptLists (List Wish)). AreKeptOf served.versions served.times kept) (sym c.in_ok-found.ensures.order)
     ((c.kept_answers_stay_right.ensures.asked served).by_meaning c.args.kept.now wishes c.requires.kept) in
-    (c.kept_answers_stay_right.ensures.kept served).more asked wishes response c.text_by_meaning.new.self c.keep_response.new.self before
+    (c.kept_answers_stay_right.ensures.kept served).more asked wishes response c.keep_response.result c.text_by_meaning.new.self c.keep_response.new.self before
     (may_be_kept served.versions served.times c.len.ensures.within c.args.request.now c.args.message.now asked wishes response c.as_slice-asked.ensures c.requires.reads
     (subst (λ (items : List AskedList). IfSome wishes (AreWishesOf served.versions items)) same c.in_ok-wishes.ensures.wishes)
     c.in_ok-response.ensures.status c.in_ok-response.ensures.body)

@@ -14,8 +14,8 @@ returns-in-Ok-clause-run g c =
       gives = load.2;
       loaded = Ok c.in-Ok.history;
       outcome = load.3;
-      after = record {
-        last = c.serve_connections.new.history;
+      leads = record {
+        last = c.serve_connections.new.served.history;
         run = run;
         journal = of_journal c.cuts_make_no_difference.ensures load.0 c.in-Ok.history run.turns run.last.kept load.3.1 run.turned.grows;
       };
@@ -31,5 +31,8 @@ returns-in-Err-clause-run g c =
       gives = load.2;
       loaded = Err c.in-Err.fault;
       outcome = load.3;
-      after = record { unread = refl; refusal = c.refuse.ensures.refusal; untouched = refl; untaken = refl };
+      leads = record { unread = refl; refusal = c.refuse.ensures.refusal; untouched = refl; untaken = refl };
     }
+
+pub serve_connections-requires : goal.serve_connections-requires
+serve_connections-requires g c = c.nothing_kept.ensures c.in-Ok.history.versions c.args.plan.now.settings

@@ -4,7 +4,7 @@ use Rattle.sb_service.proofs.Turns.{held, no_turn, one_more, stopped}
 use Rattle.sb_service.proofs.serve.serve_connections.Goals as goal
 
 pub loop-taken-init : goal.loop-taken-init
-loop-taken-init g c = ([], refl, no_turn _ _, refl, refl, refl, c.nothing_kept-kept.ensures c.args.history.now.versions c.args.plan.now.settings)
+loop-taken-init g c = ([], refl, no_turn _ _, refl, refl, refl, c.requires)
 
 pub loop-taken-preserved : goal.loop-taken-preserved
 loop-taken-preserved g c =
@@ -37,3 +37,12 @@ returns-in-Ok-Holding-clause-run g c =
     let turn = c.take_next.ensures.holding (c.in-Ok-Holding.is ∙ ap Ok c.in-Ok-Holding.field-0-is) in
     held c.args.plan.now.hold c.args.plan.now c.args.plan.now.connections (c.loop-taken.taken + 1) (status_of c.serve_held.result) inv.0 _ _ _ _
     (omega (arith, inv.1)) (omega (arith, few)) inv.2 turn.0 turn.1 (c.serve_held.ensures.run _)
+
+pub returns-in-Err-clause-read_kept : goal.returns-in-Err-clause-read_kept
+returns-in-Err-clause-read_kept g c = λ other. c.take_next.ensures.read_kept (λ e. other (cc (c.in-Err.is, e))) ∙ c.loop-taken.invariant.3
+
+pub returns-in-Err-clause-kept : goal.returns-in-Err-clause-kept
+returns-in-Err-clause-kept g c = λ other. c.take_next.ensures.kept (λ e. other (cc (c.in-Err.is, e))) ∙ c.loop-taken.invariant.4
+
+pub returns-in-Err-clause-door_kept : goal.returns-in-Err-clause-door_kept
+returns-in-Err-clause-door_kept g c = λ other. c.take_next.ensures.door_kept (λ e. other (cc (c.in-Err.is, e))) ∙ c.loop-taken.invariant.5

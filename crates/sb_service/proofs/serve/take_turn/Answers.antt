@@ -36,14 +36,14 @@ returns-in-Ok-clause-stops g c = λ before coming pieces opening taken fresh.
 
 pub serve_taken-stop-requires : goal.serve_taken-stop-requires
 serve_taken-stop-requires g c =
-    let old = c.args.history.now in
+    let old = c.args.served.now.history in
     let new = c.grow_if_more.new.self in
     subst (AreKeptOf new.versions c.args.plan.now.settings) (sym c.forget_if.ensures)
-    (kept_or_forgotten old.versions new.versions c.args.plan.now.settings c.args.kept.now c.in-Ok.grown c.in-Ok.ensures.versions.0 c.requires)
+    (kept_or_forgotten old.versions new.versions c.args.plan.now.settings c.args.served.now.kept c.in-Ok.grown c.in-Ok.ensures.versions.0 c.requires)
 
 pub serve_taken-stop-requires-then-is_bad_journal : goal.serve_taken-stop-requires-then-is_bad_journal
 serve_taken-stop-requires-then-is_bad_journal g c =
-    subst (λ (k : Kept). AreKeptOf k.versions c.args.plan.now.settings c.args.kept.now) (sym c.in-Err.ensures.same) c.requires
+    subst (λ (k : Kept). AreKeptOf k.versions c.args.plan.now.settings c.args.served.now.kept) (sym c.in-Err.ensures.same) c.requires
 
 pub returns-then-is_bad_journal-clause-holding : goal.returns-then-is_bad_journal-clause-holding
 returns-then-is_bad_journal-clause-holding g c = λ before coming pieces opening taken fresh e.

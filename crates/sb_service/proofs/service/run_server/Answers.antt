@@ -1,5 +1,5 @@
 use Rattle.std.proofs.Common.{ℕ, sym, subst}
-use Rattle.sb_service.specs.Serving.{IsServeRun}
+use Rattle.sb_service.specs.Serving.{IsServeRun, serve_view}
 use Rattle.sb_service.proofs.Runs.{ReadsOrFails, answered, served, none_risen, not_risen, not_8, zero_or_memory}
 use Rattle.sb_service.proofs.Commands.{is_answer, is_exercise, is_generate, is_other, is_serve, is_tell, made_exercise, made_generate, made_tell}
 use Rattle.sb_service.proofs.Turns.{nothing_done}
@@ -54,19 +54,15 @@ returns-in-Ok-Some-clause-no_input g c line words =
 
 pub returns-in-Err-clause-serves : goal.returns-in-Err-clause-serves
 returns-in-Err-clause-serves g c line words =
-    let journal = g.J.Source.left c.args.journal.now in
-    let held = g.O.Sink.contents c.args.out.now in
-    let log = g.D.Door.log c.args.door.now in
-    let coming = g.D.Door.coming c.args.door.now in
-    subst (λ (status : ℕ). IsServeRun line.plan status journal journal held held log log coming coming) (sym c.status_of.ensures)
-    (nothing_done line.plan journal held log coming)
+    let view = serve_view (g.J.Source.left c.args.journal.now) (g.O.Sink.contents c.args.out.now) (g.D.Door.log c.args.door.now) (g.D.Door.coming c.args.door.now) in
+    subst (λ (status : ℕ). IsServeRun line.plan status view view) (sym c.status_of.ensures) (nothing_done line.plan view)
 
 pub returns-in-Ok-Some-clause-serves_all : goal.returns-in-Ok-Some-clause-serves_all
 returns-in-Ok-Some-clause-serves_all g c line pieces words told none journal out door =
     let is = is_serve _ _ _ line c.in-Ok-Some.ensures c.in-Ok-Some.field-0-is words in
     let counts = c.run_command.ensures.counts in
     zero_or_memory c.run_command.result c.run_command.ensures.statuses (λ other.
-    served_to_the_end c.cuts_make_no_difference.ensures line.plan c.run_command.result pieces _ _ _ _ _ _ _ _ told none
+    served_to_the_end c.cuts_make_no_difference.ensures line.plan c.run_command.result pieces _ _ told none
     (c.run_command.ensures.serves line.plan is) (record {
       no_memory = other;
       no_read = λ two. not_risen _ _ journal (c.run_command.ensures.journal_failed line.plan is two);
