@@ -1,6 +1,4 @@
 ghost use Rattle.std.specs.Prelude.{◌≡◌, ◌≤◌, [], length, All};
-ghost use Rattle.std.specs.Ordering.{is_lt};
-ghost use Rattle.sb_model.specs.Names.{name_cmp};
 ghost use Rattle.client_store.specs.Fields.{Gives};
 ghost use Rattle.client_store.specs.Reading.{comes_after as comes_after_all, name_at as name_in, list_at as list_in, lists_at as lists_read, lists_in as lists_of};
 
@@ -9,27 +7,16 @@ use crate::format::Format;
 use crate::prefixes::set_at;
 use sb_model::{ListName, Row};
 use std::alloc::Global;
-use std::cmp::Ordering;
 use update_client::{ClientLists, HeldList};
 
 /// The most lists of a client.
 const MAX_LISTS: u8 = 8;
 
-// Whether one name comes before another.
-fn is_before(first: ListName, second: ListName) -> bool
-    ensures { result ≡ is_lt (name_cmp first second) }
-{
-    let threats = first.threat.code().cmp(&second.threat.code());
-    let platforms = first.platform.code().cmp(&second.platform.code());
-    let entries = first.entry.code().cmp(&second.entry.code());
-    threats.then(platforms.then(entries)) == Ordering::Less
-}
-
 // Whether a name comes after those of these lists.
 fn comes_after(before: &[HeldList], name: ListName) -> bool
     ensures { result ≡ comes_after_all before.now name }
 {
-    before.iter().all(|held| is_before(held.name, name))
+    before.iter().all(|held| held.name.compare(name).is_lt())
 }
 
 // The name of the next list.

@@ -1,9 +1,10 @@
 ghost use Rattle.std.specs.Prelude.{◌≡◌, [], ◌∷◌, IfOk, MatchOption, position};
-ghost use Rattle.sb_model.specs.Names.{threat_word, platform_word, entry_word, threat_code, platform_code, entry_code, threat_of, platform_of, entry_of, threat_with_code, platform_with_code, entry_with_code, is_slash, parts_of, name_of_words, text_of, name_of};
+ghost use Rattle.sb_model.specs.Names.{threat_word, platform_word, entry_word, threat_code, platform_code, entry_code, threat_of, platform_of, entry_of, threat_with_code, platform_with_code, entry_with_code, is_slash, parts_of, name_of_words, text_of, name_of, name_cmp};
 ghost use Rattle.sb_model.specs.declared.names.ListName.{ListName};
 
 use crate::{Bytes, OutOfMemory};
 use std::alloc::Global;
+use std::cmp::Ordering;
 use std::error::Error;
 use std::fmt;
 
@@ -187,6 +188,18 @@ pub struct ListName {
     pub threat: ThreatType,
     pub platform: PlatformType,
     pub entry: EntryType,
+}
+
+impl ListName {
+    /// The order of two names.
+    pub fn compare(self, other: ListName) -> Ordering
+        ensures { result ≡ name_cmp self other }
+    {
+        let threats = self.threat.code().cmp(&other.threat.code());
+        let platforms = self.platform.code().cmp(&other.platform.code());
+        let entries = self.entry.code().cmp(&other.entry.code());
+        threats.then(platforms.then(entries))
+    }
 }
 
 /// Why a text is no list's name.

@@ -1,20 +1,9 @@
 ghost use Rattle.std.specs.Prelude.{◌≡◌, OnOk, IfOk};
-ghost use Rattle.sb_model.specs.Names.{name_cmp};
 ghost use Rattle.update_client.specs.Held.{with_name, in_order};
 
 use sb_model::{ListName, OutOfMemory};
 use std::alloc::Global;
 use std::cmp::Ordering;
-
-// The order of two names.
-fn compare(first: ListName, second: ListName) -> Ordering
-    ensures { result ≡ name_cmp first second }
-{
-    let threats = first.threat.code().cmp(&second.threat.code());
-    let platforms = first.platform.code().cmp(&second.platform.code());
-    let entries = first.entry.code().cmp(&second.entry.code());
-    threats.then(platforms.then(entries))
-}
 
 // Puts a name among rising ones, where it does not stand yet.
 fn put_name(names: &mut Vec<ListName>, name: ListName) -> Result<(), OutOfMemory>
@@ -22,7 +11,7 @@ fn put_name(names: &mut Vec<ListName>, name: ListName) -> Result<(), OutOfMemory
 {
     let mut place = 0;
     while place < names.len() {
-        match compare(name, names[place]) {
+        match name.compare(names[place]) {
             Ordering::Less => break,
             Ordering::Equal => return Ok(()),
             Ordering::Greater => place += 1,
