@@ -27,7 +27,7 @@ NO_OPTIONS = {"--help", "--name"}
 MOST_WORDS, MOST_COLUMNS = 12, 120
 ENDINGS = ("antt", "rt", "py", "sh", "md", "jsonl", "edit", "txt", "service", "timer")
 
-# each end: the crate that defines its statuses (`IsStatus`), and the section of the page of formats with them
+# each end: the crate that defines its statuses (`IsStatus` and its like), and the section of the page of formats with them
 ENDS = {
     "the client": ("sb_client", "Words and statuses of the client programs"),
     "the server": ("sb_service", "The list server"),
@@ -233,7 +233,7 @@ def known_options():
 
 def statuses_of(end):
     text = Code.texts(ENDS[end][0], "specs", "antt")
-    found = re.search(r"^IsStatus status =(.*?)(?:^\S|\Z)", text, re.M | re.S)
+    found = re.search(r"^Is(?:Server|JournalRun)?Status status =(.*?)(?:^\S|\Z)", text, re.M | re.S)
     return set(map(int, re.findall(r"status ≡ (\d+)", found[1]))) if found else set()
 
 

@@ -10,7 +10,7 @@ use Rattle.serde_json.specs.Written.{compact_text, has_float, items_have_float, 
 use Rattle.sb_json.specs.Fields.{key_of}
 use Rattle.sb_json.specs.declared.fields.Field.{Field}
 use Rattle.sb_members.specs.Parts.{Parts, made}
-use Rattle.sb_members.specs.Writing.{with_member, list_written}
+use Rattle.sb_members.specs.Writing.{with_member_if_any, list_written}
 use Rattle.sb_json.specs.Counts.{openings_in, openings_in_items, openings_in_members, values_in, values_in_items, values_in_members}
 use Rattle.both_ends_laws.proofs.Sparse.{IsSparse}
 
@@ -52,7 +52,7 @@ module _ (weight : Data → ℕ) (key : ℕ) where
   weight_in [] = 0
   weight_in (p ∷ ps) = weight_there p.1 + weight_in ps
 
-  weight_with : (f : Field) (o : Option Data) (ms : Members) → weight_of (with_member f o ms) ≤ weight_there o + weight_of ms
+  weight_with : (f : Field) (o : Option Data) (ms : Members) → weight_of (with_member_if_any f o ms) ≤ weight_there o + weight_of ms
   weight_with f None ms = omega arith
   weight_with f (Some d) ms = weight_put (key_of f) d ms
 

@@ -9,7 +9,7 @@ use Rattle.sb_members.specs.Writing.{duration_written, list_written}
 use Rattle.url_canon.specs.Url.{Url}
 use Rattle.url_canon.specs.declared.fault.UrlFault.{UrlFault}
 use Rattle.hash_messages.specs.Writing.{threat_written, platform_written, entry_written}
-use Rattle.lookup_messages.specs.Lookups.{canonical_of_asked, asks_list, lists_asked, match_of, matches_of_url, lookup_matches}
+use Rattle.lookup_messages.specs.Lookups.{canonical_of_asked, looks_up_list, lists_looked_up, match_of, matches_of_url, lookup_matches}
 use Rattle.lookup_messages.specs.Messages.{AskedUrls}
 use Rattle.lookup_messages.specs.Writing as spec
 use Rattle.lookup_messages.specs.declared.response.LookupMatch.{LookupMatch}
@@ -105,10 +105,10 @@ few_of_url has lists cache url (Err fault) = omega arith
 
 few_matches : (has : ListName → Url → Bool) (lists : List ListName) (cache : ℕ) (asked : AskedUrls) → length lists ≤ 64 → length asked.urls ≤ 500 → length (lookup_matches has lists cache asked) ≤ 32000
 few_matches has lists cache asked few urls =
-    let each : (url : List ℕ) → length (matches_of_url has (lists_asked lists asked) cache url (canonical_of_asked url)) ≤ 64 =
-    λ url. omega (arith, few, no_more_kept (asks_list asked) lists, few_of_url has (lists_asked lists asked) cache url (canonical_of_asked url))
+    let each : (url : List ℕ) → length (matches_of_url has (lists_looked_up lists asked) cache url (canonical_of_asked url)) ≤ 64 =
+    λ url. omega (arith, few, no_more_kept (looks_up_list asked) lists, few_of_url has (lists_looked_up lists asked) cache url (canonical_of_asked url))
     in
-    omega (arith, urls, no_more_of_each (λ (url : List ℕ). matches_of_url has (lists_asked lists asked) cache url (canonical_of_asked url)) 64 each asked.urls)
+    omega (arith, urls, no_more_of_each (λ (url : List ℕ). matches_of_url has (lists_looked_up lists asked) cache url (canonical_of_asked url)) 64 each asked.urls)
 
 pub lookup_answers_sparse : (has : ListName → Url → Bool) (lists : List ListName) (cache : ℕ) (asked : AskedUrls) → length lists ≤ 64 → length asked.urls ≤ 500
     → IsSparse (spec.lookup_response_written (record { matches = lookup_matches has lists cache asked }))

@@ -32,7 +32,7 @@ info_parts m =
     ∷ (field.ThreatTypes, list_written threat_written m.threats) ∷ []
 
 abbrev lookup_parts : AskedUrls → Parts
-lookup_parts m = (field.Client, unless_bare (client_members m.client)) ∷ (field.ThreatInfo, Some (spec.info_written m)) ∷ []
+lookup_parts m = (field.Client, unless_bare (client_members m.client)) ∷ (field.ThreatInfo, Some (spec.lookup_info_written m)) ∷ []
 
 -- ---- what it has
 
@@ -43,9 +43,9 @@ url_costs url = object_costs ((0, 0) ∷ []) (url_parts url) (string_costs _, tt
 abbrev type_count : AskedUrls → ℕ
 type_count m = length m.platforms + (length m.entries + length m.threats)
 
-info_costs : (m : AskedUrls) → Costs (5 + length m.urls) (13 + 4 * length m.urls + type_count m) (spec.info_written m)
+info_costs : (m : AskedUrls) → Costs (5 + length m.urls) (13 + 4 * length m.urls + type_count m) (spec.lookup_info_written m)
 info_costs m =
-    cheaper _ _ _ _ (spec.info_written m) (omega arith) (omega arith)
+    cheaper _ _ _ _ (spec.lookup_info_written m) (omega arith) (omega arith)
     (object_costs (
     (1 + 0 * length m.platforms, 1 + 1 * length m.platforms)
     ∷ (1 + 1 * length m.urls, 1 + 4 * length m.urls)
@@ -103,7 +103,7 @@ words_total write long (x ∷ xs) = omega (arith, long x, words_total write long
 words_length : {A : Type 0} (write : A → Data) → ((x : A) → 5 ≤ length (compact_text (write x))) → (xs : List A) → 6 * length xs ≤ bytes_there (list_written write xs)
 words_length write long xs = omega (arith, words_total write long xs, list_length write xs)
 
-info_length : (m : AskedUrls) → 6 * type_count m ≤ length (compact_text (spec.info_written m))
+info_length : (m : AskedUrls) → 6 * type_count m ≤ length (compact_text (spec.lookup_info_written m))
 info_length m =
     omega (
       arith,

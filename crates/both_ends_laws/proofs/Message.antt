@@ -18,7 +18,7 @@ use Rattle.update_messages.specs.ReadAgain.{WrittenResponsesRead, ResponsesNestW
 use Rattle.update_messages.specs.Reading.{IsTextOf, ReadsResponse}
 use Rattle.update_messages.specs.Writing.{response_written, spelling_of_response}
 use Rattle.both_ends_laws.proofs.Responses.{response_reads_again}
-use Rattle.update_replay.specs.Example.{whole_update}
+use Rattle.update_replay.specs.Example.{example_whole_update}
 use Rattle.both_ends_laws.specs.Example.{example_message, example_body}
 
 -- ---- strings of bytes
@@ -41,7 +41,7 @@ bytes_by (byte ∷ bytes) h (suc i) = bytes_by bytes (both (nat_lt byte 256) (ar
 one : {X : Type 0} (P : X → Type 0) (x : X) → P x → All P (x ∷ [])
 one P x here = All-cons P x [] here (All-nil P)
 
-update_in_range : IsUpdateInRange whole_update
+update_in_range : IsUpdateInRange example_whole_update
 update_in_range = record {
   limits = record {
     base = leb-true 0 4096 refl;
@@ -50,16 +50,16 @@ update_in_range = record {
     new_state = leb-true 1 4096 refl;
     checksum = refl;
   };
-  base = bytes_by whole_update.base refl;
+  base = bytes_by example_whole_update.base refl;
   additions = one IsAdditionOfBytes _ (bytes_by (0x23 ∷ 0x20 ∷ 0x20 ∷ 0x00 ∷ []) refl);
   removals = All-nil IsRemovalOfBytes;
-  new_state = bytes_by whole_update.new_state refl;
-  checksum = bytes_by whole_update.checksum refl;
+  new_state = bytes_by example_whole_update.new_state refl;
+  checksum = bytes_by example_whole_update.checksum refl;
 }
 
 message_in_range : IsResponseInRange example_message
 unfolding digits
-message_in_range = record { items = one IsUpdateInRange whole_update update_in_range; wait = refl }
+message_in_range = record { items = one IsUpdateInRange example_whole_update update_in_range; wait = refl }
 
 -- ---- the spelling
 

@@ -25,7 +25,7 @@ use Rattle.sb_round.specs.Sessions.{IsBodyOf}
 use Rattle.sb_round.specs.declared.rounds.RoundFault.TheVariants.{Exchange}
 use Rattle.client_laws.specs.Met.{MeetsHonest}
 use Rattle.update_replay.specs.Readings.{bodies_of}
-use Rattle.update_replay.specs.Example.{example_name, example_history, example_tokens, example_readings, whole_update}
+use Rattle.update_replay.specs.Example.{example_name, example_history, example_tokens, example_readings, example_whole_update}
 use Rattle.both_ends_laws.specs.Example.{example_plan, example_message, example_body, answered_session, lost_session, example_sessions, example_bodies, example_before, example_after, held_at_end}
 use Rattle.both_ends_laws.proofs.Message.{body_is_short}
 
@@ -36,7 +36,7 @@ passed passes =
     subst (λ (received : List ℕ). BytesOutcome true received true (Ok example_body)) (append-nil answered_session.received)
     (passes example_body body_is_short Post [] true true)
 
-answered : ((body : List ℕ) → PassesAsWritten body) → IsTextOf ReadsResponse example_body example_message → IsBodyOf true answered_session (whole_update ∷ [])
+answered : ((body : List ℕ) → PassesAsWritten body) → IsTextOf ReadsResponse example_body example_message → IsBodyOf true answered_session (example_whole_update ∷ [])
 answered passes reads = record { outcome = Ok example_body; decides = passed passes; answer = Ok example_message; answers = reads; is = refl }
 
 lost : IsBodyOf true lost_session []
@@ -55,7 +55,7 @@ honest_front h = (h.0, (tt, tt))
 
 -- the sets that the first body proposes
 abbrev first_candidates : List (List (List ℕ))
-first_candidates = candidates_of_updates first_lists_are (whole_update ∷ [])
+first_candidates = candidates_of_updates first_lists_are (example_whole_update ∷ [])
 
 of_more : (more : List (List (List ℕ))) (set : List (List ℕ)) → IsSetOfRun example_history (first_candidates ++ []) set → IsSetOfRun example_history (first_candidates ++ more) set
 of_more more set (Proposed there) =
@@ -69,7 +69,7 @@ apart_front apart a b of_a of_b =
 -- ---- what is held in the end
 
 -- what the update says, the digest of its set, and so the list after it
-pub first_installed : list_step (nothing_held example_name) whole_update ≡ held_at_end
+pub first_installed : list_step (nothing_held example_name) example_whole_update ≡ held_at_end
 unfolding decoding_of reading delta_at byte_bits first_words schedule rounds compress hash_after digest_bytes sha256
 first_installed = refl
 

@@ -21,7 +21,7 @@ use Rattle.sb_json.specs.Density.{too_dense}
 use Rattle.sb_json.specs.Fields.{key_of}
 use Rattle.sb_json.specs.declared.fields.Field.{Field}
 use Rattle.sb_json.specs.declared.fields.Field.TheVariants as field
-use Rattle.sb_members.specs.Writing.{with_member, text_written, bytes_written, number_written, values_written, list_written, unless_bare}
+use Rattle.sb_members.specs.Writing.{with_member_if_any, text_written, bytes_written, number_written, values_written, list_written, unless_bare}
 use Rattle.update_messages.specs.Messages.{AskedList, Request, most_i32}
 use Rattle.update_messages.specs.Ranges.{IsAskedInRange, IsRequestInRange}
 use Rattle.update_messages.specs.ReadAgain.{WrittenRequestsRead, RequestsNestWithin}
@@ -38,7 +38,7 @@ abbrev pub PlainOr : Option Data → Type 0
 PlainOr None = ⊤
 PlainOr (Some value) = IsPlain value
 
-pub with_plain : (name : Field) (value : Option Data) (ms : Members) → IsUtf8 (key_of name) → PlainOr value → MembersArePlain ms → MembersArePlain (with_member name value ms)
+pub with_plain : (name : Field) (value : Option Data) (ms : Members) → IsUtf8 (key_of name) → PlainOr value → MembersArePlain ms → MembersArePlain (with_member_if_any name value ms)
 with_plain name None ms key value h = h
 with_plain name (Some d) ms key value h = put_plain (key_of name) d ms key value h
 
@@ -91,25 +91,25 @@ words_plain false false = tt
 
 constraints_plain : (asked : AskedList) → IsAskedInRange asked → MembersArePlain (constraint_members asked)
 constraints_plain asked h =
-    with_plain field.MaxDatabaseEntries (number_written asked.max_database) (with_member field.MaxUpdateEntries (number_written asked.max_update) (with_member field.SupportedCompressions (compressions_written asked.raw asked.rice) no_members))
+    with_plain field.MaxDatabaseEntries (number_written asked.max_database) (with_member_if_any field.MaxUpdateEntries (number_written asked.max_update) (with_member_if_any field.SupportedCompressions (compressions_written asked.raw asked.rice) no_members))
     (IsUtf8-are_ascii (key_of field.MaxDatabaseEntries) refl) (number_plain asked.max_database h.limits.max_database)
-    (with_plain field.MaxUpdateEntries (number_written asked.max_update) (with_member field.SupportedCompressions (compressions_written asked.raw asked.rice) no_members)
+    (with_plain field.MaxUpdateEntries (number_written asked.max_update) (with_member_if_any field.SupportedCompressions (compressions_written asked.raw asked.rice) no_members)
     (IsUtf8-are_ascii (key_of field.MaxUpdateEntries) refl) (number_plain asked.max_update h.limits.max_update)
     (with_plain field.SupportedCompressions (compressions_written asked.raw asked.rice) no_members
     (IsUtf8-are_ascii (key_of field.SupportedCompressions) refl) (values_plain _ (words_plain asked.raw asked.rice)) tt))
 
 -- the members of an asked list, from the last one back
 abbrev from_type : AskedList → Members
-from_type asked = with_member field.ThreatType (Some (string (threat_word asked.name.threat))) no_members
+from_type asked = with_member_if_any field.ThreatType (Some (string (threat_word asked.name.threat))) no_members
 
 abbrev from_entry : AskedList → Members
-from_entry asked = with_member field.ThreatEntryType (Some (string (entry_word asked.name.entry))) (from_type asked)
+from_entry asked = with_member_if_any field.ThreatEntryType (Some (string (entry_word asked.name.entry))) (from_type asked)
 
 abbrev from_state : AskedList → Members
-from_state asked = with_member field.State (bytes_written asked.state) (from_entry asked)
+from_state asked = with_member_if_any field.State (bytes_written asked.state) (from_entry asked)
 
 abbrev from_platform : AskedList → Members
-from_platform asked = with_member field.PlatformType (Some (string (platform_word asked.name.platform))) (from_state asked)
+from_platform asked = with_member_if_any field.PlatformType (Some (string (platform_word asked.name.platform))) (from_state asked)
 
 asked_plain : (asked : AskedList) → IsAskedInRange asked → IsPlain (asked_written asked)
 asked_plain asked h =
@@ -125,13 +125,13 @@ all_plain (asked ∷ items) h = (asked_plain asked (All-head IsAskedInRange aske
 
 client_plain : MembersArePlain (client_members (record { id = codes "sblist"; version = codes "1" }))
 client_plain =
-    with_plain field.ClientId (text_written (codes "sblist")) (with_member field.ClientVersion (text_written (codes "1")) no_members) (IsUtf8-are_ascii (key_of field.ClientId) refl) (codes "sblist", (refl, refl))
+    with_plain field.ClientId (text_written (codes "sblist")) (with_member_if_any field.ClientVersion (text_written (codes "1")) no_members) (IsUtf8-are_ascii (key_of field.ClientId) refl) (codes "sblist", (refl, refl))
     (with_plain field.ClientVersion (text_written (codes "1")) no_members (IsUtf8-are_ascii (key_of field.ClientVersion) refl) (codes "1", (refl, refl)) tt)
 
 request_plain : (lists : List Held) (options : FetchOptions) → IsRequestInRange (request_asked lists options) → IsPlain (request_written (request_asked lists options))
 request_plain lists options h =
     let m = request_asked lists options in
-    with_plain field.Client (unless_bare (client_members m.client)) (with_member field.ListUpdateRequests (list_written asked_written m.items) no_members) (IsUtf8-are_ascii (key_of field.Client) refl)
+    with_plain field.Client (unless_bare (client_members m.client)) (with_member_if_any field.ListUpdateRequests (list_written asked_written m.items) no_members) (IsUtf8-are_ascii (key_of field.Client) refl)
     (bare_plain (client_members m.client) client_plain)
     (with_plain field.ListUpdateRequests (list_written asked_written m.items) no_members (IsUtf8-are_ascii (key_of field.ListUpdateRequests) refl) (values_plain (map asked_written m.items) (all_plain m.items h.items)) tt)
 

@@ -18,7 +18,7 @@ use Rattle.sb_json.specs.Fields.{key_of}
 use Rattle.sb_json.specs.declared.fields.Field.{Field}
 use Rattle.sb_json.specs.declared.fields.Field.TheVariants as field
 use Rattle.sb_members.specs.Ranges.{IsDuration}
-use Rattle.sb_members.specs.Writing.{with_member, bytes_written, number_written, long_written, duration_written, list_written}
+use Rattle.sb_members.specs.Writing.{with_member_if_any, bytes_written, number_written, long_written, duration_written, list_written}
 use Rattle.rice_coding.specs.declared.record.RiceRecord.{RiceRecord}
 use Rattle.update_messages.specs.Answer.{fetch_answer}
 use Rattle.update_messages.specs.Messages.{Request, UpdatedList, IsRiceSet, IsAddition, IsRemoval, most_i32, most_i64}
@@ -41,13 +41,13 @@ long_plain : (n : ℕ) → n ≤ most_i64 → PlainOr (long_written n)
 long_plain n h = if_plain (n == 0) (string (decimal n)) (IsUtf8-from_ascii (decimal n) (IsAscii-decimal n (omega (arith, h))))
 
 abbrev from_parameter : RiceRecord → Members
-from_parameter rice = with_member field.RiceParameter (number_written rice.parameter) no_members
+from_parameter rice = with_member_if_any field.RiceParameter (number_written rice.parameter) no_members
 
 abbrev from_count : RiceRecord → Members
-from_count rice = with_member field.NumEntries (number_written rice.count) (from_parameter rice)
+from_count rice = with_member_if_any field.NumEntries (number_written rice.count) (from_parameter rice)
 
 abbrev from_first : RiceRecord → Members
-from_first rice = with_member field.FirstValue (long_written rice.first) (from_count rice)
+from_first rice = with_member_if_any field.FirstValue (long_written rice.first) (from_count rice)
 
 rice_plain : (rice : RiceRecord) → IsRiceSet rice → IsPlain (rice_written rice)
 rice_plain rice h =
@@ -58,7 +58,7 @@ rice_plain rice h =
 
 hashes_plain : (size : ℕ) (bytes : List ℕ) → size ≤ 32 → IsPlain (hashes_written size bytes)
 hashes_plain size bytes h =
-    with_plain field.PrefixSize (number_written size) (with_member field.RawHashBytes (bytes_written bytes) no_members) (IsUtf8-are_ascii (key_of field.PrefixSize) refl) (number_plain size (omega (arith, h)))
+    with_plain field.PrefixSize (number_written size) (with_member_if_any field.RawHashBytes (bytes_written bytes) no_members) (IsUtf8-are_ascii (key_of field.PrefixSize) refl) (number_plain size (omega (arith, h)))
     (with_plain field.RawHashBytes (bytes_written bytes) no_members (IsUtf8-are_ascii (key_of field.RawHashBytes) refl) (bytes_plain bytes) tt)
 
 places_plain : (places : List ℕ) → All (λ index. index ≤ most_i32) places → AllByRecursion IsPlain (map (λ index. number (unsigned index)) places)
@@ -73,7 +73,7 @@ indices_plain places h =
 
 set_plain : (word : List ℕ) (name : Field) (value : Data) → IsUtf8 word → IsUtf8 (key_of name) → IsPlain value → IsPlain (set_written word name value)
 set_plain word name value text key h =
-    with_plain field.CompressionType (Some (string word)) (with_member name (Some value) no_members) (IsUtf8-are_ascii (key_of field.CompressionType) refl) text
+    with_plain field.CompressionType (Some (string word)) (with_member_if_any name (Some value) no_members) (IsUtf8-are_ascii (key_of field.CompressionType) refl) text
     (with_plain name (Some value) no_members key h tt)
 
 addition_plain : (set : Additions) → IsAddition set → IsPlain (addition_written set)
@@ -97,16 +97,16 @@ type_plain true = IsUtf8-are_ascii (codes "FULL_UPDATE") refl
 type_plain false = IsUtf8-are_ascii (codes "PARTIAL_UPDATE") refl
 
 abbrev from_threat : UpdatedList → Members
-from_threat update = with_member field.ThreatType (Some (string (threat_word update.name.threat))) no_members
+from_threat update = with_member_if_any field.ThreatType (Some (string (threat_word update.name.threat))) no_members
 
 abbrev from_entry : UpdatedList → Members
-from_entry update = with_member field.ThreatEntryType (Some (string (entry_word update.name.entry))) (from_threat update)
+from_entry update = with_member_if_any field.ThreatEntryType (Some (string (entry_word update.name.entry))) (from_threat update)
 
 abbrev from_type : UpdatedList → Members
-from_type update = with_member field.ResponseType (Some (string (response_type_word update.full))) (from_entry update)
+from_type update = with_member_if_any field.ResponseType (Some (string (response_type_word update.full))) (from_entry update)
 
 abbrev from_removals : UpdatedList → Members
-from_removals update = with_member field.Removals (list_written removal_written update.removals) (from_type update)
+from_removals update = with_member_if_any field.Removals (list_written removal_written update.removals) (from_type update)
 
 later_plain : (update : UpdatedList) → IsUpdateInRange update → MembersArePlain (later_members update)
 later_plain update h =
@@ -118,13 +118,13 @@ later_plain update h =
     (with_plain field.ThreatType (Some (string (threat_word update.name.threat))) no_members (IsUtf8-are_ascii (key_of field.ThreatType) refl) (threat_plain update.name.threat) tt))))
 
 abbrev from_state : UpdatedList → Members
-from_state update = with_member field.NewClientState (bytes_written update.new_state) (later_members update)
+from_state update = with_member_if_any field.NewClientState (bytes_written update.new_state) (later_members update)
 
 abbrev from_checksum : UpdatedList → Members
-from_checksum update = with_member field.Checksum (Some (checksum_written update.checksum)) (from_state update)
+from_checksum update = with_member_if_any field.Checksum (Some (checksum_written update.checksum)) (from_state update)
 
 abbrev from_base : UpdatedList → Members
-from_base update = with_member field.BaseState (bytes_written update.base) (from_checksum update)
+from_base update = with_member_if_any field.BaseState (bytes_written update.base) (from_checksum update)
 
 checksum_plain : (digest : List ℕ) → IsPlain (checksum_written digest)
 checksum_plain digest = with_plain field.Sha256 (bytes_written digest) no_members (IsUtf8-are_ascii (key_of field.Sha256) refl) (bytes_plain digest) tt
@@ -142,7 +142,7 @@ duration_plain nanos h = if_plain (nanos == 0) (string (duration_text nanos)) h
 
 response_plain : (message : FetchResponse) → IsResponseInRange message → IsUtf8 (duration_text message.wait) → IsPlain (response_written message)
 response_plain message h wait =
-    with_plain field.ListUpdateResponses (list_written update_written message.items) (with_member field.MinimumWaitDuration (duration_written message.wait) no_members)
+    with_plain field.ListUpdateResponses (list_written update_written message.items) (with_member_if_any field.MinimumWaitDuration (duration_written message.wait) no_members)
     (IsUtf8-are_ascii (key_of field.ListUpdateResponses) refl) (values_plain (map update_written message.items) (all_plain IsUpdateInRange update_written update_plain message.items h.items))
     (with_plain field.MinimumWaitDuration (duration_written message.wait) no_members (IsUtf8-are_ascii (key_of field.MinimumWaitDuration) refl) (duration_plain message.wait wait) tt)
 

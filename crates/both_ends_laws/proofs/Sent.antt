@@ -5,7 +5,7 @@ use Rattle.std.specs.Fmt.{digits, digits_onto, digit_glyph}
 use Rattle.std.proofs.lemmas.Bool.{cases_lt, eqb-true}
 use Rattle.std.proofs.lemmas.List.{append_cancel_left}
 use Rattle.sb_outside.specs.declared.links.Kind.{Kind}
-use Rattle.http_edge.specs.Exchanges.{path_of, query_of, request_head, request_text}
+use Rattle.http_edge.specs.Exchanges.{path_of_kind, query_of, request_head, request_text}
 use Rattle.http_edge.specs.Responses.{line}
 use Rattle.http_edge.specs.declared.messages.Target.{Target}
 
@@ -58,7 +58,7 @@ unfolding line
 head_length target kind a b = around (decimal (length a)) (decimal (length b))
   where
     first : List ℕ
-    first = line (codes "POST " ++ (path_of kind ++ query_of target.key ++ codes " HTTP/1.1"))
+    first = line (codes "POST " ++ (path_of_kind kind ++ query_of target.key ++ codes " HTTP/1.1"))
 
     around : (d e : List ℕ)
         → length (first ++ line (codes "Host: " ++ encode_utf8_all target.host) ++ line (codes "Content-Type: application/json") ++ line (codes "Content-Length: " ++ d) ++ line (codes "Connection: close") ++ line []) + length e
@@ -81,7 +81,7 @@ same_length target kind a b same =
 
 head_with : Target → Kind → ℕ → List ℕ
 head_with target kind size =
-    line (codes "POST " ++ (path_of kind ++ query_of target.key ++ codes " HTTP/1.1"))
+    line (codes "POST " ++ (path_of_kind kind ++ query_of target.key ++ codes " HTTP/1.1"))
     ++ line (codes "Host: " ++ encode_utf8_all target.host)
     ++ line (codes "Content-Type: application/json")
     ++ line (codes "Content-Length: " ++ decimal size)

@@ -13,7 +13,7 @@ use Rattle.serde_json.specs.Written.{compact_text, items_text, members_text}
 use Rattle.sb_json.specs.Fields.{key_of}
 use Rattle.sb_json.specs.declared.fields.Field.{Field}
 use Rattle.sb_members.specs.Parts.{Parts, made}
-use Rattle.sb_members.specs.Writing.{with_member, list_written}
+use Rattle.sb_members.specs.Writing.{with_member_if_any, list_written}
 use Rattle.both_ends_laws.proofs.Costs.{total}
 
 -- ---- strings
@@ -80,7 +80,7 @@ before_first k (p ∷ ps) h =
     let both = and_parts (is_lt (slice_cmp nat_cmp k (key_of p.0))) (is_before k ps) h in
     first_of_two k p.0 p.1 (as_they_stand ps) both.0 (before_first k ps both.1)
 
-put_part : (f : Field) (o : Option Data) (ms : Members) → is_before_first (key_of f) ms ≡ true → with_member f o ms ≡ with_first f o ms
+put_part : (f : Field) (o : Option Data) (ms : Members) → is_before_first (key_of f) ms ≡ true → with_member_if_any f o ms ≡ with_first f o ms
 put_part f None ms h = refl
 put_part f (Some d) ms h = put_first (key_of f) d ms h
 
@@ -88,7 +88,7 @@ made_in_order : (ps : Parts) → is_in_order ps ≡ true → made ps ≡ as_they
 made_in_order [] h = refl
 made_in_order (p ∷ ps) h =
     let both = and_parts (is_before (key_of p.0) ps) (is_in_order ps) h in
-    ap (with_member p.0 p.1) (made_in_order ps both.1) ∙ put_part p.0 p.1 (as_they_stand ps) (before_first (key_of p.0) ps both.0)
+    ap (with_member_if_any p.0 p.1) (made_in_order ps both.1) ∙ put_part p.0 p.1 (as_they_stand ps) (before_first (key_of p.0) ps both.0)
 
 -- ---- objects
 

@@ -51,7 +51,7 @@ pub record AsksServer (history : History) (token_at : Naming) (plan : Plan) (kep
   pub replicas : AreReplicas history token_at (first_lists plan.names kept)
 
 -- Each answered round installs the update of every declared list, the lists stay replicas, and where no session was lost the run tells of no refusal.
-pub record IsComplete (history : History) (token_at : Naming) (plan : Plan) (kept : Option (List ℕ)) (rounds : List Round) (sessions : List Session) : Type 0 where
+pub record IsCompleteRun (history : History) (token_at : Naming) (plan : Plan) (kept : Option (List ℕ)) (rounds : List Round) (sessions : List Session) : Type 0 where
   pub install : InstallAnswers history token_at plan.target (first_lists plan.names kept) rounds
   pub replicas : AreReplicas history token_at (lists_after (first_lists plan.names kept) (map body_of rounds))
   pub no_refusal : All (IsAnsweredIn history token_at plan.target) sessions → has_refusals (first_lists plan.names kept) rounds ≡ false
@@ -64,7 +64,7 @@ AnsweredRunsAreComplete =
     → HasMade plan kept rounds before after
     → IsLogged sessions before.log after.log
     → AreAnsweredOrLost history token_at plan.target plan.need_digest sessions
-    → IsComplete history token_at plan kept rounds sessions
+    → IsCompleteRun history token_at plan kept rounds sessions
 
 -- ---- versions
 

@@ -17,7 +17,7 @@ use Rattle.update_run.specs.Run.{Seen}
 use Rattle.update_run.specs.Saved.{keeping}
 use Rattle.update_run.specs.declared.plan.Plan.{Plan}
 use Rattle.timed_sessions.specs.Told.{outside}
-use Rattle.update_replay.specs.Example.{example_name, first_set, whole_update}
+use Rattle.update_replay.specs.Example.{example_name, first_set, example_whole_update}
 
 -- ---- what the client is to do
 
@@ -29,7 +29,7 @@ example_plan options target = record { names = example_name ∷ []; rounds = 2; 
 
 -- the message of the first session: the whole update to the first version
 abbrev pub example_message : FetchResponse
-example_message = record { items = whole_update ∷ []; wait = 0 }
+example_message = record { items = example_whole_update ∷ []; wait = 0 }
 
 -- its one spelling
 abbrev pub example_body : List ℕ
@@ -62,7 +62,7 @@ example_sessions = answered_session ∷ lost_session ∷ []
 
 -- the updates that they brought
 abbrev pub example_bodies : List (List UpdatedList)
-example_bodies = (whole_update ∷ []) ∷ [] ∷ []
+example_bodies = (example_whole_update ∷ []) ∷ [] ∷ []
 
 -- ---- what is seen
 

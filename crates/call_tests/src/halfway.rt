@@ -1,6 +1,6 @@
 //! Checks while lists are published, and how they are settled.
 ghost use Rattle.std.specs.Prelude.{◌≡◌, ◌+◌, ◌^◌, ◌<◌, ◌≤◌, length, IfSome};
-ghost use Rattle.parallel_checks.specs.Checks.{AreOf, AreChecks};
+ghost use Rattle.parallel_checks.specs.Checks.{AreSeatsOf, AreChecks};
 
 use crate::gates::Halt;
 use crate::lists::{FIRST, SECOND, lists, urls};
@@ -18,7 +18,7 @@ pub fn begin<R: Wait>(rt: &R, alloc: Global, seats: u32) -> Option<(Publisher, R
     requires { (1 ≤ seats) × (seats ≤ 16) }
     ensures list { IfSome result (λ made. length made.0.list ≡ 1) }
     ensures count { IfSome result (λ made. length made.1 ≡ seats) }
-    ensures ours { IfSome result (λ made. AreOf made.0.boxes made.1) }
+    ensures ours { IfSome result (λ made. AreSeatsOf made.0.boxes made.1) }
 {
     start(rt, alloc, lists(alloc, FIRST)?, seats).ok()
 }
@@ -46,8 +46,8 @@ fn check_beside<R: Threads + Wait + Sync>(
     requires some { 0 < length seats }
     requires few { length urls.now < 2 ^ 32 }
     requires room { length publisher.old.list + count < 2 ^ 64 }
-    requires ours { AreOf publisher.old.boxes seats }
-    ensures ours { IfSome result (λ run. AreOf publisher.new.boxes run.seats) }
+    requires ours { AreSeatsOf publisher.old.boxes seats }
+    ensures ours { IfSome result (λ run. AreSeatsOf publisher.new.boxes run.seats) }
     ensures checks { IfSome result (λ run. AreChecks run.seats urls.now run.checks) }
 {
     let halt = Halt::new();
@@ -79,7 +79,7 @@ struct Halfway {
 // Checks two URLs, and publishes the second lists so many times between the two checks.
 fn check_halfway<R: Threads + Wait + Sync>(rt: &R, alloc: Global, count: u64) -> Option<Halfway>
     requires few { count < 2 ^ 32 }
-    ensures ours { IfSome result (λ half. AreOf half.publisher.boxes half.run.seats) }
+    ensures ours { IfSome result (λ half. AreSeatsOf half.publisher.boxes half.run.seats) }
     ensures checks { IfSome result (λ half. AreChecks half.run.seats half.urls half.run.checks) }
 {
     let (mut publisher, seats) = begin(rt, alloc, 1)?;
@@ -94,7 +94,7 @@ fn check_halfway<R: Threads + Wait + Sync>(rt: &R, alloc: Global, count: u64) ->
 
 // The publisher, and the checks once they were settled, as text.
 fn settled(alloc: Global, half: Halfway) -> Option<(Publisher, Bytes)>
-    requires ours { AreOf half.publisher.boxes half.run.seats }
+    requires ours { AreSeatsOf half.publisher.boxes half.run.seats }
     requires checks { AreChecks half.run.seats half.urls half.run.checks }
 {
     let Halfway {

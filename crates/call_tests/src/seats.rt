@@ -1,6 +1,6 @@
 //! Seats, which outlast their publisher.
 ghost use Rattle.std.specs.Prelude.{◌≡◌, ◌^◌, ◌<◌, length, IfSome};
-ghost use Rattle.parallel_checks.specs.Checks.{AreOf};
+ghost use Rattle.parallel_checks.specs.Checks.{AreSeatsOf};
 ghost use Rattle.snapshot_publish.specs.Publishing.{IsOf};
 
 use crate::halfway::begin;
@@ -43,7 +43,7 @@ fn shown_before_and_after<R: Wait>(
 fn begin_empty<R: Wait>(rt: &R, alloc: Global) -> Option<(Publisher, Row<Seat>)>
     ensures list { IfSome result (λ made. length made.0.list ≡ 1) }
     ensures count { IfSome result (λ made. length made.1 ≡ 1) }
-    ensures ours { IfSome result (λ made. AreOf made.0.boxes made.1) }
+    ensures ours { IfSome result (λ made. AreSeatsOf made.0.boxes made.1) }
 {
     start(rt, alloc, ClientLists::new(alloc, &[]).ok()?, 1).ok()
 }

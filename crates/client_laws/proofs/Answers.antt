@@ -15,20 +15,20 @@ use Rattle.hash_messages.specs.declared.response.Match.{Match}
 use Rattle.full_hash_cache.specs.declared.pair.Pair.{Pair}
 use Rattle.full_hash_cache.specs.declared.pair.Cached.{Cached}
 use Rattle.full_hash_cache.specs.declared.pair.Cached.TheVariants.{Unsafe, Safe, Ask}
-use Rattle.full_hash_cache.specs.Cache.{pair_of, answer_of}
+use Rattle.full_hash_cache.specs.Cache.{pair_of, cached_of}
 use Rattle.full_hash_cache.specs.Law.{Step, after_steps, IsToldAfter, IsNotReturned}
 use Rattle.client_laws.specs.Rulings.{IsRight}
-use Rattle.client_laws.specs.Faithful.{HasMatchOf, AgreeUnder, Begins, IsFaithfulFor, RestsOnFaithful}
+use Rattle.client_laws.specs.Faithful.{HasMatchOf, AgreeUnder, PairBeginsHash, IsFaithfulFor, RestsOnFaithful}
 
 -- ---- by kept pairs
 
 pub kept_rules : (steps : List Step) (now : Moment) (hashes : List (List ℕ)) (pair : Pair) (hash : FullHash)
-    → (answer_of (after_steps [] steps) now pair hash ≡ Unsafe → IsToldAfter steps now pair hash)
-    → (answer_of (after_steps [] steps) now pair hash ≡ Safe → IsNotReturned steps now pair hash)
-    → Begins pair hash → RestsOnFaithful steps now hashes pair hash → IsRight (answer_of (after_steps [] steps) now pair hash) hashes hash
-kept_rules steps now hashes pair hash was_told was_not begins rests = go (answer_of (after_steps [] steps) now pair hash) refl
+    → (cached_of (after_steps [] steps) now pair hash ≡ Unsafe → IsToldAfter steps now pair hash)
+    → (cached_of (after_steps [] steps) now pair hash ≡ Safe → IsNotReturned steps now pair hash)
+    → PairBeginsHash pair hash → RestsOnFaithful steps now hashes pair hash → IsRight (cached_of (after_steps [] steps) now pair hash) hashes hash
+kept_rules steps now hashes pair hash was_told was_not begins rests = go (cached_of (after_steps [] steps) now pair hash) refl
   where
-    go : (ruling : Cached) → answer_of (after_steps [] steps) now pair hash ≡ ruling → IsRight ruling hashes hash
+    go : (ruling : Cached) → cached_of (after_steps [] steps) now pair hash ≡ ruling → IsRight ruling hashes hash
     go Unsafe is =
         let told = was_told is in
         (rests.told told hash begins).1
@@ -51,7 +51,7 @@ module _ (history : History) (wait cache negative : ℕ) (asked : AskedHashes) (
   abbrev Full : List (List ℕ)
   Full = full_hashes_at history list (version_count history)
 
-  returned_where_held : (prefix : List ℕ) (hash : FullHash) → IsTrue (declares history list) → IsTrue (asks_list asked list) → Contains asked.prefixes prefix → Begins (pair_of list prefix) hash
+  returned_where_held : (prefix : List ℕ) (hash : FullHash) → IsTrue (declares history list) → IsTrue (asks_list asked list) → Contains asked.prefixes prefix → PairBeginsHash (pair_of list prefix) hash
       → Contains Full hash.bytes → HasMatchOf (find_answer history wait cache negative asked) list hash
   returned_where_held prefix hash declared list_asked prefix_asked begins held =
       let found : Match = record { name = list; hash = hash; cache = cache * 1000000000 } in

@@ -7,13 +7,13 @@ use Rattle.snapshot_publish.specs.Publications.{Publications}
 use Rattle.wait_rules.specs.declared.waits.WaitState.{WaitState}
 use Rattle.url_checker.specs.declared.findings.Hit.{Hit}
 use Rattle.url_checker.specs.Resolving.{IsResolution, Resolution, verdict_of}
-use Rattle.client_laws.specs.Decided.{IsComplete}
+use Rattle.client_laws.specs.Decided.{IsCompleteVerdict}
 use Rattle.judge_run.specs.Judging.{AreCases, Case, FindState, finds_after, judged_of_all, lists_of}
 use Rattle.judge_run.specs.declared.plan.JudgePlan.{JudgePlan}
 use Rattle.client_laws.specs.Complete.{AreComplete}
 
 module _ (law : (states : List (List ℕ)) (patience : ℕ) (target : Target) (need : Bool) (hits : List Hit) (pairs : Pairs) (waits : WaitState) (r : Resolution)
-    → IsResolution states patience target need hits pairs waits r → IsComplete patience pairs waits hits r (verdict_of pairs waits hits r))
+    → IsResolution states patience target need hits pairs waits r → IsCompleteVerdict patience pairs waits hits r (verdict_of pairs waits hits r))
     (plan : JudgePlan) (published : Publications) where
   pub are_complete : (finds : FindState) (lines : List (List ℕ)) (cases : List Case) → AreCases plan published finds lines cases
       → AreComplete plan published finds cases (judged_of_all published finds cases)

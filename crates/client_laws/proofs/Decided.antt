@@ -12,7 +12,7 @@ use Rattle.verdict_report.specs.declared.verdicts.Verdict.TheVariants.{Undecided
 use Rattle.full_hash_cache.specs.Cache.{Pairs}
 use Rattle.url_checker.specs.declared.findings.Hit.{Hit}
 use Rattle.url_checker.specs.Resolving.{Resolution, FindTalk, IsResolution, answer_in, cause_of, hits_asked, is_in_reach, makes_find, message_in, unsafe_lists, verdict_from, verdict_of}
-use Rattle.client_laws.specs.Decided.{IsComplete, IsSafeOrUnsafe, IsWhyUnanswered}
+use Rattle.client_laws.specs.Decided.{IsCompleteVerdict, IsSafeOrUnsafe, IsWhyUnanswered}
 
 open_from : (names : List ListName) (why : Option Cause) (cause : Cause) → verdict_from names why ≡ Undecided cause → why ≡ Some cause
 open_from (name ∷ names) why cause e = absurd (cc)
@@ -46,7 +46,7 @@ unanswered_by waits patience now asked None cause some asks e =
 unanswered_by waits patience now asked (Some talk) cause some asks e = e
 
 pub complete : (states : List (List ℕ)) (patience : ℕ) (target : Target) (need : Bool) (hits : List Hit) (pairs : Pairs) (waits : WaitState) (r : Resolution)
-    → IsResolution states patience target need hits pairs waits r → IsComplete patience pairs waits hits r (verdict_of pairs waits hits r)
+    → IsResolution states patience target need hits pairs waits r → IsCompleteVerdict patience pairs waits hits r (verdict_of pairs waits hits r)
 complete states patience target need hits pairs waits r is = record {
   decided = λ why.
       subst (λ (cause : Option Cause). IsSafeOrUnsafe (verdict_from (unsafe_lists pairs r.now (message_in (answer_in waits r.talk)) hits) cause))

@@ -17,7 +17,7 @@ use Rattle.verdict_report.specs.declared.verdicts.Cause.{Cause}
 use Rattle.url_checker.specs.declared.findings.Hit.{Hit}
 use Rattle.url_checker.specs.Resolving.{said_of, is_ask, hits_asked, is_returned, is_unsafe_by, message_in, unsafe_lists, cause_of}
 use Rattle.client_laws.specs.Rulings.{Rulings, IsRight, IsNoneOpen, IsCalledUnsafe}
-use Rattle.client_laws.specs.Faithful.{HasMatchOf, Begins, IsFaithfulFor, pair_of_hit}
+use Rattle.client_laws.specs.Faithful.{HasMatchOf, PairBeginsHash, IsFaithfulFor, pair_of_hit}
 use Rattle.client_laws.specs.Resolved.{ruling_by}
 use Rattle.client_laws.proofs.Members.{here, nothing, in_map, from_map, in_filter, from_filter, any_found, any_of}
 use Rattle.client_laws.proofs.NameOrder.{in_names, from_names}
@@ -47,7 +47,7 @@ is_returned_of message hit returned =
 
 -- ---- what is said in the end is right
 
-got_rules : (message : FindResponse) (hit : Hit) (hashes : List (List ℕ)) → IsFaithfulFor hashes (pair_of_hit hit) message → Begins (pair_of_hit hit) hit.hash
+got_rules : (message : FindResponse) (hit : Hit) (hashes : List (List ℕ)) → IsFaithfulFor hashes (pair_of_hit hit) message → PairBeginsHash (pair_of_hit hit) hit.hash
     → IsRight (ruling_by (Some message) Ask hit) hashes hit.hash
 got_rules message hit hashes faithful begins = go (is_returned message hit) refl
   where
@@ -56,7 +56,7 @@ got_rules message hit hashes faithful begins = go (is_returned message hit) refl
     go false is = λ held. false≢true (sym is ∙ is_returned_of message hit ((faithful hit.hash begins).0 held))
 
 pub ruling_is_right : (answer : Result FindResponse Cause) (hit : Hit) (hashes : List (List ℕ)) (kept : Cached) → IsRight kept hashes hit.hash
-    → ((message : FindResponse) → answer ≡ Ok message → kept ≡ Ask → IsFaithfulFor hashes (pair_of_hit hit) message) → Begins (pair_of_hit hit) hit.hash
+    → ((message : FindResponse) → answer ≡ Ok message → kept ≡ Ask → IsFaithfulFor hashes (pair_of_hit hit) message) → PairBeginsHash (pair_of_hit hit) hit.hash
     → IsRight (ruling_by (message_in answer) kept hit) hashes hit.hash
 ruling_is_right answer hit hashes Unsafe right faithful begins = right
 ruling_is_right answer hit hashes Safe right faithful begins = right

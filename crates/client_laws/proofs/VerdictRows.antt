@@ -5,7 +5,7 @@ use Rattle.sb_model.specs.History.{History}
 use Rattle.sb_model.specs.Naming.{Naming}
 use Rattle.full_hash_cache.specs.Cache.{Pairs}
 use Rattle.full_hash_cache.specs.Law.{Step, after_steps}
-use Rattle.url_canon.specs.Url.{Url, text_of}
+use Rattle.url_canon.specs.Url.{Url, text_of_url}
 use Rattle.update_client.specs.Held.{Held, tokens_of}
 use Rattle.update_client.specs.Replica.{AreReplicas}
 use Rattle.snapshot_publish.specs.Publications.{Publications}
@@ -49,8 +49,8 @@ module _ (history : History) (token_at : Naming) (plan : JudgePlan) (published :
         verdict = verdict_of (after_steps [] steps) finds.waits (hits_of lists url) r;
         said =
             ap (λ (text : List ℕ). judged.Verdict number text (verdict_of finds.pairs finds.waits answered.finding.hits r)) found.is.text_is
-            ∙ ap (λ (hits : List Hit). judged.Verdict number (text_of url) (verdict_of finds.pairs finds.waits hits r)) found.is.hits
-            ∙ ap (λ (pairs : Pairs). judged.Verdict number (text_of url) (verdict_of pairs finds.waits (hits_of lists url) r)) pairs_are;
+            ∙ ap (λ (hits : List Hit). judged.Verdict number (text_of_url url) (verdict_of finds.pairs finds.waits hits r)) found.is.hits
+            ∙ ap (λ (pairs : Pairs). judged.Verdict number (text_of_url url) (verdict_of pairs finds.waits (hits_of lists url) r)) pairs_are;
         borne_out = borne_out lists url steps finds.waits r are;
         lookup = lookup lists url steps finds.waits r are;
       }

@@ -3,14 +3,14 @@ use Rattle.std.specs.Prelude.{List, [], ◌∷◌, Ok, Err}
 use Rattle.snapshot_publish.specs.Publications.{Publications}
 use Rattle.verdict_report.specs.declared.verdicts.Judged.{Judged}
 use Rattle.verdict_report.specs.declared.verdicts.Judged.TheVariants as judged
-use Rattle.client_laws.specs.Decided.{IsComplete}
+use Rattle.client_laws.specs.Decided.{IsCompleteVerdict}
 use Rattle.judge_run.specs.Judging.{Case, FindState, finds_after}
 use Rattle.judge_run.specs.declared.plan.JudgePlan.{JudgePlan}
 
 -- What is said of a URL that has a canonical form is a verdict: decided where its finding was answered, and else open with its cause.
 abbrev pub IsCompleteCase : JudgePlan → FindState → Case → Judged → Type 0
 IsCompleteCase plan finds (Ok answered) (judged.Verdict number text verdict) =
-    IsComplete plan.patience finds.pairs finds.waits answered.finding.hits answered.resolution verdict
+    IsCompleteVerdict plan.patience finds.pairs finds.waits answered.finding.hits answered.resolution verdict
 IsCompleteCase plan finds (Ok answered) (judged.Refused fault) = ⊥
 IsCompleteCase plan finds (Err fault) one = Unit {0}
 

@@ -32,6 +32,6 @@ pub record IsLeftOpen (patience : ℕ) (pairs : Pairs) (waits : WaitState) (hits
   pub unanswered : IsWhyUnanswered waits patience r.now r.talk cause
 
 -- A verdict is decided where it was answered, and one that is not names its cause.
-pub record IsComplete (patience : ℕ) (pairs : Pairs) (waits : WaitState) (hits : List Hit) (r : Resolution) (verdict : Verdict) : Type 0 where
+pub record IsCompleteVerdict (patience : ℕ) (pairs : Pairs) (waits : WaitState) (hits : List Hit) (r : Resolution) (verdict : Verdict) : Type 0 where
   pub decided : HasAnswers pairs waits hits r → IsSafeOrUnsafe verdict
   pub left_open : (cause : Cause) → verdict ≡ Undecided cause → IsLeftOpen patience pairs waits hits r cause

@@ -59,14 +59,14 @@ abbrev pub example_name : ListName
 example_name = record { threat = threat.Malware; platform = platform.AnyPlatform; entry = entry.Url }
 
 -- Both hashes are published by their first four bytes. The server adds that of the expression, and then has the other in its place.
-abbrev pub first_change : Change
-first_change = record { list = example_name; adds = record { hash = expression_hash; size = 4 } ∷ []; removes = [] }
+abbrev pub url_first_change : Change
+url_first_change = record { list = example_name; adds = record { hash = expression_hash; size = 4 } ∷ []; removes = [] }
 
-abbrev pub second_change : Change
-second_change = record { list = example_name; adds = record { hash = other_hash; size = 4 } ∷ []; removes = expression_hash ∷ [] }
+abbrev pub url_second_change : Change
+url_second_change = record { list = example_name; adds = record { hash = other_hash; size = 4 } ∷ []; removes = expression_hash ∷ [] }
 
-abbrev pub example_history : History
-example_history = record { epoch = 1; declared = (example_name, 4) ∷ []; changes = first_change ∷ second_change ∷ [] }
+abbrev pub example_url_history : History
+example_url_history = record { epoch = 1; declared = (example_name, 4) ∷ []; changes = url_first_change ∷ url_second_change ∷ [] }
 
 -- The token of a version is one byte, its number.
 abbrev pub example_tokens : Naming
@@ -86,7 +86,7 @@ example_asked = find_asked [] (example_hit ∷ [])
 
 -- what the server answers when it is at a version, to be kept for five minutes
 abbrev pub answer_at : ℕ → FindResponse
-answer_at version = find_answer (up_to_version version example_history) 0 300 300 example_asked
+answer_at version = find_answer (up_to_version version example_url_history) 0 300 300 example_asked
 
 -- a resolution that got this answer
 abbrev pub got_at : ℕ → Moment → TimedSession → Option ℕ → Resolution

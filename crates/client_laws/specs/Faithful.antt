@@ -12,7 +12,7 @@ use Rattle.hash_messages.specs.declared.response.Match.{Match}
 use Rattle.hash_messages.specs.declared.response.FindResponse.{FindResponse}
 use Rattle.update_client.specs.Held.{Held}
 use Rattle.full_hash_cache.specs.declared.pair.Pair.{Pair}
-use Rattle.full_hash_cache.specs.Cache.{pair_of, answer_of}
+use Rattle.full_hash_cache.specs.Cache.{pair_of, cached_of}
 use Rattle.full_hash_cache.specs.Law.{Step, after_steps, IsToldAfter, IsNotReturned}
 use Rattle.full_hash_cache.specs.Law.Step.{Takes}
 use Rattle.url_checker.specs.declared.findings.Hit.{Hit}
@@ -26,17 +26,17 @@ pub record HasMatchOf (response : FindResponse) (list : ListName) (hash : FullHa
   pub of_list : IsTrue (same_name found.name list)
   pub of_hash : found.hash ≡ hash
 
-abbrev pub Begins : Pair → FullHash → Type 0
-Begins pair hash = take (length pair.prefix) hash.bytes ≡ pair.prefix
+abbrev pub PairBeginsHash : Pair → FullHash → Type 0
+PairBeginsHash pair hash = take (length pair.prefix) hash.bytes ≡ pair.prefix
 
 -- An answer is faithful to some full hashes for one pair: of the hashes that begin with the pair's prefix, it has matches of the
 -- pair's list for exactly those that are among them.
 abbrev pub IsFaithfulFor : List (List ℕ) → Pair → FindResponse → Type 0
-IsFaithfulFor hashes pair response = (hash : FullHash) → Begins pair hash → Contains hashes hash.bytes ↔ HasMatchOf response pair.list hash
+IsFaithfulFor hashes pair response = (hash : FullHash) → PairBeginsHash pair hash → Contains hashes hash.bytes ↔ HasMatchOf response pair.list hash
 
 -- Two lists have the same hashes that begin with a pair's prefix.
 abbrev pub AgreeUnder : Pair → List (List ℕ) → List (List ℕ) → Type 0
-AgreeUnder pair hashes others = (hash : FullHash) → Begins pair hash → Contains hashes hash.bytes ↔ Contains others hash.bytes
+AgreeUnder pair hashes others = (hash : FullHash) → PairBeginsHash pair hash → Contains hashes hash.bytes ↔ Contains others hash.bytes
 
 -- The kept answers by which a pair says something of a hash are faithful for that pair: each that has a match of the hash which has
 -- not ended, and, where none has, the last that put the pair.
@@ -51,7 +51,7 @@ pair_of_hit hit = pair_of hit.list hit.prefix
 
 -- what the kept pairs say of each hit, after some steps from no pairs on
 abbrev pub said_after : List Step → Moment → Rulings
-said_after steps now hit = answer_of (after_steps [] steps) now (pair_of_hit hit) hit.hash
+said_after steps now hit = cached_of (after_steps [] steps) now (pair_of_hit hit) hit.hash
 
 -- What the kept pairs say of each hit rests on answers that are faithful to its list for its pair.
 abbrev pub KeptAreFaithful : History → Naming → List Held → List Step → Moment → List Hit → Type 0

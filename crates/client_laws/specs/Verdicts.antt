@@ -3,7 +3,7 @@ use Rattle.std.specs.Prelude.{◌≡◌, ℕ, List, [], ◌∷◌, Ok, Err}
 use Rattle.sb_model.specs.History.{History}
 use Rattle.sb_model.specs.Naming.{Naming}
 use Rattle.url_canon.specs.Canonical.{canonical_of}
-use Rattle.url_canon.specs.Url.{Url, text_of}
+use Rattle.url_canon.specs.Url.{Url, text_of_url}
 use Rattle.update_client.specs.Held.{Held, tokens_of}
 use Rattle.snapshot_publish.specs.Publications.{Publications}
 use Rattle.full_hash_cache.specs.Law.{Step}
@@ -27,7 +27,7 @@ pub record VerdictHolds (history : History) (token_at : Naming) (number : ℕ) (
   pub url : Url
   pub canonical : canonical_of line ≡ Ok url
   pub verdict : Verdict
-  pub said : one ≡ judged.Verdict number (text_of url) verdict
+  pub said : one ≡ judged.Verdict number (text_of_url url) verdict
   pub borne_out : IsDecidedFaithfully history token_at lists steps waits (hits_of lists url) r → IsBorneOut history token_at lists url verdict
   pub lookup : IsDecidedFaithfully history token_at lists steps waits (hits_of lists url) r → IsNoneOpen (hits_of lists url) (said_in steps waits r)
       → IsLookup history token_at lists url verdict

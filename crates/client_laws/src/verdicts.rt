@@ -12,7 +12,7 @@ ghost use Rattle.update_client.specs.Held.{Held};
 ghost use Rattle.update_client.specs.Replica.{AreReplicas};
 ghost use Rattle.wait_rules.specs.declared.waits.WaitState.{WaitState};
 ghost use Rattle.full_hash_cache.specs.declared.pair.Pair.{Pair};
-ghost use Rattle.full_hash_cache.specs.Cache.{Pairs, answer_of, pair_of};
+ghost use Rattle.full_hash_cache.specs.Cache.{Pairs, cached_of, pair_of};
 ghost use Rattle.http_edge.specs.declared.messages.Target.{Target};
 ghost use Rattle.full_hash_cache.specs.Law.{Step, after_steps};
 ghost use Rattle.url_hashes.specs.Hashes.{hashes_of};
@@ -20,9 +20,9 @@ ghost use Rattle.url_checker.specs.Hits.{hits_of};
 ghost use Rattle.url_checker.specs.Resolving.{IsResolution, Resolution, answer_in, cause_of, find_asked, hits_asked, pairs_after, verdict_of};
 ghost use Rattle.url_checker.specs.declared.findings.Hit.{Hit};
 ghost use Rattle.client_laws.specs.Full.{HasHit, IsFullOf, IsListed};
-ghost use Rattle.client_laws.specs.Decided.{IsComplete};
+ghost use Rattle.client_laws.specs.Decided.{IsCompleteVerdict};
 ghost use Rattle.client_laws.specs.Rulings.{Rulings, IsRight, AreRight, AreAllSafe, IsNoneOpen, IsCalledUnsafe};
-ghost use Rattle.client_laws.specs.Faithful.{AgreeUnder, Begins, IsFaithfulFor, RestsOnFaithful, KeptAreFaithful, IsFaithful, TakenAreFaithful, said_after};
+ghost use Rattle.client_laws.specs.Faithful.{AgreeUnder, PairBeginsHash, IsFaithfulFor, RestsOnFaithful, KeptAreFaithful, IsFaithful, TakenAreFaithful, said_after};
 ghost use Rattle.client_laws.specs.Resolved.{IsLookup, IsBorneOut, IsDecidedFaithfully, said_in, steps_after};
 
 use crate::shared::shared_verdicts_are_lookups;
@@ -85,8 +85,8 @@ pub fn right_rulings_are_lookups()
 pub fn faithful_answers_rule_rightly()
     // What a cache that began with no pairs keeps says it of a hash.
     ensures kept { (steps : List Step) (now : Moment) (hashes : List (List ℕ)) (pair : Pair) (hash : FullHash)
-        → Begins pair hash → RestsOnFaithful steps now hashes pair hash
-        → IsRight (answer_of (after_steps [] steps) now pair hash) hashes hash }
+        → PairBeginsHash pair hash → RestsOnFaithful steps now hashes pair hash
+        → IsRight (cached_of (after_steps [] steps) now pair hash) hashes hash }
 
     // The same says it of each hit of a URL.
     ensures kept_hits { (history : History) (token_at : Naming) (lists : List Held) (url : Url) (steps : List Step)
@@ -161,5 +161,5 @@ pub fn resolutions_are_steps()
 pub fn resolutions_are_complete()
     ensures { (states : List (List ℕ)) (patience : ℕ) (target : Target) (need : Bool) (hits : List Hit) (pairs : Pairs)
         (waits : WaitState) (r : Resolution) → IsResolution states patience target need hits pairs waits r
-        → IsComplete patience pairs waits hits r (verdict_of pairs waits hits r) }
+        → IsCompleteVerdict patience pairs waits hits r (verdict_of pairs waits hits r) }
 {}

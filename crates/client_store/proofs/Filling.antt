@@ -20,7 +20,7 @@ use Rattle.sb_model.specs.declared.names.ListName.{ListName}
 use Rattle.sb_model.specs.Names.{threat_code, platform_code, entry_code, threat_with_code, platform_with_code, entry_with_code, same_name, name_cmp}
 use Rattle.update_client.specs.Held.{Held, AreHeldLists, nothing_held}
 use Rattle.update_client.specs.Step.{list_named}
-use Rattle.client_store.specs.Selected.{stored_or_nothing, with_list}
+use Rattle.client_store.specs.Selected.{stored_or_nothing, with_list_replaced}
 use Rattle.client_store.proofs.Heads.{threat_back, platform_back, entry_back}
 use Rattle.client_store.proofs.Members.{first_true, second_true, both_true}
 use Rattle.client_store.proofs.Named.{names_of, AreNamedInOrder}
@@ -89,12 +89,12 @@ name-put_one held own = go (same_name own.name held.name) refl
     go true is = sym (name_is own.name held.name is)
     go false is = refl
 
-names-with_list : (held : Held) (lists : List Held) → names_of (with_list held lists) ≡ names_of lists
+names-with_list : (held : Held) (lists : List Held) → names_of (with_list_replaced held lists) ≡ names_of lists
 names-with_list held [] = refl
 names-with_list held (own ∷ lists) =
-    ap (λ name. name ∷ names_of (with_list held lists)) (name-put_one held own) ∙ ap (λ names. own.name ∷ names) (names-with_list held lists)
+    ap (λ name. name ∷ names_of (with_list_replaced held lists)) (name-put_one held own) ∙ ap (λ names. own.name ∷ names) (names-with_list held lists)
 
-pub with_list_is_held : (held : Held) (lists : List Held) → AreHeldLists lists → AreHeldLists (with_list held lists)
+pub with_list_is_held : (held : Held) (lists : List Held) → AreHeldLists lists → AreHeldLists (with_list_replaced held lists)
 with_list_is_held held lists kept =
     let Rising : List ListName → Type 0 = λ names. IsStrictlySortedBy name_cmp names in
     record {
@@ -103,35 +103,35 @@ with_list_is_held held lists kept =
     }
 
 -- lists whose names all come after it stay
-kept_after : (held : Held) (lists : List Held) → AllByRecursion (λ name. name_cmp held.name name ≡ Less) (names_of lists) → with_list held lists ≡ lists
+kept_after : (held : Held) (lists : List Held) → AllByRecursion (λ name. name_cmp held.name name ≡ Less) (names_of lists) → with_list_replaced held lists ≡ lists
 kept_after held [] after = refl
 kept_after held (own ∷ lists) after =
-    ap (λ answer. cond answer held own ∷ with_list held lists) (apart held.name own.name after.0) ∙ ap (λ rest. own ∷ rest) (kept_after held lists after.1)
+    ap (λ answer. cond answer held own ∷ with_list_replaced held lists) (apart held.name own.name after.0) ∙ ap (λ rest. own ∷ rest) (kept_after held lists after.1)
 
 put_at : (held : Held) (lists : List Held) (place : ℕ) → AreNamedInOrder lists → place < length lists → ((d : Held) → same_name (get_or lists place d).name held.name ≡ true)
-    → ((k : ℕ) (d : Held) → k < place → same_name (get_or lists k d).name held.name ≡ false) → set lists place held ≡ with_list held lists
+    → ((k : ℕ) (d : Held) → k < place → same_name (get_or lists k d).name held.name ≡ false) → set lists place held ≡ with_list_replaced held lists
 put_at held [] place rising within here before = absurd (omega (arith, within))
 put_at held (own ∷ lists) zero rising within here before =
     let one : own.name ≡ held.name = name_is own.name held.name (here own) in
     let after = subst (λ (name : ListName). AllByRecursion (λ other. name_cmp name other ≡ Less) (names_of lists)) one (sorted_head name_cmp own.name (names_of lists) rising) in
-    ap (λ rest. held ∷ rest) (sym (kept_after held lists after)) ∙ ap (λ answer. cond answer held own ∷ with_list held lists) (sym (here own))
+    ap (λ rest. held ∷ rest) (sym (kept_after held lists after)) ∙ ap (λ answer. cond answer held own ∷ with_list_replaced held lists) (sym (here own))
 put_at held (own ∷ lists) (suc place) rising within here before =
     ap (λ rest. own ∷ rest) (put_at held lists place (sorted_tail name_cmp own.name (names_of lists) rising) (omega (arith, within)) here (λ k d below. before (suc k) d (omega (arith, below))))
-    ∙ ap (λ answer. cond answer held own ∷ with_list held lists) (sym (before zero own (omega arith)))
+    ∙ ap (λ answer. cond answer held own ∷ with_list_replaced held lists) (sym (before zero own (omega arith)))
 
-pub put_found : (held : Held) (lists : List Held) (place : ℕ) → AreNamedInOrder lists → position (λ (own : Held). same_name own.name held.name) lists ≡ Some place → set lists place held ≡ with_list held lists
+pub put_found : (held : Held) (lists : List Held) (place : ℕ) → AreNamedInOrder lists → position (λ (own : Held). same_name own.name held.name) lists ≡ Some place → set lists place held ≡ with_list_replaced held lists
 put_found held lists place rising found =
     let test : Held → Bool = λ own. same_name own.name held.name in
     put_at held lists place rising (position-Some test lists place held found).0 (λ d. (position-Some test lists place d found).1) (λ k d below. (position-Some test lists place d found).2 k below)
 
 -- lists of which none has its name stay
-kept_without : (held : Held) (lists : List Held) → ((k : ℕ) (d : Held) → k < length lists → same_name (get_or lists k d).name held.name ≡ false) → lists ≡ with_list held lists
+kept_without : (held : Held) (lists : List Held) → ((k : ℕ) (d : Held) → k < length lists → same_name (get_or lists k d).name held.name ≡ false) → lists ≡ with_list_replaced held lists
 kept_without held [] none = refl
 kept_without held (own ∷ lists) none =
     ap (λ rest. own ∷ rest) (kept_without held lists (λ k d below. none (suc k) d (omega (arith, below))))
-    ∙ ap (λ answer. cond answer held own ∷ with_list held lists) (sym (none zero own (omega arith)))
+    ∙ ap (λ answer. cond answer held own ∷ with_list_replaced held lists) (sym (none zero own (omega arith)))
 
-pub put_nowhere : (held : Held) (lists : List Held) → position (λ (own : Held). same_name own.name held.name) lists ≡ None → lists ≡ with_list held lists
+pub put_nowhere : (held : Held) (lists : List Held) → position (λ (own : Held). same_name own.name held.name) lists ≡ None → lists ≡ with_list_replaced held lists
 put_nowhere held lists none = kept_without held lists (λ k d below. fails_before_first test lists k d (omega (arith, past (ltb found (length lists)) refl none, below)))
   where
     test : Held → Bool
@@ -177,7 +177,7 @@ fill_one stored held own = go (same_name own.name held.name) refl
         ap (λ o. unwrap_or o own) last ∙ either (list_named own.name stored) (same_name held.name own.name)
         ∙ ap (λ answer. unwrap_or (list_named own.name stored) (cond answer held own)) (same_back own.name held.name false is)
 
-pub fill-last : (stored : List Held) (held : Held) (lists : List Held) → fill (stored ++ held ∷ []) lists ≡ fill stored (with_list held lists)
+pub fill-last : (stored : List Held) (held : Held) (lists : List Held) → fill (stored ++ held ∷ []) lists ≡ fill stored (with_list_replaced held lists)
 fill-last stored held [] = refl
 fill-last stored held (own ∷ lists) =
     ap (λ first. first ∷ fill (stored ++ held ∷ []) lists) (fill_one stored held own)

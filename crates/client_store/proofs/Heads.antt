@@ -13,7 +13,7 @@ use Rattle.sb_model.specs.declared.names.EntryType.TheVariants as entry
 use Rattle.sb_model.specs.declared.names.ListName.{ListName}
 use Rattle.sb_model.specs.Names.{threats, platforms, entries, threat_code, platform_code, entry_code, threat_with_code, platform_with_code, entry_with_code}
 use Rattle.update_client.specs.Held.{Held}
-use Rattle.client_store.specs.Store.{name_text, mark_text, token_text}
+use Rattle.client_store.specs.Store.{name_text, mark_text, stored_token_text}
 use Rattle.client_store.specs.Reading.{◌>>=◌, or_broken, byte_at, bytes_at, number_at, name_of_codes, name_of_bytes, comes_after, name_at, mark_of, mark_at, most_token_bytes, token_at}
 use Rattle.client_store.proofs.Parts.{IsBytes, bind_ok, unless_ok, if_ok, or_broken_ok, ok_is, Takes, joined, byte_takes, bytes_take, bytes_again, two_bytes, number_takes, number_again}
 
@@ -139,7 +139,7 @@ mark_again false rest = refl
 
 -- ---- tokens
 
-pub token_takes : (bytes : List ℕ) (x : List ℕ × List ℕ) → IsBytes bytes → token_at bytes ≡ Ok x → Takes bytes (token_text x.0) x.1 × (length x.0 ≤ most_token_bytes)
+pub token_takes : (bytes : List ℕ) (x : List ℕ × List ℕ) → IsBytes bytes → token_at bytes ≡ Ok x → Takes bytes (stored_token_text x.0) x.1 × (length x.0 ≤ most_token_bytes)
 unfolding token_at
 token_takes bytes x fits e =
     let a = bind_ok (number_at w16 bytes) (λ size. cond (ltb most_token_bytes size.0) (Err (length bytes)) (bytes_at size.0 size.1)) x e in
@@ -149,10 +149,10 @@ token_takes bytes x fits e =
     let short : a.0.0 ≤ most_token_bytes = ltb-false _ _ kept.0 in
     (subst (λ (n : ℕ). Takes bytes (to_be_bytes w16 n ++ x.0) x.1) (sym second.1) (joined bytes (to_be_bytes w16 a.0.0) a.0.1 x.0 x.1 first second.0), omega (arith, second.1, short))
 
-pub token_again : (token rest : List ℕ) → length token ≤ most_token_bytes → token_at (token_text token ++ rest) ≡ Ok (token, rest)
+pub token_again : (token rest : List ℕ) → length token ≤ most_token_bytes → token_at (stored_token_text token ++ rest) ≡ Ok (token, rest)
 unfolding token_at
 token_again token rest short =
     let kept : ltb most_token_bytes (length token) ≡ false = le-ltb _ _ short in
-    let regrouped : token_text token ++ rest ≡ to_be_bytes w16 (length token) ++ (token ++ rest) = append_assoc (to_be_bytes w16 (length token)) token rest in
+    let regrouped : stored_token_text token ++ rest ≡ to_be_bytes w16 (length token) ++ (token ++ rest) = append_assoc (to_be_bytes w16 (length token)) token rest in
     ap token_at regrouped
     ∙ rw (number_again w16 (2 ^ 16) two_bytes (length token) (token ++ rest) (omega arith), kept, bytes_again token rest (length token) refl) refl

@@ -10,7 +10,7 @@ use Rattle.std.proofs.lemmas.List.Concat.{flat_map-append, flat_map-cons}
 use Rattle.sb_model.specs.History.{IsPrefixSize}
 use Rattle.sb_model.specs.Prefixes.{bytes_cmp, IsRising, concatenation}
 use Rattle.prefix_set.specs.declared.set.TheConstants.{MAX_BYTES}
-use Rattle.client_store.specs.Reading.{◌>>=◌, byte_at, bytes_at, is_prefix_size, last_of, may_follow, size_at, prefix_at, prefixes_at}
+use Rattle.client_store.specs.Reading.{◌>>=◌, byte_at, bytes_at, is_prefix_size, last_of, may_follow, size_at, prefix_at, more_prefixes_at}
 use Rattle.client_store.proofs.Parts.{IsBytes, bind_ok, if_ok, ok_is, Takes, joined, byte_takes, bytes_take, bytes_again}
 use Rattle.client_store.proofs.Rising.{sorted_push, before_next, all_before, last_before, bytes-push}
 
@@ -107,14 +107,14 @@ pub record TakesPrefixes (common : Option ℕ) (count : ℕ) (set : List (List �
   pub rising : IsRising set → IsRising after
   pub within : length (concatenation set) ≤ MAX_BYTES → length (concatenation after) ≤ MAX_BYTES
 
-pub prefixes_take : (common : Option ℕ) (count : ℕ) (set : List (List ℕ)) (bytes : List ℕ) (x : List (List ℕ) × List ℕ) → IsBytes bytes → prefixes_at common count set bytes ≡ Ok x
+pub prefixes_take : (common : Option ℕ) (count : ℕ) (set : List (List ℕ)) (bytes : List ℕ) (x : List (List ℕ) × List ℕ) → IsBytes bytes → more_prefixes_at common count set bytes ≡ Ok x
     → TakesPrefixes common count set bytes x.0 x.1
-unfolding prefixes_at
+unfolding more_prefixes_at
 prefixes_take common zero set bytes x fits e =
     subst (λ (y : List (List ℕ) × List ℕ). TakesPrefixes common zero set bytes y.0 y.1) (ok_is (set, bytes) x e)
     (record { more = []; is = sym (append-nil set); number = refl; takes = record { parts = refl; fits = fits }; sizes = tt; rising = λ h. h; within = λ h. h })
 prefixes_take common (suc count) set bytes x fits e =
-    let a = bind_ok (prefix_at common set bytes) (λ prefix. prefixes_at common count (set ++ prefix.0 ∷ []) prefix.1) x e in
+    let a = bind_ok (prefix_at common set bytes) (λ prefix. more_prefixes_at common count (set ++ prefix.0 ∷ []) prefix.1) x e in
     let first = prefix_takes common set bytes a.0 fits a.1 in
     let others = prefixes_take common count (set ++ a.0.0 ∷ []) a.0.1 x first.0.fits a.2 in
     record {
@@ -140,8 +140,8 @@ bytes-front set more =
 
 pub prefixes_again : (common : Option ℕ) (set more : List (List ℕ)) (rest : List ℕ) → IsRising (set ++ more) → length (concatenation (set ++ more)) ≤ MAX_BYTES
     → AllByRecursion (λ prefix. FitsSize common (length prefix)) more → AllByRecursion (λ prefix. IsPrefixSize (length prefix)) more
-    → prefixes_at common (length more) set (flat_map (sized_text common) more ++ rest) ≡ Ok (set ++ more, rest)
-unfolding prefixes_at
+    → more_prefixes_at common (length more) set (flat_map (sized_text common) more ++ rest) ≡ Ok (set ++ more, rest)
+unfolding more_prefixes_at
 prefixes_again common set [] rest rising within fits sizes = ap (λ (s : List (List ℕ)). Ok (s, rest)) (sym (append-nil set))
 prefixes_again common set (prefix ∷ more) rest rising within fits sizes =
     let grouped : (set ++ prefix ∷ []) ++ more ≡ set ++ prefix ∷ more = append_assoc set (prefix ∷ []) more in
@@ -150,6 +150,6 @@ prefixes_again common set (prefix ∷ more) rest rising within fits sizes =
     let regrouped : flat_map (sized_text common) (prefix ∷ more) ++ rest ≡ sized_text common prefix ++ (flat_map (sized_text common) more ++ rest) =
     ap (λ (t : List ℕ). t ++ rest) (flat_map-cons (sized_text common) prefix more) ∙ append_assoc (sized_text common prefix) (flat_map (sized_text common) more) rest
     in
-    ap (prefixes_at common (suc (length more)) set) regrouped
+    ap (more_prefixes_at common (suc (length more)) set) regrouped
     ∙ rw (prefix_again common set prefix (flat_map (sized_text common) more ++ rest) fits.0 follows) (prefixes_again common (set ++ prefix ∷ []) more rest (subst IsRising (sym grouped) rising) (subst (λ (s : List (List ℕ)). length (concatenation s) ≤ MAX_BYTES) (sym grouped) within) fits.1 sizes.1
     ∙ ap (λ (s : List (List ℕ)). Ok (s, rest)) grouped)

@@ -13,7 +13,7 @@ use Rattle.sb_model.specs.Names.{name_cmp}
 use Rattle.update_client.specs.Held.{Held, AreHeldLists, most_lists}
 use Rattle.client_store.specs.declared.format.Format.{Format}
 use Rattle.client_store.specs.declared.format.Format.TheVariants.{OneSize, EachSize}
-use Rattle.client_store.specs.Store.{name_text, mark_text, token_text, set_text, list_text, lists_text, IsKept, AreKept, HasOneSize, Suits}
+use Rattle.client_store.specs.Store.{name_text, mark_text, stored_token_text, set_text, list_text, counted_lists_text, IsKept, AreKept, HasOneSize, Suits}
 use Rattle.client_store.specs.Reading.{◌>>=◌, byte_at, comes_after, name_at, mark_at, token_at, set_at, list_at, lists_at, lists_in}
 use Rattle.client_store.proofs.Heads.{name_takes, name_again, mark_takes, mark_again, token_takes, token_again}
 use Rattle.client_store.proofs.Members.{first_true, second_true, both_true, less_from_true}
@@ -40,9 +40,9 @@ list_takes format before bytes x fits e =
     let mark = mark_takes a.0.1 b.0 name.0.fits b.1 in
     let token = token_takes b.0.1 c.0 mark.fits c.1 in
     let set = set_takes format c.0.1 d.0 token.0.fits d.1 in
-    let last = joined b.0.1 (token_text c.0.0) c.0.1 (set_text format d.0.0) d.0.1 token.0 set.0 in
-    let tail = joined a.0.1 (mark_text b.0.0) b.0.1 (token_text c.0.0 ++ set_text format d.0.0) d.0.1 mark last in
-    let whole = joined bytes (name_text a.0.0) a.0.1 (mark_text b.0.0 ++ (token_text c.0.0 ++ set_text format d.0.0)) d.0.1 name.0 tail in
+    let last = joined b.0.1 (stored_token_text c.0.0) c.0.1 (set_text format d.0.0) d.0.1 token.0 set.0 in
+    let tail = joined a.0.1 (mark_text b.0.0) b.0.1 (stored_token_text c.0.0 ++ set_text format d.0.0) d.0.1 mark last in
+    let whole = joined bytes (name_text a.0.0) a.0.1 (mark_text b.0.0 ++ (stored_token_text c.0.0 ++ set_text format d.0.0)) d.0.1 name.0 tail in
     let made : Held × List ℕ = (record { name = a.0.0; token = c.0.0; set = d.0.0; resync = b.0.0 }, d.0.1) in
     subst (λ (y : Held × List ℕ). TakesList format before bytes y.0 y.1) (ok_is made x d.2)
     (record { takes = whole; kept = record { token = record { token = token.1 }; set = set.1 }; suits = set.2; after = name.1 })
@@ -52,12 +52,12 @@ list_again : (format : Format) (before : List Held) (held : Held) (rest : List �
 unfolding list_at
 list_again format before held rest after kept suits =
     let set : List ℕ = set_text format held.set ++ rest in
-    let token : List ℕ = token_text held.token ++ set in
+    let token : List ℕ = stored_token_text held.token ++ set in
     let mark : List ℕ = mark_text held.resync ++ token in
     let regrouped : list_text format held ++ rest ≡ name_text held.name ++ mark =
-    append_assoc (name_text held.name) (mark_text held.resync ++ (token_text held.token ++ set_text format held.set)) rest
-    ∙ ap (λ (t : List ℕ). name_text held.name ++ t) (append_assoc (mark_text held.resync) (token_text held.token ++ set_text format held.set) rest
-    ∙ ap (λ (t : List ℕ). mark_text held.resync ++ t) (append_assoc (token_text held.token) (set_text format held.set) rest))
+    append_assoc (name_text held.name) (mark_text held.resync ++ (stored_token_text held.token ++ set_text format held.set)) rest
+    ∙ ap (λ (t : List ℕ). name_text held.name ++ t) (append_assoc (mark_text held.resync) (stored_token_text held.token ++ set_text format held.set) rest
+    ∙ ap (λ (t : List ℕ). mark_text held.resync ++ t) (append_assoc (stored_token_text held.token) (set_text format held.set) rest))
     in
     ap (list_at format before) regrouped
     ∙ rw (name_again before held.name mark after, mark_again held.resync token, token_again held.token set kept.token.token, set_again format held.set rest kept.set suits) refl
@@ -154,7 +154,7 @@ lists_are_held format count bytes lists rest fits few read =
     let taken = lists_take format count [] bytes (lists, rest) fits read in
     record { few = omega (arith, ap length taken.is, taken.number, few); rising = taken.rising (sorted_nil name_cmp) }
 
-pub lists_in_take : (format : Format) (bytes : List ℕ) (lists : List Held) → IsBytes bytes → lists_in format bytes ≡ Ok lists → (bytes ≡ lists_text format lists) × AreKept lists × Suits format lists
+pub lists_in_take : (format : Format) (bytes : List ℕ) (lists : List Held) → IsBytes bytes → lists_in format bytes ≡ Ok lists → (bytes ≡ counted_lists_text format lists) × AreKept lists × Suits format lists
 unfolding lists_in
 lists_in_take format bytes lists fits e =
     let a = bind_ok (byte_at bytes) (λ count. cond (ltb most_lists count.0) (Err (length bytes)) (lists_at format count.0 [] count.1) >>= λ read. cond (ltb 0 (length read.1)) (Err (length read.1)) (Ok read.0)) lists e in
@@ -165,21 +165,21 @@ lists_in_take format bytes lists fits e =
     let taken = lists_take format a.0.0 [] a.0.1 b.0 first.fits few.1 in
     let nothing : b.0.1 ≡ [] = nil_from_length b.0.1 (omega (arith, ltb-false _ _ ended.0)) in
     let whole = joined bytes (a.0.0 ∷ []) a.0.1 (flat_map (list_text format) taken.more) b.0.1 first taken.takes in
-    let text : bytes ≡ lists_text format taken.more =
+    let text : bytes ≡ counted_lists_text format taken.more =
     whole.parts ∙ ap (λ (t : List ℕ). (a.0.0 ∷ flat_map (list_text format) taken.more) ++ t) nothing ∙ append-nil (a.0.0 ∷ flat_map (list_text format) taken.more)
     ∙ ap (λ (n : ℕ). n ∷ flat_map (list_text format) taken.more) (sym taken.number)
     in
     let held = lists_are_held format a.0.0 a.0.1 b.0.0 b.0.1 first.fits (ltb-false _ _ few.0) few.1 in
     let named = subst AreHeldLists taken.is held in
     let kept : AreKept taken.more = record { named = named; each = All-from_recursion IsKept taken.more taken.kept } in
-    subst (λ (l : List Held). (bytes ≡ lists_text format l) × AreKept l × Suits format l) (sym taken.is ∙ ok_is b.0.0 lists ended.1)
+    subst (λ (l : List Held). (bytes ≡ counted_lists_text format l) × AreKept l × Suits format l) (sym taken.is ∙ ok_is b.0.0 lists ended.1)
     (text, kept, suits_all format taken.more taken.suits)
 
 -- the lists at the front of a string
 pub lists_front : (format : Format) (lists : List Held) (rest : List ℕ) → AreKept lists → Suits format lists → lists_at format (length lists) [] (flat_map (list_text format) lists ++ rest) ≡ Ok (lists, rest)
 lists_front format lists rest kept suits = lists_again format [] lists rest kept.named.rising (recursion_from_All IsKept lists kept.each) (suits_each format lists suits)
 
-pub lists_in_again : (format : Format) (lists : List Held) → AreKept lists → Suits format lists → lists_in format (lists_text format lists) ≡ Ok lists
+pub lists_in_again : (format : Format) (lists : List Held) → AreKept lists → Suits format lists → lists_in format (counted_lists_text format lists) ≡ Ok lists
 unfolding lists_in
 lists_in_again format lists kept suits =
     let few : ltb most_lists (length lists) ≡ false = le-ltb _ _ kept.named.few in

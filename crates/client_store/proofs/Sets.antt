@@ -12,8 +12,8 @@ use Rattle.prefix_set.specs.Limits.{IsPrefixSet}
 use Rattle.prefix_set.specs.declared.set.TheConstants.{MAX_PREFIXES}
 use Rattle.client_store.specs.declared.format.Format.{Format}
 use Rattle.client_store.specs.declared.format.Format.TheVariants.{OneSize, EachSize}
-use Rattle.client_store.specs.Store.{prefix_text, size_of, set_text, HasOneSize}
-use Rattle.client_store.specs.Reading.{◌>>=◌, byte_at, number_at, is_prefix_size, prefixes_at, counted_at, sized_set_at, common_size_at, fits_count, even_set_at, set_at}
+use Rattle.client_store.specs.Store.{prefix_text, common_size_of, set_text, HasOneSize}
+use Rattle.client_store.specs.Reading.{◌>>=◌, byte_at, number_at, is_prefix_size, more_prefixes_at, counted_at, sized_set_at, common_size_at, fits_count, even_set_at, set_at}
 use Rattle.client_store.proofs.Parts.{IsBytes, bind_ok, unless_ok, if_ok, ok_is, Takes, joined, byte_takes, four_bytes, number_takes, number_again}
 use Rattle.client_store.proofs.Members.{is_size, size_passes, FitsSize, TakesPrefixes, prefixes_take, prefixes_again}
 use Rattle.client_store.proofs.Rising.{sorted_nil}
@@ -36,7 +36,7 @@ pub sized_set_takes : (bytes : List ℕ) (x : List (List ℕ) × List ℕ) → I
 unfolding sized_set_at
 sized_set_takes bytes x fits e =
     let a = bind_ok (number_at w32 bytes) (λ count. counted_at None bytes count) x e in
-    let kept = unless_ok (ltb MAX_PREFIXES a.0.0) (length bytes) (prefixes_at None a.0.0 [] a.0.1) x a.2 in
+    let kept = unless_ok (ltb MAX_PREFIXES a.0.0) (length bytes) (more_prefixes_at None a.0.0 [] a.0.1) x a.2 in
     let first = number_takes w32 (2 ^ 32) four_bytes bytes a.0 fits a.1 in
     let taken = prefixes_take None a.0.0 [] a.0.1 x first.fits kept.1 in
     let few : a.0.0 ≤ MAX_PREFIXES = ltb-false _ _ kept.0 in
@@ -88,7 +88,7 @@ fits_cases size count h = go (eqb size 0) refl h
     go false own fits = inr (some size own, ltb-true _ _ fits)
 
 -- where the size fits the number of prefixes, all of which have it, it is that of the set
-size_is : (size : ℕ) (set : List (List ℕ)) → fits_count size (length set) ≡ true → AllByRecursion (λ prefix. length prefix ≡ size) set → size_of set ≡ size
+size_is : (size : ℕ) (set : List (List ℕ)) → fits_count size (length set) ≡ true → AllByRecursion (λ prefix. length prefix ≡ size) set → common_size_of set ≡ size
 size_is size [] fits sizes =
     elim (fits_cases size 0 fits) [ inl none ↦ sym none.0 | inr some ↦ absurd (omega (arith, some.1)) ]
 size_is size (prefix ∷ set) fits sizes = sizes.0
@@ -111,13 +111,13 @@ even_set_takes bytes x fits e =
     let a = bind_ok (common_size_at bytes) (λ size. number_at w32 size.1 >>= λ count. cond (fits_count size.0 count.0) (counted_at (Some size.0) size.1 count) (Err (length bytes))) x e in
     let b = bind_ok (number_at w32 a.0.1) (λ count. cond (fits_count a.0.0 count.0) (counted_at (Some a.0.0) a.0.1 count) (Err (length bytes))) x a.2 in
     let fitting = if_ok (fits_count a.0.0 b.0.0) (length bytes) (counted_at (Some a.0.0) a.0.1 b.0) x b.2 in
-    let kept = unless_ok (ltb MAX_PREFIXES b.0.0) (length a.0.1) (prefixes_at (Some a.0.0) b.0.0 [] b.0.1) x fitting.1 in
+    let kept = unless_ok (ltb MAX_PREFIXES b.0.0) (length a.0.1) (more_prefixes_at (Some a.0.0) b.0.0 [] b.0.1) x fitting.1 in
     let first = common_size_takes bytes a.0 fits a.1 in
     let second = number_takes w32 (2 ^ 32) four_bytes a.0.1 b.0 first.0.fits b.1 in
     let taken = prefixes_take (Some a.0.0) b.0.0 [] b.0.1 x second.fits kept.1 in
     let few : b.0.0 ≤ MAX_PREFIXES = ltb-false _ _ kept.0 in
     let fitted : fits_count a.0.0 (length taken.more) ≡ true = subst (λ (n : ℕ). fits_count a.0.0 n ≡ true) (sym taken.number) fitting.0 in
-    let one : size_of taken.more ≡ a.0.0 = size_is a.0.0 taken.more fitted taken.sizes in
+    let one : common_size_of taken.more ≡ a.0.0 = size_is a.0.0 taken.more fitted taken.sizes in
     let each : All (λ prefix. length prefix ≡ a.0.0) taken.more = All-from_recursion (λ prefix. length prefix ≡ a.0.0) taken.more taken.sizes in
     let sizes = All-from_recursion (λ prefix. IsPrefixSize (length prefix)) taken.more (all_sized a.0.0 taken.more first.1 fitted taken.sizes) in
     let tail = joined a.0.1 (to_be_bytes w32 b.0.0) b.0.1 (concatenation taken.more) x.1 second taken.takes in
@@ -131,11 +131,11 @@ or_right : (a b : Bool) → b ≡ true → (a || b) ≡ true
 or_right true b h = refl
 or_right false b h = h
 
-common_passes : (set : List (List ℕ)) → AllByRecursion (λ prefix. IsPrefixSize (length prefix)) set → CommonSize (size_of set)
+common_passes : (set : List (List ℕ)) → AllByRecursion (λ prefix. IsPrefixSize (length prefix)) set → CommonSize (common_size_of set)
 common_passes [] sizes = refl
 common_passes (prefix ∷ set) sizes = or_right (eqb (length prefix) 0) (is_prefix_size (length prefix)) (size_passes (length prefix) sizes.0)
 
-count_fits : (set : List (List ℕ)) → AllByRecursion (λ prefix. IsPrefixSize (length prefix)) set → fits_count (size_of set) (length set) ≡ true
+count_fits : (set : List (List ℕ)) → AllByRecursion (λ prefix. IsPrefixSize (length prefix)) set → fits_count (common_size_of set) (length set) ≡ true
 count_fits [] sizes = refl
 count_fits ([] ∷ set) sizes = absurd (omega (arith, sizes.0.low))
 count_fits ((byte ∷ prefix) ∷ set) sizes = grind arith
@@ -148,11 +148,11 @@ pub even_set_again : (set : List (List ℕ)) (rest : List ℕ) → IsPrefixSet s
 unfolding even_set_at
 even_set_again set rest kept one =
     let sizes = recursion_from_All (λ prefix. IsPrefixSize (length prefix)) set kept.prefixes in
-    let read = prefixes_again (Some (size_of set)) [] set rest kept.rising kept.bytes (recursion_from_All (λ prefix. length prefix ≡ size_of set) set one) sizes in
+    let read = prefixes_again (Some (common_size_of set)) [] set rest kept.rising kept.bytes (recursion_from_All (λ prefix. length prefix ≡ common_size_of set) set one) sizes in
     let after : List ℕ = to_be_bytes w32 (length set) ++ (concatenation set ++ rest) in
-    let regrouped : set_text OneSize set ++ rest ≡ size_of set ∷ after = ap (λ (t : List ℕ). size_of set ∷ t) (append_assoc (to_be_bytes w32 (length set)) (concatenation set) rest) in
+    let regrouped : set_text OneSize set ++ rest ≡ common_size_of set ∷ after = ap (λ (t : List ℕ). common_size_of set ∷ t) (append_assoc (to_be_bytes w32 (length set)) (concatenation set) rest) in
     ap even_set_at regrouped
-    ∙ rw (common_size_again (size_of set) after (common_passes set sizes), number_again w32 (2 ^ 32) four_bytes (length set) (concatenation set ++ rest) (omega (arith, kept.count)), count_fits set sizes, few_passes set kept) read
+    ∙ rw (common_size_again (common_size_of set) after (common_passes set sizes), number_again w32 (2 ^ 32) four_bytes (length set) (concatenation set ++ rest) (omega (arith, kept.count)), count_fits set sizes, few_passes set kept) read
 
 -- ---- either format
 
@@ -177,7 +177,7 @@ fitted_sizes (Some size) (prefix ∷ set) sized fits = (subst IsPrefixSize (sym 
 fitted_sizes None set sized fits = fits
 
 pub prefixes_are_kept : (common : Option ℕ) (count : ℕ) (bytes : List ℕ) (set : List (List ℕ)) (rest : List ℕ) → IsBytes bytes → IfSome common IsPrefixSize → count ≤ MAX_PREFIXES
-    → prefixes_at common count [] bytes ≡ Ok (set, rest) → IsPrefixSet set
+    → more_prefixes_at common count [] bytes ≡ Ok (set, rest) → IsPrefixSet set
 prefixes_are_kept common count bytes set rest fits sized few read =
     let taken = prefixes_take common count [] bytes (set, rest) fits read in
     let sizes = All-from_recursion (λ prefix. IsPrefixSize (length prefix)) taken.more (fitted_sizes common taken.more sized taken.sizes) in
@@ -193,7 +193,7 @@ same_count size a b some same = sym (mul-div_cancel_left a some) ∙ ap (λ (n :
 
 -- what the first bytes are as a set is what is read of them one by one
 pub read_at_once : (size count : ℕ) (set : List (List ℕ)) (bytes whole rest : List ℕ) → IsPrefixSize size → IsPrefixSet set → All (λ prefix. length prefix ≡ size) set
-    → concatenation set ≡ whole → length whole ≡ size * count → bytes ≡ whole ++ rest → (count ≤ MAX_PREFIXES) × (prefixes_at (Some size) count [] bytes ≡ Ok (set, rest))
+    → concatenation set ≡ whole → length whole ≡ size * count → bytes ≡ whole ++ rest → (count ≤ MAX_PREFIXES) × (more_prefixes_at (Some size) count [] bytes ≡ Ok (set, rest))
 read_at_once size count set bytes whole rest four kept even set_is long is =
     let each = recursion_from_All (λ prefix. length prefix ≡ size) set even in
     let sizes = recursion_from_All (λ prefix. IsPrefixSize (length prefix)) set kept.prefixes in
@@ -201,7 +201,7 @@ read_at_once size count set bytes whole rest four kept even set_is long is =
     let number : length set ≡ count = same_count size (length set) count (omega (arith, four.low)) total in
     let read = prefixes_again (Some size) [] set rest kept.rising kept.bytes each sizes in (
       subst (λ (n : ℕ). n ≤ MAX_PREFIXES) number kept.count,
-      ap (λ (n : ℕ). prefixes_at (Some size) n [] bytes) (sym number)
-          ∙ ap (prefixes_at (Some size) (length set) []) (is ∙ ap (λ (text : List ℕ). text ++ rest) (sym set_is))
+      ap (λ (n : ℕ). more_prefixes_at (Some size) n [] bytes) (sym number)
+          ∙ ap (more_prefixes_at (Some size) (length set) []) (is ∙ ap (λ (text : List ℕ). text ++ rest) (sym set_is))
           ∙ read,
     )

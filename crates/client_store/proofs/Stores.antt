@@ -14,7 +14,7 @@ use Rattle.client_store.specs.declared.fault.StoreFault.TheVariants as fault
 use Rattle.client_store.specs.declared.format.Format.{Format}
 use Rattle.client_store.specs.declared.format.Format.TheVariants.{OneSize, EachSize}
 use Rattle.client_store.specs.Store.{format_number, list_text, body_text, text_in, AreKept, Suits, IsStoreOf, IsCutStore}
-use Rattle.client_store.specs.Reading.{lists_at, lists_in, least_bytes, body_in, digest_in, format_of, placed, body_reading, reading_in, reading_as, store_reading}
+use Rattle.client_store.specs.Reading.{lists_at, lists_in, least_bytes, body_in, digest_in, format_of, fault_placed, body_reading, reading_in, reading_as, store_reading}
 use Rattle.client_store.proofs.Named.{lists_front, lists_in_take, lists_in_again}
 use Rattle.client_store.proofs.Parts.{IsBytes, ok_is, IsBytes-take, IsBytes-drop}
 
@@ -28,7 +28,7 @@ if_no_fault : {A : Type 0} (b : Bool) (why : StoreFault) (r : Result A StoreFaul
 if_no_fault true why r y e = (refl, e)
 if_no_fault false why r y e = absurd cc
 
-placed_ok : {A : Type 0} (size : ℕ) (r : Result A ℕ) (y : A) → placed size r ≡ Ok y → r ≡ Ok y
+placed_ok : {A : Type 0} (size : ℕ) (r : Result A ℕ) (y : A) → fault_placed size r ≡ Ok y → r ≡ Ok y
 placed_ok size (Ok a) y e = cc
 placed_ok size (Err left) y e = absurd cc
 

@@ -5,8 +5,8 @@ use Rattle.client_store.specs.declared.fault.StoreFault.{StoreFault}
 use Rattle.client_store.specs.declared.fault.StoreFault.TheVariants as fault
 
 -- Want of memory is no cause of a store, and is never printed.
-abbrev pub cause_text : StoreFault → List ℕ
-cause_text (fault.Shape place) = codes "shape " ++ decimal place
-cause_text (fault.Digest got given) = codes "digest " ++ encode_lower got ++ codes " " ++ encode_lower given
-cause_text (fault.Format number) = codes "format " ++ decimal number
-cause_text fault.OutOfMemory = codes "out-of-memory"
+abbrev pub store_cause_text : StoreFault → List ℕ
+store_cause_text (fault.Shape place) = codes "shape " ++ decimal place
+store_cause_text (fault.Digest got given) = codes "digest " ++ encode_lower got ++ codes " " ++ encode_lower given
+store_cause_text (fault.Format number) = codes "format " ++ decimal number
+store_cause_text fault.OutOfMemory = codes "out-of-memory"

@@ -112,16 +112,16 @@ prefix_at common set bytes = do
   if may_follow set prefix.0 then Ok prefix else Err (length size.1)
 
 -- so many prefixes more
-unfoldable pub prefixes_at : Option ℕ → ℕ → List (List ℕ) → List ℕ → Result (List (List ℕ) × List ℕ) ℕ
-prefixes_at common zero set bytes = Ok (set, bytes)
-prefixes_at common (suc count) set bytes = do
+unfoldable pub more_prefixes_at : Option ℕ → ℕ → List (List ℕ) → List ℕ → Result (List (List ℕ) × List ℕ) ℕ
+more_prefixes_at common zero set bytes = Ok (set, bytes)
+more_prefixes_at common (suc count) set bytes = do
   prefix ← prefix_at common set bytes
-  prefixes_at common count (set ++ prefix.0 ∷ []) prefix.1
+  more_prefixes_at common count (set ++ prefix.0 ∷ []) prefix.1
 
 -- the prefixes after a count, which stands in front of these bytes
 abbrev pub counted_at : Option ℕ → List ℕ → ℕ × List ℕ → Result (List (List ℕ) × List ℕ) ℕ
 counted_at common field count =
-    if nat_lt MAX_PREFIXES count.0 then Err (length field) else prefixes_at common count.0 [] count.1
+    if nat_lt MAX_PREFIXES count.0 then Err (length field) else more_prefixes_at common count.0 [] count.1
 
 -- in the second format: the number of prefixes, and the prefixes with their sizes
 unfoldable pub sized_set_at : List ℕ → Result (List (List ℕ) × List ℕ) ℕ
@@ -198,13 +198,13 @@ abbrev pub format_of : ℕ → Option Format
 format_of number = if number == 1 then Some OneSize else if number == 2 then Some EachSize else None
 
 -- the place of a broken field in the body, counted from 0
-abbrev pub placed : {A : Type 0} → ℕ → Result A ℕ → Result A StoreFault
-placed size (Ok a) = Ok a
-placed size (Err left) = Err (fault.Shape (size - left))
+abbrev pub fault_placed : {A : Type 0} → ℕ → Result A ℕ → Result A StoreFault
+fault_placed size (Ok a) = Ok a
+fault_placed size (Err left) = Err (fault.Shape (size - left))
 
 -- the lists of a body in a format
 abbrev pub body_reading : Format → List ℕ → Result (List Held) StoreFault
-body_reading format body = placed (length body) (lists_in format (drop 5 body))
+body_reading format body = fault_placed (length body) (lists_in format (drop 5 body))
 
 -- the digest is looked at before the lists are
 abbrev pub reading_in : Format → List ℕ → Result (List Held) StoreFault

@@ -14,5 +14,5 @@ abbrev pub selected : List Held → List ListName → List Held
 selected stored names = map (stored_or_nothing stored) (in_order names)
 
 -- the lists, with one in place of that of its name
-abbrev pub with_list : Held → List Held → List Held
-with_list held lists = map (λ own. if same_name own.name held.name then held else own) lists
+abbrev pub with_list_replaced : Held → List Held → List Held
+with_list_replaced held lists = map (λ own. if same_name own.name held.name then held else own) lists

@@ -10,7 +10,7 @@ use Rattle.sb_model.specs.declared.names.ListName.{ListName}
 use Rattle.sb_model.specs.Names.{threat_code, platform_code, entry_code}
 use Rattle.sb_model.specs.Prefixes.{concatenation}
 use Rattle.prefix_set.specs.Limits.{IsPrefixSet}
-use Rattle.update_client.specs.Held.{Held, IsHeld, AreHeldLists}
+use Rattle.update_client.specs.Held.{Held, IsHeldList, AreHeldLists}
 use Rattle.client_store.specs.declared.format.Format.{Format}
 use Rattle.client_store.specs.declared.format.Format.TheVariants.{OneSize, EachSize}
 
@@ -25,13 +25,13 @@ abbrev pub mark_text : Bool → List ℕ
 mark_text resync = (if resync then 1 else 0) ∷ []
 
 -- a token, after its length
-abbrev pub token_text : List ℕ → List ℕ
-token_text token = to_be_bytes w16 (length token) ++ token
+abbrev pub stored_token_text : List ℕ → List ℕ
+stored_token_text token = to_be_bytes w16 (length token) ++ token
 
 -- the size of the prefixes of a set that has one; 0 where there are none
-abbrev pub size_of : List (List ℕ) → ℕ
-size_of [] = 0
-size_of (prefix ∷ set) = length prefix
+abbrev pub common_size_of : List (List ℕ) → ℕ
+common_size_of [] = 0
+common_size_of (prefix ∷ set) = length prefix
 
 -- a prefix, after its size
 abbrev pub prefix_text : List ℕ → List ℕ
@@ -39,11 +39,11 @@ prefix_text prefix = length prefix ∷ prefix
 
 -- the number of prefixes, and the prefixes
 abbrev pub set_text : Format → List (List ℕ) → List ℕ
-set_text OneSize set = size_of set ∷ to_be_bytes w32 (length set) ++ concatenation set
+set_text OneSize set = common_size_of set ∷ to_be_bytes w32 (length set) ++ concatenation set
 set_text EachSize set = to_be_bytes w32 (length set) ++ flat_map prefix_text set
 
 abbrev pub list_text : Format → Held → List ℕ
-list_text format held = name_text held.name ++ (mark_text held.resync ++ (token_text held.token ++ set_text format held.set))
+list_text format held = name_text held.name ++ (mark_text held.resync ++ (stored_token_text held.token ++ set_text format held.set))
 
 -- ---- the whole store
 
@@ -52,12 +52,12 @@ format_number OneSize = 1
 format_number EachSize = 2
 
 -- the number of lists, and the lists
-abbrev pub lists_text : Format → List Held → List ℕ
-lists_text format lists = length lists ∷ flat_map (list_text format) lists
+abbrev pub counted_lists_text : Format → List Held → List ℕ
+counted_lists_text format lists = length lists ∷ flat_map (list_text format) lists
 
 -- what stands before the digest
 abbrev pub body_text : Format → List Held → List ℕ
-body_text format lists = codes "SBST" ++ format_number format ∷ lists_text format lists
+body_text format lists = codes "SBST" ++ format_number format ∷ counted_lists_text format lists
 
 abbrev pub text_in : Format → List Held → List ℕ
 text_in format lists = body_text format lists ++ sha256 (body_text format lists)
@@ -70,7 +70,7 @@ store_text lists = text_in EachSize lists
 
 -- what each list of a client keeps to
 pub record IsKept (held : Held) : Type 0 where
-  pub token : IsHeld held
+  pub token : IsHeldList held
   pub set : IsPrefixSet held.set
 
 pub record AreKept (lists : List Held) : Type 0 where
@@ -79,7 +79,7 @@ pub record AreKept (lists : List Held) : Type 0 where
 
 -- all prefixes have one size
 abbrev pub HasOneSize : List (List ℕ) → Type 0
-HasOneSize set = All (λ prefix. length prefix ≡ size_of set) set
+HasOneSize set = All (λ prefix. length prefix ≡ common_size_of set) set
 
 -- the first format is for lists each of which has prefixes of at most one size
 abbrev pub Suits : Format → List Held → Type 0

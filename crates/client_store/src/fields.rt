@@ -1,6 +1,6 @@
 ghost use Rattle.std.specs.Prelude.{◌≡◌, ◌≤◌, length, IfOk};
 ghost use Rattle.std.specs.Int.{w16, w32};
-ghost use Rattle.client_store.specs.Fields.{Gives};
+ghost use Rattle.client_store.specs.Fields.{GivesReading};
 ghost use Rattle.client_store.specs.Reading.{byte_at as byte_of, bytes_at as bytes_of, number_at, name_of_bytes, mark_at as mark_of_field, token_at as token_of, most_token_bytes};
 ghost use Rattle.client_store.specs.declared.fields.Stop.TheVariants.{OutOfMemory as NoMemory};
 
@@ -28,7 +28,7 @@ impl From<OutOfMemory> for Stop {
 
 /// One byte.
 pub(crate) fn byte_at(bytes: &[u8]) -> Result<(u8, &[u8]), Stop>
-    ensures { Gives (λ x. (x.0, x.1.now)) result (byte_of bytes.now) }
+    ensures { GivesReading (λ x. (x.0, x.1.now)) result (byte_of bytes.now) }
 {
     match bytes {
         [] => Err(Stop::Broken(0)),
@@ -39,7 +39,7 @@ pub(crate) fn byte_at(bytes: &[u8]) -> Result<(u8, &[u8]), Stop>
 /// So many bytes.
 #[tactic(auto, unfolding(crate::specs::Reading::bytes_at))]
 pub(crate) fn bytes_at(count: usize, bytes: &[u8]) -> Result<(&[u8], &[u8]), Stop>
-    ensures value { Gives (λ x. (x.0.now, x.1.now)) result (bytes_of count bytes.now) }
+    ensures value { GivesReading (λ x. (x.0.now, x.1.now)) result (bytes_of count bytes.now) }
     ensures long { IfOk result (λ x. length x.0.now ≡ count) }
 {
     if bytes.len() < count {
@@ -51,7 +51,7 @@ pub(crate) fn bytes_at(count: usize, bytes: &[u8]) -> Result<(&[u8], &[u8]), Sto
 /// A number of two bytes.
 #[tactic(auto, unfolding(crate::specs::Reading::number_at))]
 fn u16_at(bytes: &[u8]) -> Result<(u16, &[u8]), Stop>
-    ensures { Gives (λ x. (x.0, x.1.now)) result (number_at w16 bytes.now) }
+    ensures { GivesReading (λ x. (x.0, x.1.now)) result (number_at w16 bytes.now) }
 {
     if bytes.len() < 2 {
         return Err(Stop::Broken(bytes.len()));
@@ -63,7 +63,7 @@ fn u16_at(bytes: &[u8]) -> Result<(u16, &[u8]), Stop>
 /// A number of four bytes.
 #[tactic(auto, unfolding(crate::specs::Reading::number_at))]
 pub(crate) fn u32_at(bytes: &[u8]) -> Result<(u32, &[u8]), Stop>
-    ensures { Gives (λ x. (x.0, x.1.now)) result (number_at w32 bytes.now) }
+    ensures { GivesReading (λ x. (x.0, x.1.now)) result (number_at w32 bytes.now) }
 {
     if bytes.len() < 4 {
         return Err(Stop::Broken(bytes.len()));
@@ -93,7 +93,7 @@ pub(crate) fn name_of(codes: &[u8]) -> Option<ListName>
 /// Whether an update was refused since the last that was installed.
 #[tactic(auto, unfolding(crate::specs::Reading::mark_at))]
 pub(crate) fn mark_at(bytes: &[u8]) -> Result<(bool, &[u8]), Stop>
-    ensures { Gives (λ x. (x.0, x.1.now)) result (mark_of_field bytes.now) }
+    ensures { GivesReading (λ x. (x.0, x.1.now)) result (mark_of_field bytes.now) }
 {
     let (byte, rest) = byte_at(bytes)?;
     match byte {
@@ -106,7 +106,7 @@ pub(crate) fn mark_at(bytes: &[u8]) -> Result<(bool, &[u8]), Stop>
 /// A token, after its length.
 #[tactic(auto, unfolding(crate::specs::Reading::token_at))]
 pub(crate) fn token_at(alloc: Global, bytes: &[u8]) -> Result<(Bytes, &[u8]), Stop>
-    ensures value { Gives (λ x. (x.0, x.1.now)) result (token_of bytes.now) }
+    ensures value { GivesReading (λ x. (x.0, x.1.now)) result (token_of bytes.now) }
     ensures short { IfOk result (λ x. length x.0 ≤ most_token_bytes) }
 {
     let (size, rest) = u16_at(bytes)?;

@@ -1,5 +1,5 @@
 ghost use Rattle.std.specs.Prelude.{◌≡◌, ◌≤◌, [], length, All};
-ghost use Rattle.client_store.specs.Fields.{Gives};
+ghost use Rattle.client_store.specs.Fields.{GivesReading};
 ghost use Rattle.client_store.specs.Reading.{comes_after as comes_after_all, name_at as name_in, list_at as list_in, lists_at as lists_read, lists_in as lists_of};
 
 use crate::fields::{Stop, byte_at, bytes_at, mark_at, name_of, token_at};
@@ -22,7 +22,7 @@ fn comes_after(before: &[HeldList], name: ListName) -> bool
 // The name of the next list.
 #[tactic(auto, unfolding(crate::specs::Reading::name_at))]
 fn name_at<'a>(before: &[HeldList], bytes: &'a [u8]) -> Result<(ListName, &'a [u8]), Stop>
-    ensures { Gives (λ x. (x.0, x.1.now)) result (name_in before.now bytes.now) }
+    ensures { GivesReading (λ x. (x.0, x.1.now)) result (name_in before.now bytes.now) }
 {
     let (codes, rest) = bytes_at(3, bytes)?;
     let Some(name) = name_of(codes) else {
@@ -42,7 +42,7 @@ fn list_at<'a>(
     before: &[HeldList],
     bytes: &'a [u8],
 ) -> Result<(HeldList, &'a [u8]), Stop>
-    ensures { Gives (λ x. (x.0, x.1.now)) result (list_in format before.now bytes.now) }
+    ensures { GivesReading (λ x. (x.0, x.1.now)) result (list_in format before.now bytes.now) }
 {
     let (name, rest) = name_at(before, bytes)?;
     let (resync, rest) = mark_at(rest)?;
@@ -64,7 +64,7 @@ fn lists_at<'a>(
     count: u8,
     bytes: &'a [u8],
 ) -> Result<(Row<HeldList>, &'a [u8]), Stop>
-    ensures { Gives (λ x. (x.0, x.1.now)) result (lists_read format count [] bytes.now) }
+    ensures { GivesReading (λ x. (x.0, x.1.now)) result (lists_read format count [] bytes.now) }
 {
     let mut lists = Row::new(alloc);
     let mut rest = bytes;
@@ -79,7 +79,7 @@ fn lists_at<'a>(
 /// The lists, which are all of the bytes.
 #[tactic(auto, unfolding(crate::specs::Reading::lists_in))]
 pub(crate) fn lists_in(alloc: Global, format: Format, bytes: &[u8]) -> Result<ClientLists, Stop>
-    ensures { Gives (λ x. x) result (lists_of format bytes.now) }
+    ensures { GivesReading (λ x. x) result (lists_of format bytes.now) }
 {
     let (count, rest) = byte_at(bytes)?;
     if count > MAX_LISTS {

@@ -1,7 +1,7 @@
 ghost use Rattle.std.specs.Prelude.{◌≡◌, ◌≢◌, ◌≤◌, [], length, true, Some, None, Ok, IfOk, IfSome};
 ghost use Rattle.sb_model.specs.History.{IsPrefixSize};
-ghost use Rattle.client_store.specs.Fields.{Gives};
-ghost use Rattle.client_store.specs.Reading.{is_prefix_size, may_follow, size_at as size_in, prefix_at as prefix_in, prefixes_at as prefixes_in, counted_at as counted_in, sized_set_at as sized_set_in, common_size_at as common_size_in, fits_count as size_fits, even_set_at as even_set_in, set_at as set_in};
+ghost use Rattle.client_store.specs.Fields.{GivesReading};
+ghost use Rattle.client_store.specs.Reading.{is_prefix_size, may_follow, size_at as size_in, prefix_at as prefix_in, more_prefixes_at as prefixes_in, counted_at as counted_in, sized_set_at as sized_set_in, common_size_at as common_size_in, fits_count as size_fits, even_set_at as even_set_in, set_at as set_in};
 
 use crate::fields::{Stop, byte_at, bytes_at, u32_at};
 use crate::format::Format;
@@ -20,7 +20,7 @@ fn is_size(size: u8) -> bool
 // The size of a prefix that has none in common with the others.
 #[tactic(auto, unfolding(crate::specs::Reading::size_at))]
 fn own_size_at(bytes: &[u8]) -> Result<(u8, &[u8]), Stop>
-    ensures value { Gives (λ x. (x.0, x.1.now)) result (size_in None bytes.now) }
+    ensures value { GivesReading (λ x. (x.0, x.1.now)) result (size_in None bytes.now) }
     ensures size { IfOk result (λ x. IsPrefixSize x.0) }
 {
     let (size, rest) = byte_at(bytes)?;
@@ -34,7 +34,7 @@ fn own_size_at(bytes: &[u8]) -> Result<(u8, &[u8]), Stop>
 #[tactic(auto, unfolding(crate::specs::Reading::size_at))]
 fn size_at(common: Option<u8>, bytes: &[u8]) -> Result<(u8, &[u8]), Stop>
     requires { IfSome common IsPrefixSize }
-    ensures value { Gives (λ x. (x.0, x.1.now)) result (size_in common bytes.now) }
+    ensures value { GivesReading (λ x. (x.0, x.1.now)) result (size_in common bytes.now) }
     ensures size { IfOk result (λ x. IsPrefixSize x.0) }
 {
     match common {
@@ -51,7 +51,7 @@ fn prefix_at<'a>(
     bytes: &'a [u8],
 ) -> Result<(&'a [u8], &'a [u8]), Stop>
     requires { IfSome common IsPrefixSize }
-    ensures value { Gives (λ x. (x.0.now, x.1.now)) result
+    ensures value { GivesReading (λ x. (x.0.now, x.1.now)) result
         (prefix_in common before.now bytes.now) }
     ensures size { IfOk result (λ x. IsPrefixSize (length x.0.now)) }
     ensures follows { IfOk result (λ x. may_follow before.now x.0.now ≡ true) }
@@ -72,7 +72,7 @@ fn prefixes_at<'a>(
     bytes: &'a [u8],
 ) -> Result<(Gathered<'a>, &'a [u8]), Stop>
     requires { IfSome common IsPrefixSize }
-    ensures { Gives (λ x. (x.0, x.1.now)) result (prefixes_in common count [] bytes.now) }
+    ensures { GivesReading (λ x. (x.0, x.1.now)) result (prefixes_in common count [] bytes.now) }
 {
     let mut so_far = Gathered::new(alloc);
     let mut rest = bytes;
@@ -93,7 +93,7 @@ fn counted_at<'a>(
     bytes: &'a [u8],
 ) -> Result<(PrefixSet, &'a [u8]), Stop>
     requires { IfSome common IsPrefixSize }
-    ensures { Gives (λ x. (x.0, x.1.now)) result (counted_in common field.now (count, bytes.now)) }
+    ensures { GivesReading (λ x. (x.0, x.1.now)) result (counted_in common field.now (count, bytes.now)) }
 {
     if u64::from(count) > MAX_PREFIXES {
         return Err(Stop::Broken(field.len()));
@@ -134,7 +134,7 @@ fn even_at<'a>(
     bytes: &'a [u8],
 ) -> Result<(PrefixSet, &'a [u8]), Stop>
     requires { IsPrefixSize size }
-    ensures { Gives (λ x. (x.0, x.1.now)) result
+    ensures { GivesReading (λ x. (x.0, x.1.now)) result
         (counted_in (Some size) field.now (count, bytes.now)) }
 {
     match whole_at(alloc, size, count, bytes)? {
@@ -146,7 +146,7 @@ fn even_at<'a>(
 // A set whose prefixes have their sizes before them.
 #[tactic(auto, unfolding(crate::specs::Reading::sized_set_at))]
 fn sized_set_at(alloc: Global, bytes: &[u8]) -> Result<(PrefixSet, &[u8]), Stop>
-    ensures { Gives (λ x. (x.0, x.1.now)) result (sized_set_in bytes.now) }
+    ensures { GivesReading (λ x. (x.0, x.1.now)) result (sized_set_in bytes.now) }
 {
     let (count, rest) = u32_at(bytes)?;
     counted_at(alloc, None, bytes, count, rest)
@@ -155,7 +155,7 @@ fn sized_set_at(alloc: Global, bytes: &[u8]) -> Result<(PrefixSet, &[u8]), Stop>
 // The size of all prefixes of a set, or 0.
 #[tactic(auto, unfolding(crate::specs::Reading::common_size_at))]
 fn common_size_at(bytes: &[u8]) -> Result<(u8, &[u8]), Stop>
-    ensures value { Gives (λ x. (x.0, x.1.now)) result (common_size_in bytes.now) }
+    ensures value { GivesReading (λ x. (x.0, x.1.now)) result (common_size_in bytes.now) }
     ensures size { IfOk result (λ x. x.0 ≢ 0 → IsPrefixSize x.0) }
 {
     let (size, rest) = byte_at(bytes)?;
@@ -173,9 +173,9 @@ fn fits_count(size: u8, count: u32) -> bool
 }
 
 // A set whose prefixes have one size.
-#[tactic(auto, unfolding(crate::specs::Reading::even_set_at, crate::specs::Reading::prefixes_at))]
+#[tactic(auto, unfolding(crate::specs::Reading::even_set_at, crate::specs::Reading::more_prefixes_at))]
 fn even_set_at(alloc: Global, bytes: &[u8]) -> Result<(PrefixSet, &[u8]), Stop>
-    ensures { Gives (λ x. (x.0, x.1.now)) result (even_set_in bytes.now) }
+    ensures { GivesReading (λ x. (x.0, x.1.now)) result (even_set_in bytes.now) }
 {
     let (size, field) = common_size_at(bytes)?;
     let (count, rest) = u32_at(field)?;
@@ -194,7 +194,7 @@ pub(crate) fn set_at(
     format: Format,
     bytes: &[u8],
 ) -> Result<(PrefixSet, &[u8]), Stop>
-    ensures { Gives (λ x. (x.0, x.1.now)) result (set_in format bytes.now) }
+    ensures { GivesReading (λ x. (x.0, x.1.now)) result (set_in format bytes.now) }
 {
     match format {
         Format::OneSize => even_set_at(alloc, bytes),

@@ -1,5 +1,5 @@
 ghost use Rattle.std.specs.Prelude.{◌≡◌, ◌++◌, decimal, length, take, OnOk, OnErr};
-ghost use Rattle.client_store.specs.Printed.{cause_text};
+ghost use Rattle.client_store.specs.Printed.{store_cause_text};
 
 use crate::StoreFault;
 use hash_prefixes::append_hex;
@@ -17,7 +17,7 @@ fn push_counted(page: &mut Bytes, word: &str, number: u64) -> Result<(), OutOfMe
 // Appends both digests.
 fn push_digests(page: &mut Bytes, got: &[u8], given: &[u8]) -> Result<(), OutOfMemory>
     ensures ok { OnOk result
-        (page.new ≡ page.old ++ cause_text (StoreFault.Digest got.now given.now)) }
+        (page.new ≡ page.old ++ store_cause_text (StoreFault.Digest got.now given.now)) }
     ensures front { OnErr result (take (length page.old) page.new ≡ page.old) }
 {
     page.append(b"digest ")?;
@@ -28,7 +28,7 @@ fn push_digests(page: &mut Bytes, got: &[u8], given: &[u8]) -> Result<(), OutOfM
 
 /// Appends the cause of a text that is no store, as it is printed. After an `Err` the page begins as it was.
 pub fn push_store_cause(page: &mut Bytes, fault: &StoreFault) -> Result<(), OutOfMemory>
-    ensures ok { OnOk result (page.new ≡ page.old ++ cause_text fault.now) }
+    ensures ok { OnOk result (page.new ≡ page.old ++ store_cause_text fault.now) }
     ensures front { OnErr result (take (length page.old) page.new ≡ page.old) }
 {
     match fault {

@@ -2,7 +2,7 @@ ghost use Rattle.std.specs.Prelude.{◌≡◌, ◌≤◌, length, map, position,
 ghost use Rattle.std.specs.List.Sorted.{IsStrictlySortedBy};
 ghost use Rattle.sb_model.specs.Names.{same_name, name_cmp};
 ghost use Rattle.update_client.specs.Held.{Held, most_lists};
-ghost use Rattle.client_store.specs.Selected.{with_list, selected};
+ghost use Rattle.client_store.specs.Selected.{with_list_replaced, selected};
 
 use sb_model::{ListName, OutOfMemory};
 use std::alloc::Global;
@@ -25,7 +25,7 @@ fn place_of(lists: &[HeldList], name: ListName) -> Option<usize>
 // Puts a list in the place of that of its name, if there is one.
 fn put(lists: &mut Vec<HeldList>, held: HeldList)
     requires { IsStrictlySortedBy name_cmp (map (λ (own : Held). own.name) lists.old.items) }
-    ensures { lists.new.items ≡ with_list held lists.old.items }
+    ensures { lists.new.items ≡ with_list_replaced held lists.old.items }
 {
     if let Some(place) = place_of(lists.as_slice(), held.name) {
         lists[place] = held;

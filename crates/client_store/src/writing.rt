@@ -1,7 +1,7 @@
 ghost use Rattle.std.specs.Prelude.{◌≡◌, ◌≤◌, ◌<◌, ◌++◌, length, Ok, OnOk, IfOk, All};
 ghost use Rattle.std.specs.List.{flat_map};
 ghost use Rattle.prefix_set.specs.Limits.{IsPrefixSet};
-ghost use Rattle.client_store.specs.Store.{prefix_text, set_text, name_text, mark_text, token_text, list_text, body_text, store_text, IsKept, AreKept, IsStoreOf};
+ghost use Rattle.client_store.specs.Store.{prefix_text, set_text, name_text, mark_text, stored_token_text, list_text, body_text, store_text, IsKept, AreKept, IsStoreOf};
 ghost use Rattle.client_store.specs.Reading.{store_reading};
 ghost use Rattle.client_store.specs.declared.format.Format.TheVariants.{EachSize};
 
@@ -27,7 +27,7 @@ fn push_name(text: &mut Bytes, name: ListName) -> Result<(), OutOfMemory>
 // Appends a token, after its length.
 fn push_token(text: &mut Bytes, token: &Bytes) -> Result<(), OutOfMemory>
     requires { length token.now ≤ 4096 }
-    ensures { OnOk result (text.new ≡ text.old ++ token_text token.now) }
+    ensures { OnOk result (text.new ≡ text.old ++ stored_token_text token.now) }
 {
     text.append(&(token.len() as u16).to_be_bytes())?;
     text.append(token.as_slice())

@@ -10,9 +10,9 @@ use Rattle.std.proofs.lemmas.Str.Ascii.{IsAscii-from_all}
 use Rattle.std.proofs.lemmas.List.Elements.{All-nil, All-cons, All-head, All-tail}
 use borrow.Author.Tests.{eqb-true, leb-true}
 use Rattle.std.specs.Str.Parse.{digits_value}
-use Rattle.http_edge.specs.Exchanges.{IsOneLine}
+use Rattle.http_edge.specs.Exchanges.{StandsInOneLine}
 use Rattle.sb_words.specs.CommandLine.{is_value}
-use Rattle.sb_words.specs.Values.{is_numeral, within, number_of, is_key_byte, is_key, is_host_byte, is_host, is_colon, address_of, host_port_of}
+use Rattle.sb_words.specs.Values.{is_numeral, within, number_of, is_key_byte, is_key, is_host_byte, is_host, is_colon, host_and_port, host_port_of}
 
 -- a byte of a word: neither a blank nor a control
 IsWordByte : ℕ → Type 0
@@ -89,7 +89,7 @@ low : (byte : ℕ) → IsWordByte byte → byte < 128
 unfolding IsWordByte
 low byte h = omega (arith, h.1)
 
-bytes_line : (text : List ℕ) → All IsWordByte text → IsOneLine text
+bytes_line : (text : List ℕ) → All IsWordByte text → StandsInOneLine text
 bytes_line [] h = All-nil (λ char. (char ≢ 13) × (char ≢ 10))
 bytes_line (byte ∷ text) h =
     All-cons (λ char. (char ≢ 13) × (char ≢ 10)) byte text (no_line_end byte (All-head IsWordByte byte text h)) (bytes_line text (All-tail IsWordByte byte text h))
@@ -99,8 +99,8 @@ low_bytes [] h = All-nil (λ byte. byte < 128)
 low_bytes (byte ∷ text) h =
     All-cons (λ byte. byte < 128) byte text (low byte (All-head IsWordByte byte text h)) (low_bytes text (All-tail IsWordByte byte text h))
 
-text_line : (text : List ℕ) → All IsWordByte text → IsOneLine (chars text)
-text_line text h = subst IsOneLine (sym (chars-IsAscii text (IsAscii-from_all text (low_bytes text h)))) (bytes_line text h)
+text_line : (text : List ℕ) → All IsWordByte text → StandsInOneLine (chars text)
+text_line text h = subst StandsInOneLine (sym (chars-IsAscii text (IsAscii-from_all text (low_bytes text h)))) (bytes_line text h)
 
 -- ---- keys and addresses
 
@@ -145,16 +145,16 @@ address_words text true address e h =
 address_words text false address e h = absurd (cc)
 
 server_by : (text : List ℕ) (colon : Bool) (address : List ℕ × ℕ) → list_any is_colon text ≡ colon
-    → cond colon (address_of (before_first is_colon text) (after_first is_colon text)) None ≡ Some address → All IsWordByte text
+    → cond colon (host_and_port (before_first is_colon text) (after_first is_colon text)) None ≡ Some address → All IsWordByte text
 server_by text true address e h = address_words text _ address refl h
 server_by text false address e h = absurd (cc)
 
-pub server_line : (text : List ℕ) (address : List ℕ × ℕ) → host_port_of text ≡ Some address → IsOneLine (chars text)
+pub server_line : (text : List ℕ) (address : List ℕ × ℕ) → host_port_of text ≡ Some address → StandsInOneLine (chars text)
 unfolding host_port_of
 server_line text address e = text_line text (server_by text _ address refl e)
 
-pub key_line : (key : List ℕ) → is_key key ≡ true → IsOneLine (chars key)
+pub key_line : (key : List ℕ) → is_key key ≡ true → StandsInOneLine (chars key)
 key_line key e = text_line key (key_words key e)
 
-pub no_key_line : IsOneLine (chars [])
+pub no_key_line : StandsInOneLine (chars [])
 no_key_line = text_line [] (All-nil IsWordByte)

@@ -5,7 +5,7 @@ use Rattle.std.specs.Str.{bytes_eq, chars}
 use Rattle.sb_model.specs.declared.names.ListName.{ListName}
 use Rattle.sb_words.specs.declared.shape.OptionKind.TheVariants.{Needed, Optional, Flag}
 use Rattle.sb_words.specs.CommandLine.{Text, CommandOption, CommandShape, Given, given_of, value_among}
-use Rattle.sb_words.specs.Values.{number_of, lists_of, is_key, host_port_of}
+use Rattle.sb_words.specs.Values.{number_of, lists_named, is_key, host_port_of}
 use Rattle.http_edge.specs.declared.messages.Target.{Target}
 use Rattle.update_client.specs.declared.options.FetchOptions.{FetchOptions}
 
@@ -28,7 +28,7 @@ given_to program command shape words = None
 
 -- The positional words name 1 to 8 lists, each once.
 abbrev pub lists_given : Given → Option (List ListName)
-lists_given given = lists_of given.positionals
+lists_given given = lists_named given.positionals
 
 -- ---- what is asked for, and whom
 
@@ -38,12 +38,12 @@ server_given named =
     option_and_then (λ text. option_map (λ _. text) (host_port_of text)) (value_among (codes "server") named)
 
 -- the key, which is empty where there is none
-abbrev pub key_of : Option Text → Option Text
-key_of None = Some []
-key_of (Some text) = if is_key text then Some text else None
+abbrev pub key_or_empty : Option Text → Option Text
+key_or_empty None = Some []
+key_or_empty (Some text) = if is_key text then Some text else None
 
 abbrev pub key_given : List (Text × Text) → Option Text
-key_given named = key_of (value_among (codes "key") named)
+key_given named = key_or_empty (value_among (codes "key") named)
 
 -- a number in a range, which has a default
 abbrev pub number_or : (low high default : ℕ) → Option Text → Option ℕ

@@ -20,8 +20,8 @@ held_by (case.Expressions url lines) = Expressions url.now lines.now
 held_by (case.Rice values parameter coded) = Rice values.now parameter coded.now
 
 -- all of them in order
-abbrev pub published : List Example
-published =
+abbrev pub published_examples : List Example
+published_examples =
     Canon (codes "http://host/%25%32%35") (codes "http://host/%25") ∷
     Canon (codes "http://host/%%%25%32%35asd%%") (codes "http://host/%25%25%25asd%25%25") ∷
     Canon (codes "http://.Warn..example.:8080/a/../b//c?x//y#f") (codes "http://warn.example/b/c?x//y") ∷

@@ -2,7 +2,7 @@
 use Rattle.std.specs.Prelude.{◌≡◌, ◌↔◌, Bool, IsTrue, ℕ, ◌<◌, ◌-◌, ◌^◌, ◌+◌, All, List, [], ◌∷◌, ◌++◌, length, take, slice_index_or, Option, Some, None, Ok, Err}
 use Rattle.std.specs.List.{flat_map}
 use Rattle.rice_coding.specs.Rice.{IsRiceRecordOf}
-use Rattle.url_canon.specs.Url.{Url, text_of}
+use Rattle.url_canon.specs.Url.{Url, text_of_url}
 use Rattle.url_canon.specs.Canonical.{canonical_of}
 use Rattle.url_canon.specs.declared.fault.UrlFault.{UrlFault}
 use Rattle.url_canon.specs.declared.fault.UrlFault.TheVariants.{Empty, NoHost, TooLong, OutOfMemory}
@@ -11,10 +11,10 @@ use Rattle.conformance_vectors.specs.declared.case.Case.{Case}
 use Rattle.conformance_vectors.specs.declared.case.Case.TheVariants.{Canon, Refused, Expressions, Rice}
 
 -- The text has a canonical URL, and this is its text.
-pub record HasText (url text : List ℕ) : Type 0 where
+pub record HasCanonicalText (url text : List ℕ) : Type 0 where
   pub found : Url
   pub canonical : canonical_of url ≡ Ok found
-  pub same : text_of found ≡ text
+  pub same : text_of_url found ≡ text
 
 -- the number of a fault; want of memory has none
 abbrev pub fault_number : UrlFault → Option ℕ
@@ -30,14 +30,14 @@ pub record IsRefused (url : List ℕ) (number : ℕ) : Type 0 where
   pub named : fault_number fault ≡ Some number
 
 -- texts, each ended by a newline
-abbrev pub lines_of : List (List ℕ) → List ℕ
-lines_of texts = flat_map (λ text. text ++ 10 ∷ []) texts
+abbrev pub ended_lines : List (List ℕ) → List ℕ
+ended_lines texts = flat_map (λ text. text ++ 10 ∷ []) texts
 
 -- The text has a canonical URL, and these lines are its expressions in order.
 pub record HasExpressions (url lines : List ℕ) : Type 0 where
   pub found : Url
   pub canonical : canonical_of url ≡ Ok found
-  pub expressions : lines_of (expressions_of found) ≡ lines
+  pub expressions : ended_lines (expressions_of found) ≡ lines
 
 -- There is a value, and the record with the first value and the count of these values, the
 -- parameter and the coded bytes stands for them. A record has fewer than 2 ^ 32 values.
@@ -55,7 +55,7 @@ pub record HasRecord (values : List ℕ) (parameter : ℕ) (coded : List ℕ) : 
 
 -- The definitions agree with the case.
 abbrev pub Meets : Case → Type 0
-Meets (Canon url text) = HasText url.now text.now
+Meets (Canon url text) = HasCanonicalText url.now text.now
 Meets (Refused url number) = IsRefused url.now number
 Meets (Expressions url lines) = HasExpressions url.now lines.now
 Meets (Rice values parameter coded) = HasRecord values.now parameter coded.now

@@ -1,6 +1,6 @@
 ghost use Rattle.std.specs.Prelude.{◌≡◌, ◌↔◌, ◌<◌, ◌^◌, length, IsTrue, IfOk};
 ghost use Rattle.rice_coding.specs.Rice.{IsRiceRecordOf};
-ghost use Rattle.conformance_vectors.specs.Vectors.{HasText, fault_number, IsRefused, lines_of, HasExpressions, HasRecord, Meets};
+ghost use Rattle.conformance_vectors.specs.Vectors.{HasCanonicalText, fault_number, IsRefused, ended_lines, HasExpressions, HasRecord, Meets};
 
 use crate::case::Case;
 use rice_coding::{RiceFault, RiceRecord, decode};
@@ -14,7 +14,7 @@ const MOST_VALUES: usize = 0xffff_ffff;
 
 /// Whether a text has a canonical URL with this text.
 fn has_text(alloc: Global, url: &[u8], text: &[u8]) -> Result<bool, OutOfMemory>
-    ensures { IfOk result (λ met. IsTrue met ↔ HasText url.now text.now) }
+    ensures { IfOk result (λ met. IsTrue met ↔ HasCanonicalText url.now text.now) }
 {
     match canonical(alloc, url) {
         Ok(found) => Ok(found.as_bytes() == text),
@@ -50,7 +50,7 @@ fn is_refused(alloc: Global, url: &[u8], number: u8) -> Result<bool, OutOfMemory
 
 /// Texts, each ended by a newline.
 fn lines_of(alloc: Global, texts: &[Bytes]) -> Result<Bytes, OutOfMemory>
-    ensures { IfOk result (λ lines. lines ≡ lines_of texts.now) }
+    ensures { IfOk result (λ lines. lines ≡ ended_lines texts.now) }
 {
     let mut lines = Bytes::new(alloc);
     for text in texts {

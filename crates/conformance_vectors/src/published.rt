@@ -1,5 +1,5 @@
 ghost use Rattle.std.specs.Prelude.{◌≡◌, map};
-ghost use Rattle.conformance_vectors.specs.Published.{held_by, published};
+ghost use Rattle.conformance_vectors.specs.Published.{held_by, published_examples};
 
 use crate::case::Case;
 
@@ -117,7 +117,7 @@ const PUBLISHED: [Case; 35] = [
 
 /// The published examples, in the order of `specs/Published.antt`.
 pub fn published_cases() -> [Case; 35]
-    ensures { map held_by result ≡ published }
+    ensures { map held_by result ≡ published_examples }
 {
     PUBLISHED
 }

@@ -8,7 +8,7 @@ use Rattle.sb_model.specs.declared.history.Added.{Added}
 use Rattle.sb_model.specs.Difference.{has_member}
 use Rattle.sb_model.specs.History.{prefix_of}
 use Rattle.sb_model.specs.Prefixes.{IsRising, with_member, set_of}
-use Rattle.delta_server.specs.Counts.{found_in, Puts, has_prefix, holders_of, counted, Gains, Counts}
+use Rattle.delta_server.specs.Counts.{value_at_key, Puts, has_prefix, holders_of, count_if_any, Gains, Counts}
 use Rattle.delta_server.specs.declared.holders.Holders.{Holders}
 use Rattle.delta_server.specs.Walk.{published}
 use Rattle.delta_server.proofs.Membership.{In, contains_in, in_contained, in_map, from_map, in_filter, from_filter}
@@ -21,31 +21,31 @@ pub record SetLaws : Type 0 where
 
 -- ---- counts
 
-pub count_counted : (n : ℕ) → unwrap_or (counted n) 0 ≡ n
+pub count_counted : (n : ℕ) → unwrap_or (count_if_any n) 0 ≡ n
 count_counted zero = refl
 count_counted (suc n) = refl
 
-pub some_counted : (n : ℕ) → 0 < n → is_some (counted n) ≡ true
+pub some_counted : (n : ℕ) → 0 < n → is_some (count_if_any n) ≡ true
 some_counted zero h = absurd (omega arith)
 some_counted (suc n) h = refl
 
-pub counted_suc : (n m : ℕ) → m ≡ n + 1 → counted m ≡ Some m
+pub counted_suc : (n m : ℕ) → m ≡ n + 1 → count_if_any m ≡ Some m
 counted_suc n zero h = absurd (omega arith)
 counted_suc n (suc m) h = refl
 
-pub none_counted : (n : ℕ) → n ≡ 0 → counted n ≡ None
-none_counted n is = ap counted is
+pub none_counted : (n : ℕ) → n ≡ 0 → count_if_any n ≡ None
+none_counted n is = ap count_if_any is
 
 -- the counts after the count of one prefix was put
-pub put_holders : (before after : List (List ℕ × ℕ)) (q : List ℕ) (from to : List Added) → ((p : List ℕ) → found_in before p ≡ counted (holders_of p from))
-    → ((p : List ℕ) → bytes_eq q p ≡ false → holders_of p to ≡ holders_of p from) → Puts before after q (counted (holders_of q to))
-    → (p : List ℕ) → found_in after p ≡ counted (holders_of p to)
+pub put_holders : (before after : List (List ℕ × ℕ)) (q : List ℕ) (from to : List Added) → ((p : List ℕ) → value_at_key before p ≡ count_if_any (holders_of p from))
+    → ((p : List ℕ) → bytes_eq q p ≡ false → holders_of p to ≡ holders_of p from) → Puts before after q (count_if_any (holders_of q to))
+    → (p : List ℕ) → value_at_key after p ≡ count_if_any (holders_of p to)
 put_holders before after q from to counts others puts p =
     puts p ∙ go (bytes_eq q p) refl
   where
-    go : (t : Bool) → bytes_eq q p ≡ t → (if t then counted (holders_of q to) else found_in before p) ≡ counted (holders_of p to)
-    go true is = ap (λ (x : List ℕ). counted (holders_of x to)) (equal_bytes q p is)
-    go false is = counts p ∙ sym (ap counted (others p is))
+    go : (t : Bool) → bytes_eq q p ≡ t → (if t then count_if_any (holders_of q to) else value_at_key before p) ≡ count_if_any (holders_of p to)
+    go true is = ap (λ (x : List ℕ). count_if_any (holders_of x to)) (equal_bytes q p is)
+    go false is = counts p ∙ sym (ap count_if_any (others p is))
 
 pub gains_other : (fewer more : List Added) (q : List ℕ) → Gains fewer more q → (p : List ℕ) → bytes_eq q p ≡ false → holders_of p more ≡ holders_of p fewer
 gains_other fewer more q gains p other = gains.holders p ∙ ap (λ (t : Bool). holders_of p fewer + (if t then 1 else 0)) other ∙ omega arith
@@ -150,8 +150,8 @@ has_held held q false tells = has_not held q (λ h. false≢true (tells.1 (conta
 
 -- One full hash more has a prefix: its count rises by one.
 pub enters : (laws : SetLaws) (before after : List (List ℕ × ℕ)) (q : List ℕ) (fewer more : List Added) (count value : ℕ) → Gains fewer more q
-    → length more < 2 ^ 63 → ((p : List ℕ) → found_in before p ≡ counted (holders_of p fewer)) → count ≡ unwrap_or (found_in before q) 0
-    → value ≡ min (count + 1) (2 ^ 64 - 1) → Puts before after q (Some value) → (p : List ℕ) → found_in after p ≡ counted (holders_of p more)
+    → length more < 2 ^ 63 → ((p : List ℕ) → value_at_key before p ≡ count_if_any (holders_of p fewer)) → count ≡ unwrap_or (value_at_key before q) 0
+    → value ≡ min (count + 1) (2 ^ 64 - 1) → Puts before after q (Some value) → (p : List ℕ) → value_at_key after p ≡ count_if_any (holders_of p more)
 enters laws before after q fewer more count value gains few counts is bounded puts =
     let own : count ≡ holders_of q fewer = is ∙ ap (λ o. unwrap_or o 0) (counts q) ∙ count_counted (holders_of q fewer) in
     let all : holders_of q more ≡ holders_of q fewer + 1 = gains_own fewer more q gains in
@@ -161,17 +161,17 @@ enters laws before after q fewer more count value gains few counts is bounded pu
 
 -- the map is as long as there are prefixes
 pub enters_len : (laws : SetLaws) (before after : List (List ℕ × ℕ)) (q : List ℕ) (fewer more : List Added) → Gains fewer more q
-    → ((p : List ℕ) → found_in before p ≡ counted (holders_of p fewer)) → length before ≡ length (published fewer)
-    → length after ≡ length before + (if is_some (found_in before q) then 0 else 1) → (held : List (List ℕ)) → IsRising held → length after ≡ length (published more)
+    → ((p : List ℕ) → value_at_key before p ≡ count_if_any (holders_of p fewer)) → length before ≡ length (published fewer)
+    → length after ≡ length before + (if is_some (value_at_key before q) then 0 else 1) → (held : List (List ℕ)) → IsRising held → length after ≡ length (published more)
 enters_len laws before after q fewer more gains counts before_len after_len held up = go (holders_of q fewer) refl
   where
     go : (n : ℕ) → holders_of q fewer ≡ n → length after ≡ length (published more)
     go zero none =
-        let new : is_some (found_in before q) ≡ false = ap is_some (counts q ∙ ap counted none) in
+        let new : is_some (value_at_key before q) ≡ false = ap is_some (counts q ∙ ap count_if_any none) in
         let first : length (published more) ≡ length (published fewer) + 1 = (first_changes laws fewer more q gains held up none).members in
         omega (arith, after_len ∙ ap (λ (t : Bool). length before + (if t then 0 else 1)) new, before_len, first)
     go (suc n) some =
-        let there : is_some (found_in before q) ≡ true = ap is_some (counts q ∙ ap counted some) in
+        let there : is_some (value_at_key before q) ≡ true = ap is_some (counts q ∙ ap count_if_any some) in
         let again : published more ≡ published fewer = published_again laws fewer more q gains (omega (arith, some)) in
         omega (arith, after_len ∙ ap (λ (t : Bool). length before + (if t then 0 else 1)) there, before_len, ap length again)
 
@@ -183,8 +183,8 @@ add_back : (a b c : ℕ) → a + c ≡ b + c → a ≡ b
 add_back a b c is = omega arith
 
 -- the count that is found is the count of the full hashes
-pub count_is : (entries : List (List ℕ × ℕ)) (q : List ℕ) (of : List Added) (count : ℕ) → ((p : List ℕ) → found_in entries p ≡ counted (holders_of p of))
-    → count ≡ unwrap_or (found_in entries q) 0 → count ≡ holders_of q of
+pub count_is : (entries : List (List ℕ × ℕ)) (q : List ℕ) (of : List Added) (count : ℕ) → ((p : List ℕ) → value_at_key entries p ≡ count_if_any (holders_of p of))
+    → count ≡ unwrap_or (value_at_key entries q) 0 → count ≡ holders_of q of
 count_is entries q of count counts is = is ∙ ap (λ o. unwrap_or o 0) (counts q) ∙ count_counted (holders_of q of)
 
 shared_few : (set held : List (List ℕ)) → kept set held ≤ length held
@@ -224,7 +224,7 @@ module _ (laws : SetLaws) (now after : Holders) (q : List ℕ) (fewer more : Lis
           shares.again there ∙ is ∙ sym (ap (λ (s : List (List ℕ)). kept now.held.now s) (published_again laws fewer more q gains there))
 
   -- one full hash more
-  pub gained : Counts now fewer → ((p : List ℕ) → found_in after.counts.entries p ≡ counted (holders_of p more)) → length after.counts.entries ≡ length (published more)
+  pub gained : Counts now fewer → ((p : List ℕ) → value_at_key after.counts.entries p ≡ count_if_any (holders_of p more)) → length after.counts.entries ≡ length (published more)
       → Shares now.shared after.shared → Counts after more
   gained counts found long shares = record {
     holders = found;
@@ -254,7 +254,7 @@ module _ (laws : SetLaws) (now after : Holders) (q : List ℕ) (fewer more : Lis
           sym (shares.again there) ∙ is ∙ ap (λ (s : List (List ℕ)). kept now.held.now s) (published_again laws fewer more q gains there)
 
   -- one full hash less
-  pub lost : Counts now more → ((p : List ℕ) → found_in after.counts.entries p ≡ counted (holders_of p fewer)) → length after.counts.entries ≡ length (published fewer)
+  pub lost : Counts now more → ((p : List ℕ) → value_at_key after.counts.entries p ≡ count_if_any (holders_of p fewer)) → length after.counts.entries ≡ length (published fewer)
       → Shares after.shared now.shared → Counts after fewer
   lost counts found long shares = record {
     holders = found;
@@ -282,42 +282,42 @@ shared_some now entries counts q there some laws =
 
 -- what is left of its count
 pub left_is : (before : List (List ℕ × ℕ)) (q : List ℕ) (fewer more : List Added) (left : ℕ) → Gains fewer more q
-    → ((p : List ℕ) → found_in before p ≡ counted (holders_of p more)) → left ≡ unwrap_or (found_in before q) 0 - 1 → left ≡ holders_of q fewer
+    → ((p : List ℕ) → value_at_key before p ≡ count_if_any (holders_of p more)) → left ≡ unwrap_or (value_at_key before q) 0 - 1 → left ≡ holders_of q fewer
 left_is before q fewer more left gains counts is =
-    let own : unwrap_or (found_in before q) 0 ≡ holders_of q more = count_is before q more _ counts refl in
+    let own : unwrap_or (value_at_key before q) 0 ≡ holders_of q more = count_is before q more _ counts refl in
     omega (arith, gains_own fewer more q gains, own, is)
 
 -- its count falls by one
 pub leaves : (before after : List (List ℕ × ℕ)) (q : List ℕ) (fewer more : List Added) (left : ℕ) → Gains fewer more q
-    → ((p : List ℕ) → found_in before p ≡ counted (holders_of p more)) → left ≡ holders_of q fewer → Puts before after q (counted left)
-    → (p : List ℕ) → found_in after p ≡ counted (holders_of p fewer)
+    → ((p : List ℕ) → value_at_key before p ≡ count_if_any (holders_of p more)) → left ≡ holders_of q fewer → Puts before after q (count_if_any left)
+    → (p : List ℕ) → value_at_key after p ≡ count_if_any (holders_of p fewer)
 leaves before after q fewer more left gains counts is puts =
     put_holders before after q more fewer counts (λ p other. sym (gains_other fewer more q gains p other))
-    (subst (λ (n : ℕ). Puts before after q (counted n)) is puts)
+    (subst (λ (n : ℕ). Puts before after q (count_if_any n)) is puts)
 
 -- the map has the prefix
-pub there_before : (before : List (List ℕ × ℕ)) (q : List ℕ) (fewer more : List Added) → Gains fewer more q → ((p : List ℕ) → found_in before p ≡ counted (holders_of p more))
-    → is_some (found_in before q) ≡ true
+pub there_before : (before : List (List ℕ × ℕ)) (q : List ℕ) (fewer more : List Added) → Gains fewer more q → ((p : List ℕ) → value_at_key before p ≡ count_if_any (holders_of p more))
+    → is_some (value_at_key before q) ≡ true
 there_before before q fewer more gains counts = ap is_some (counts q) ∙ some_counted (holders_of q more) (omega (arith, gains_own fewer more q gains))
 
 -- the map is as long as there are prefixes left
 pub leaves_len : (laws : SetLaws) (before after : List (List ℕ × ℕ)) (q : List ℕ) (fewer more : List Added) (left : ℕ) → Gains fewer more q
-    → ((p : List ℕ) → found_in before p ≡ counted (holders_of p more)) → length before ≡ length (published more) → left ≡ holders_of q fewer
-    → length after + (if is_some (found_in before q) then 1 else 0) ≡ length before + (if is_some (counted left) then 1 else 0)
+    → ((p : List ℕ) → value_at_key before p ≡ count_if_any (holders_of p more)) → length before ≡ length (published more) → left ≡ holders_of q fewer
+    → length after + (if is_some (value_at_key before q) then 1 else 0) ≡ length before + (if is_some (count_if_any left) then 1 else 0)
     → (held : List (List ℕ)) → IsRising held → length after ≡ length (published fewer)
 leaves_len laws before after q fewer more left gains counts before_len is after_len held up = go (holders_of q fewer) refl
   where
-    whole : length after + 1 ≡ length before + (if is_some (counted (holders_of q fewer)) then 1 else 0)
+    whole : length after + 1 ≡ length before + (if is_some (count_if_any (holders_of q fewer)) then 1 else 0)
     whole =
         sym (ap (λ (t : Bool). length after + (if t then 1 else 0)) (there_before before q fewer more gains counts)) ∙ after_len
-        ∙ ap (λ (n : ℕ). length before + (if is_some (counted n) then 1 else 0)) is
+        ∙ ap (λ (n : ℕ). length before + (if is_some (count_if_any n) then 1 else 0)) is
 
     go : (n : ℕ) → holders_of q fewer ≡ n → length after ≡ length (published fewer)
     go zero none =
-        let own = whole ∙ ap (λ (n : ℕ). length before + (if is_some (counted n) then 1 else 0)) none in
+        let own = whole ∙ ap (λ (n : ℕ). length before + (if is_some (count_if_any n) then 1 else 0)) none in
         let first : length (published more) ≡ length (published fewer) + 1 = (first_changes laws fewer more q gains held up none).members in
         omega (arith, own, before_len, first)
     go (suc n) some =
-        let own = whole ∙ ap (λ (n : ℕ). length before + (if is_some (counted n) then 1 else 0)) some in
+        let own = whole ∙ ap (λ (n : ℕ). length before + (if is_some (count_if_any n) then 1 else 0)) some in
         let again : published more ≡ published fewer = published_again laws fewer more q gains (omega (arith, some)) in
         omega (arith, own, before_len, ap length again)

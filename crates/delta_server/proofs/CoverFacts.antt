@@ -5,7 +5,7 @@ use Rattle.std.proofs.lemmas.Bool.{eqb-true, lt-ltb, ltb-true, ltb-false, le-leb
 use Rattle.list_versions.specs.declared.stretch.Stretch.{Stretch}
 use Rattle.list_versions.specs.Stretches.{ComesBefore}
 use Rattle.delta_server.specs.declared.covered.Covered.{Covered}
-use Rattle.delta_server.specs.Sweeping.{has_version, is_shown, shows_first, Covers, StandsBefore}
+use Rattle.delta_server.specs.Sweeping.{has_version, is_head_shown, shows_first, Covers, StandsBefore}
 use Rattle.delta_server.proofs.Membership.{In, in_right, in_either}
 use Rattle.delta_server.proofs.ShownFacts.{same_test, both_true, first_true, second_true, not_true, either_true, not_false, false_not, any_in, of_all, all_of, shown_push}
 
@@ -35,10 +35,10 @@ module _ (now : Covered) (first end : ℕ) (done : List Stretch) (s : Stretch) (
   pub same_prefix : s.head ≡ now.head → StandsBefore now first end done s
   same_prefix same = record {
     covered = λ version low high from.
-        ap (λ (head : ℕ). is_shown done head version) same
+        ap (λ (head : ℕ). is_head_shown done head version) same
         ∙ covers.covered version low high (all_of (λ t. t.head ≡ now.head → t.from ≤ version) done (λ t there is.
         let no_later : t.from ≤ s.from = from_of s t (each t there) (is ∙ sym same) in omega arith));
-    held = covers.held ∙ ap (λ (head : ℕ). is_shown done head first) (sym same);
+    held = covers.held ∙ ap (λ (head : ℕ). is_head_shown done head first) (sym same);
   }
 
   -- it has another one
@@ -49,8 +49,8 @@ module _ (now : Covered) (first end : ℕ) (done : List Stretch) (s : Stretch) (
     held = held ∙ sym (none first);
   }
     where
-      none : (version : ℕ) → is_shown done s.head version ≡ false
-      none version = not_true (is_shown done s.head version) (λ h.
+      none : (version : ℕ) → is_head_shown done s.head version ≡ false
+      none version = not_true (is_head_shown done s.head version) (λ h.
           let found = any_in (λ t. t.head == s.head && has_version version t) done h in
           let same : found.0.head ≡ s.head = eqb-true found.0.head s.head (first_true _ _ found.2) in
           let own : now.head ≤ now.head = omega arith in
@@ -73,7 +73,7 @@ module _ (before next : Covered) (first end : ℕ) (done : List Stretch) (s : St
           let from : s.from ≤ version = omega (arith, begin, after) in
           let until : version < s.until = omega (arith, begin, reach, after, less) in
           both_true (has_version version s) _ (both_true (nat_le s.from version) _ (le-leb s.from version from) (lt-ltb version s.until until))
-          (not_false (is_shown done s.head version) (stands.covered version low high from
+          (not_false (is_head_shown done s.head version) (stands.covered version low high from
           ∙ not_true (nat_lt version before.reach) (λ k. let inside : version < before.reach = ltb-true version before.reach k in absurd (omega (arith, begin, after, inside)))))
 
       back : shows_first done s version ≡ true → (nat_le next.begin version && nat_lt version next.reach) ≡ true
@@ -81,7 +81,7 @@ module _ (before next : Covered) (first end : ℕ) (done : List Stretch) (s : St
           let has : has_version version s ≡ true = first_true (has_version version s) _ h in
           let from : s.from ≤ version = leb-true s.from version (first_true _ _ has) in
           let until : version < s.until = ltb-true version s.until (second_true (nat_le s.from version) _ has) in
-          let none : nat_lt version before.reach ≡ false = sym (stands.covered version low high from) ∙ false_not (is_shown done s.head version) (second_true (has_version version s) _ h) in
+          let none : nat_lt version before.reach ≡ false = sym (stands.covered version low high from) ∙ false_not (is_head_shown done s.head version) (second_true (has_version version s) _ h) in
           let past_reach : before.reach ≤ version = ltb-false version before.reach none in
           both_true (nat_le next.begin version) _ (le-leb next.begin version (omega (arith, begin, from, past_reach))) (lt-ltb version next.reach (omega (arith, reach, until, high)))
 
@@ -96,11 +96,11 @@ module _ (before next : Covered) (first end : ℕ) (done : List Stretch) (s : St
     );
     covered = λ version inside before_end all.
         let began : s.from ≤ version = of_all (λ t. t.head ≡ next.head → t.from ≤ version) (done ++ s ∷ []) all s (in_right s done (s ∷ []) (inl refl)) (sym head) in
-        ap (λ (h : ℕ). is_shown (done ++ s ∷ []) h version) head ∙ shown_push done s version
+        ap (λ (h : ℕ). is_head_shown (done ++ s ∷ []) h version) head ∙ shown_push done s version
         ∙ ap (λ (t : Bool). t || has_version version s) (stands.covered version inside before_end began)
         ∙ reached version before_end began;
     held =
-        held ∙ ap (λ (t : Bool). t || has_version first s) stands.held ∙ sym (shown_push done s first) ∙ ap (λ (h : ℕ). is_shown (done ++ s ∷ []) h first) (sym head);
+        held ∙ ap (λ (t : Bool). t || has_version first s) stands.held ∙ sym (shown_push done s first) ∙ ap (λ (h : ℕ). is_head_shown (done ++ s ∷ []) h first) (sym head);
   }
     where
       within : (most : ℕ) → s.head ≤ most → (t : Stretch) → In t done ⊎ In t (s ∷ []) → t.head ≤ most

@@ -8,7 +8,7 @@ use Rattle.std.proofs.lemmas.List.{take_more}
 use Rattle.std.proofs.lemmas.List.Elements.{filter-append}
 use Rattle.sb_model.specs.declared.history.Added.{Added}
 use Rattle.sb_model.specs.History.{prefix_of, without_hash, with_added}
-use Rattle.delta_server.specs.Counts.{has_prefix, holders_of, Gains, prefix_at, AreApart}
+use Rattle.delta_server.specs.Counts.{has_prefix, holders_of, Gains, prefix_of_hash, HaveHashesApart}
 use Rattle.delta_server.proofs.SetCounts.{equal_bytes, same_bytes, other_bytes}
 
 pub flip_other : (a b : List ℕ) → bytes_eq a b ≡ false → bytes_eq b a ≡ false
@@ -16,31 +16,31 @@ flip_other a b other = other_bytes b a (λ e. false≢true (sym other ∙ same_b
 
 -- ---- without a hash
 
-pub prefix_at-without_hash : (entries : List Added) (hash other : List ℕ) → prefix_at other (without_hash entries hash) ≡ (if bytes_eq hash other then None else prefix_at other entries)
+pub prefix_at-without_hash : (entries : List Added) (hash other : List ℕ) → prefix_of_hash other (without_hash entries hash) ≡ (if bytes_eq hash other then None else prefix_of_hash other entries)
 prefix_at-without_hash [] hash other = go (bytes_eq hash other)
   where
-    go : (t : Bool) → None ≡ (if t then None else prefix_at other [])
+    go : (t : Bool) → None ≡ (if t then None else prefix_of_hash other [])
     go true = refl
     go false = refl
 prefix_at-without_hash (e ∷ es) hash other = go (bytes_eq e.hash hash) refl (prefix_at-without_hash es hash other)
   where
-    pick : (t : Bool) → bytes_eq e.hash hash ≡ false → bytes_eq e.hash other ≡ t → prefix_at other (without_hash es hash) ≡ (if bytes_eq hash other then None else prefix_at other es)
-        → (if t then Some (prefix_of e) else prefix_at other (without_hash es hash)) ≡ (if bytes_eq hash other then None else (if t then Some (prefix_of e) else prefix_at other es))
+    pick : (t : Bool) → bytes_eq e.hash hash ≡ false → bytes_eq e.hash other ≡ t → prefix_of_hash other (without_hash es hash) ≡ (if bytes_eq hash other then None else prefix_of_hash other es)
+        → (if t then Some (prefix_of e) else prefix_of_hash other (without_hash es hash)) ≡ (if bytes_eq hash other then None else (if t then Some (prefix_of e) else prefix_of_hash other es))
     pick true apart is more =
         let same : e.hash ≡ other = equal_bytes e.hash other is in
         let no : bytes_eq hash other ≡ false = other_bytes hash other (λ k. false≢true (sym apart ∙ same_bytes e.hash hash (same ∙ sym k))) in
         sym (ap (λ (t : Bool). if t then None else Some (prefix_of e)) no)
     pick false apart is more = more
 
-    drop_own : (t : Bool) → bytes_eq e.hash hash ≡ true → bytes_eq hash other ≡ t → (if t then None else prefix_at other es) ≡ (if t then None else (if bytes_eq e.hash other then Some (prefix_of e) else prefix_at other es))
+    drop_own : (t : Bool) → bytes_eq e.hash hash ≡ true → bytes_eq hash other ≡ t → (if t then None else prefix_of_hash other es) ≡ (if t then None else (if bytes_eq e.hash other then Some (prefix_of e) else prefix_of_hash other es))
     drop_own true own is = refl
     drop_own false own is =
         let same : e.hash ≡ hash = equal_bytes e.hash hash own in
         let no : bytes_eq e.hash other ≡ false = ap (λ (h : List ℕ). bytes_eq h other) same ∙ is in
-        sym (ap (λ (t : Bool). if t then Some (prefix_of e) else prefix_at other es) no)
+        sym (ap (λ (t : Bool). if t then Some (prefix_of e) else prefix_of_hash other es) no)
 
-    go : (t : Bool) → bytes_eq e.hash hash ≡ t → prefix_at other (without_hash es hash) ≡ (if bytes_eq hash other then None else prefix_at other es)
-        → prefix_at other (cond (not t) (e ∷ without_hash es hash) (without_hash es hash)) ≡ (if bytes_eq hash other then None else prefix_at other (e ∷ es))
+    go : (t : Bool) → bytes_eq e.hash hash ≡ t → prefix_of_hash other (without_hash es hash) ≡ (if bytes_eq hash other then None else prefix_of_hash other es)
+        → prefix_of_hash other (cond (not t) (e ∷ without_hash es hash) (without_hash es hash)) ≡ (if bytes_eq hash other then None else prefix_of_hash other (e ∷ es))
     go true is more = more ∙ drop_own (bytes_eq hash other) is refl
     go false is more = pick (bytes_eq e.hash other) is refl more
 
@@ -48,11 +48,11 @@ prefix_at-without_hash (e ∷ es) hash other = go (bytes_eq e.hash hash) refl (p
 abbrev pub Lacks : List Added → List ℕ → Type 0
 Lacks entries hash = AllByRecursion (λ (e : Added). bytes_eq e.hash hash ≡ false) entries
 
-pub lacks_none : (entries : List Added) (hash : List ℕ) → prefix_at hash entries ≡ None → Lacks entries hash
+pub lacks_none : (entries : List Added) (hash : List ℕ) → prefix_of_hash hash entries ≡ None → Lacks entries hash
 lacks_none [] hash none = tt
 lacks_none (e ∷ es) hash none = go (bytes_eq e.hash hash) refl none (lacks_none es hash)
   where
-    go : (t : Bool) → bytes_eq e.hash hash ≡ t → (if t then Some (prefix_of e) else prefix_at hash es) ≡ None → (prefix_at hash es ≡ None → Lacks es hash) → Lacks (e ∷ es) hash
+    go : (t : Bool) → bytes_eq e.hash hash ≡ t → (if t then Some (prefix_of e) else prefix_of_hash hash es) ≡ None → (prefix_of_hash hash es ≡ None → Lacks es hash) → Lacks (e ∷ es) hash
     go true is h more = absurd (cc)
     go false is h more = (is, more h)
 
@@ -76,7 +76,7 @@ holders_cons q e es = go (has_prefix q e)
     go true = omega arith
     go false = omega arith
 
-pub goes : (entries : List Added) (hash prefix : List ℕ) → AreApart entries → prefix_at hash entries ≡ Some prefix → Goes entries hash prefix
+pub goes : (entries : List Added) (hash prefix : List ℕ) → HaveHashesApart entries → prefix_of_hash hash entries ≡ Some prefix → Goes entries hash prefix
 goes [] hash prefix apart found = absurd (cc)
 goes (e ∷ es) hash prefix apart found = go (bytes_eq e.hash hash) refl found (goes es hash prefix apart.1)
   where
@@ -108,8 +108,8 @@ goes (e ∷ es) hash prefix apart found = go (bytes_eq e.hash hash) refl found (
           count = let one : suc (length es) ≡ suc (length (without_hash es hash)) + 1 = omega (arith, more.count) in one ∙ sym (ap (λ (xs : List Added). length xs + 1) left);
         }
 
-    go : (t : Bool) → bytes_eq e.hash hash ≡ t → (if t then Some (prefix_of e) else prefix_at hash es) ≡ Some prefix
-        → (prefix_at hash es ≡ Some prefix → Goes es hash prefix) → Goes (e ∷ es) hash prefix
+    go : (t : Bool) → bytes_eq e.hash hash ≡ t → (if t then Some (prefix_of e) else prefix_of_hash hash es) ≡ Some prefix
+        → (prefix_of_hash hash es ≡ Some prefix → Goes es hash prefix) → Goes (e ∷ es) hash prefix
     go true is h more = first is h
     go false is h more = later is (more h)
 
@@ -121,11 +121,11 @@ all_without P (e ∷ es) hash all = go (bytes_eq e.hash hash) (all_without P es 
     go true more = more
     go false more = (all.0, more)
 
-pub apart_without : (entries : List Added) (hash : List ℕ) → AreApart entries → AreApart (without_hash entries hash)
+pub apart_without : (entries : List Added) (hash : List ℕ) → HaveHashesApart entries → HaveHashesApart (without_hash entries hash)
 apart_without [] hash apart = tt
 apart_without (e ∷ es) hash apart = go (bytes_eq e.hash hash) (apart_without es hash apart.1)
   where
-    go : (t : Bool) → AreApart (without_hash es hash) → AreApart (cond (not t) (e ∷ without_hash es hash) (without_hash es hash))
+    go : (t : Bool) → HaveHashesApart (without_hash es hash) → HaveHashesApart (cond (not t) (e ∷ without_hash es hash) (without_hash es hash))
     go true more = more
     go false more = (all_without (λ (other : Added). bytes_eq other.hash e.hash ≡ false) es hash apart.0, more)
 
@@ -140,13 +140,13 @@ gains_push entries added = record {
 }
 
 prefix_at-push : (entries : List Added) (added : Added) (other : List ℕ) → Lacks entries added.hash
-    → prefix_at other (entries ++ added ∷ []) ≡ (if bytes_eq added.hash other then Some (prefix_of added) else prefix_at other entries)
+    → prefix_of_hash other (entries ++ added ∷ []) ≡ (if bytes_eq added.hash other then Some (prefix_of added) else prefix_of_hash other entries)
 prefix_at-push [] added other lacks = refl
 prefix_at-push (e ∷ es) added other lacks = go (bytes_eq e.hash other) refl (prefix_at-push es added other lacks.1)
   where
     go : (t : Bool) → bytes_eq e.hash other ≡ t
-        → prefix_at other (es ++ added ∷ []) ≡ (if bytes_eq added.hash other then Some (prefix_of added) else prefix_at other es)
-        → (if t then Some (prefix_of e) else prefix_at other (es ++ added ∷ [])) ≡ (if bytes_eq added.hash other then Some (prefix_of added) else (if t then Some (prefix_of e) else prefix_at other es))
+        → prefix_of_hash other (es ++ added ∷ []) ≡ (if bytes_eq added.hash other then Some (prefix_of added) else prefix_of_hash other es)
+        → (if t then Some (prefix_of e) else prefix_of_hash other (es ++ added ∷ [])) ≡ (if bytes_eq added.hash other then Some (prefix_of added) else (if t then Some (prefix_of e) else prefix_of_hash other es))
     go true is more =
         let same : e.hash ≡ other = equal_bytes e.hash other is in
         let no : bytes_eq added.hash other ≡ false = other_bytes added.hash other (λ k. false≢true (sym lacks.0 ∙ same_bytes e.hash added.hash (same ∙ sym k))) in
@@ -157,7 +157,7 @@ all_push : (P : Added → Type 0) (entries : List Added) (added : Added) → All
 all_push P [] added all here = (here, tt)
 all_push P (e ∷ es) added all here = (all.0, all_push P es added all.1 here)
 
-apart_push : (entries : List Added) (added : Added) → AreApart entries → Lacks entries added.hash → AreApart (entries ++ added ∷ [])
+apart_push : (entries : List Added) (added : Added) → HaveHashesApart entries → Lacks entries added.hash → HaveHashesApart (entries ++ added ∷ [])
 apart_push [] added apart lacks = (tt, tt)
 apart_push (e ∷ es) added apart lacks =
     (all_push (λ (other : Added). bytes_eq other.hash e.hash ≡ false) es added apart.0 (flip_other e.hash added.hash lacks.0), apart_push es added apart.1 lacks.1)
@@ -166,26 +166,26 @@ apart_push (e ∷ es) added apart lacks =
 
 lacks_without : (entries : List Added) (hash : List ℕ) → Lacks (without_hash entries hash) hash
 lacks_without entries hash = lacks_none (without_hash entries hash) hash
-    (prefix_at-without_hash entries hash hash ∙ ap (λ (t : Bool). if t then None else prefix_at hash entries) (same_bytes hash hash refl))
+    (prefix_at-without_hash entries hash hash ∙ ap (λ (t : Bool). if t then None else prefix_of_hash hash entries) (same_bytes hash hash refl))
 
 pub prefix_at-with_added : (entries : List Added) (added : Added) (other : List ℕ)
-    → prefix_at other (with_added entries added) ≡ (if bytes_eq added.hash other then Some (prefix_of added) else prefix_at other entries)
+    → prefix_of_hash other (with_added entries added) ≡ (if bytes_eq added.hash other then Some (prefix_of added) else prefix_of_hash other entries)
 prefix_at-with_added entries added other =
     prefix_at-push (without_hash entries added.hash) added other (lacks_without entries added.hash)
     ∙ go (bytes_eq added.hash other) (prefix_at-without_hash entries added.hash other)
   where
-    go : (t : Bool) → prefix_at other (without_hash entries added.hash) ≡ (if t then None else prefix_at other entries)
-        → (if t then Some (prefix_of added) else prefix_at other (without_hash entries added.hash)) ≡ (if t then Some (prefix_of added) else prefix_at other entries)
+    go : (t : Bool) → prefix_of_hash other (without_hash entries added.hash) ≡ (if t then None else prefix_of_hash other entries)
+        → (if t then Some (prefix_of added) else prefix_of_hash other (without_hash entries added.hash)) ≡ (if t then Some (prefix_of added) else prefix_of_hash other entries)
     go true is = refl
     go false is = is
 
-pub apart_added : (entries : List Added) (added : Added) → AreApart entries → AreApart (with_added entries added)
+pub apart_added : (entries : List Added) (added : Added) → HaveHashesApart entries → HaveHashesApart (with_added entries added)
 apart_added entries added apart =
     apart_push (without_hash entries added.hash) added (apart_without entries added.hash apart) (lacks_without entries added.hash)
 
 -- ---- entries that are apart, put in one by one
 
-apart_front : (front : List Added) (e : Added) (es : List Added) → AreApart (front ++ e ∷ es) → Lacks front e.hash
+apart_front : (front : List Added) (e : Added) (es : List Added) → HaveHashesApart (front ++ e ∷ es) → Lacks front e.hash
 apart_front [] e es apart = tt
 apart_front (f ∷ fs) e es apart = (flip_other e.hash f.hash (here fs apart.0), apart_front fs e es apart.1)
   where
@@ -193,25 +193,25 @@ apart_front (f ∷ fs) e es apart = (flip_other e.hash f.hash (here fs apart.0),
     here [] all = all.0
     here (x ∷ xs) all = here xs all.1
 
-pub put_each : (front entries : List Added) → AreApart (front ++ entries) → fold with_added front entries ≡ front ++ entries
+pub put_each : (front entries : List Added) → HaveHashesApart (front ++ entries) → fold with_added front entries ≡ front ++ entries
 put_each front [] apart = sym (append-nil front)
 put_each front (e ∷ es) apart =
     let one : with_added front e ≡ front ++ e ∷ [] = ap (λ (xs : List Added). xs ++ e ∷ []) (without_lacking front e.hash (apart_front front e es apart)) in
     let whole : (front ++ e ∷ []) ++ es ≡ front ++ e ∷ es = append_assoc front (e ∷ []) es in
     ap (λ (xs : List Added). fold with_added xs es) one
-    ∙ put_each (front ++ e ∷ []) es (subst AreApart (sym whole) apart)
+    ∙ put_each (front ++ e ∷ []) es (subst HaveHashesApart (sym whole) apart)
     ∙ whole
 
 -- ---- how many are left, and how many there are with one more
 
-pub taken_count : (entries : List Added) (hash : List ℕ) (left : ℕ) (found : Option (List ℕ)) → AreApart entries → found ≡ prefix_at hash entries
+pub taken_count : (entries : List Added) (hash : List ℕ) (left : ℕ) (found : Option (List ℕ)) → HaveHashesApart entries → found ≡ prefix_of_hash hash entries
     → left + (if is_some found then 1 else 0) ≡ length entries → left ≡ length (without_hash entries hash)
 taken_count entries hash left None apart is count =
     let same : without_hash entries hash ≡ entries = without_lacking entries hash (lacks_none entries hash (sym is)) in
     omega (arith, count, ap length same)
 taken_count entries hash left (Some prefix) apart is count = omega (arith, count, (goes entries hash prefix apart (sym is)).count)
 
-pub added_count : (entries : List Added) (added : Added) (before after : ℕ) (found : Option (List ℕ)) → AreApart entries → found ≡ prefix_at added.hash entries
+pub added_count : (entries : List Added) (added : Added) (before after : ℕ) (found : Option (List ℕ)) → HaveHashesApart entries → found ≡ prefix_of_hash added.hash entries
     → before ≡ length entries → after ≡ before + (if is_some found then 0 else 1) → after ≡ length (with_added entries added)
 added_count entries added before after None apart is count grows =
     let same : without_hash entries added.hash ≡ entries = without_lacking entries added.hash (lacks_none entries added.hash (sym is)) in

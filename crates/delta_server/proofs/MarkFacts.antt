@@ -7,7 +7,7 @@ use Rattle.std.proofs.Math.Seq.{take-set-lt}
 use Rattle.std.proofs.lemmas.List.Folds.{sum_by-replicate}
 use Rattle.std.proofs.lemmas.List.Sums.{sum_by-set, sum_by_more}
 use Rattle.delta_server.specs.declared.marks.Marks.{Marks}
-use Rattle.delta_server.specs.Sweeping.{Tells}
+use Rattle.delta_server.specs.Sweeping.{TellsCounts}
 use Rattle.delta_server.proofs.ShownFacts.{both_true}
 
 -- ---- one more at a place
@@ -67,11 +67,11 @@ piece_counts begin stop place order = elim (cases_lt place begin) [
   ]
 ]
 
-pub tells_marked : (old new : Marks) (begin stop most : ℕ) (count : ℕ → ℕ) → begin ≤ stop → Tells old most count → length new.begins.items ≡ length old.begins.items
+pub tells_marked : (old new : Marks) (begin stop most : ℕ) (count : ℕ → ℕ) → begin ≤ stop → TellsCounts old most count → length new.begins.items ≡ length old.begins.items
     → ((n : ℕ) → sum (take n new.begins.items) ≡ sum (take n old.begins.items) + bit (nat_lt begin n))
     → ((n : ℕ) → sum (take n new.stops.items) ≡ sum (take n old.stops.items) + bit (nat_lt stop n))
     → ((k : ℕ) → get_or new.begins.items k 0 ≤ most + 1) → ((k : ℕ) → get_or new.stops.items k 0 ≤ most + 1)
-    → Tells new (most + 1) (λ place. count place + (if nat_le begin place && nat_lt place stop then 1 else 0))
+    → TellsCounts new (most + 1) (λ place. count place + (if nat_le begin place && nat_lt place stop then 1 else 0))
 tells_marked old new begin stop most count order tells long begun stopped begins stops = record {
   sums = λ place within.
       let before = tells.sums place (omega (arith, within, long)) in
@@ -83,7 +83,7 @@ tells_marked old new begin stop most count order tells long begun stopped begins
 
 -- the same counts, and more room
 pub tells_more : (marks : Marks) (most more : ℕ) (count other : ℕ → ℕ) → most ≤ more → ((place : ℕ) → place + 1 < length marks.begins.items → other place ≡ count place)
-    → Tells marks most count → Tells marks more other
+    → TellsCounts marks most count → TellsCounts marks more other
 tells_more marks most more count other room same tells = record {
   sums = λ place within. omega (arith, tells.sums place within, same place within);
   begins = λ k. omega (arith, tells.begins k, room);
@@ -93,7 +93,7 @@ tells_more marks most more count other room same tells = record {
 abbrev zeros : ℕ → List ℕ
 zeros places = replicate places 0
 
-pub none_marked : (marks : Marks) (places : ℕ) → marks.begins.items ≡ zeros places → marks.stops.items ≡ zeros places → Tells marks 0 (λ place. 0)
+pub none_marked : (marks : Marks) (places : ℕ) → marks.begins.items ≡ zeros places → marks.stops.items ≡ zeros places → TellsCounts marks 0 (λ place. 0)
 none_marked marks places begins stops = record {
   sums = λ place within.
       let long : length marks.begins.items ≡ places = ap length begins ∙ length-replicate {A = ℕ} places 0 in
@@ -112,13 +112,13 @@ none_marked marks places begins stops = record {
 -- ---- the count at a place
 
 pub level_is : (marks : Marks) (place before most result : ℕ) (count : ℕ → ℕ) → place + 1 < length marks.begins.items → length marks.stops.items ≡ length marks.begins.items
-    → most < 2 ^ 63 → count place < 2 ^ 63 → Tells marks most count → before + sum (take place marks.stops.items) ≡ sum (take place marks.begins.items)
+    → most < 2 ^ 63 → count place < 2 ^ 63 → TellsCounts marks most count → before + sum (take place marks.stops.items) ≡ sum (take place marks.begins.items)
     → result ≡ min (before + get_or marks.begins.items place 0) (2 ^ 64 - 1) - get_or marks.stops.items place 0 → result ≡ count place
 level_is marks place before most result count within same few less tells stands is =
     let begun = sum_by_more (λ n. n) marks.begins.items place 0 (omega (arith, within)) in
     let stopped = sum_by_more (λ n. n) marks.stops.items place 0 (omega (arith, within, same)) in
     omega (arith, begun, stopped, tells.sums place within, tells.stops place, few, less, stands, is)
 
-pub next_level : (marks : Marks) (place result most : ℕ) (count : ℕ → ℕ) → place + 1 < length marks.begins.items → Tells marks most count → result ≡ count place
+pub next_level : (marks : Marks) (place result most : ℕ) (count : ℕ → ℕ) → place + 1 < length marks.begins.items → TellsCounts marks most count → result ≡ count place
     → result + sum (take (place + 1) marks.stops.items) ≡ sum (take (place + 1) marks.begins.items)
 next_level marks place result most count within tells is = omega (arith, tells.sums place within, is)

@@ -19,7 +19,7 @@ use Rattle.list_versions.specs.declared.stretch.Stretch.{Stretch}
 use Rattle.delta_server.specs.declared.passages.Passage.{Passage}
 use Rattle.list_versions.specs.Stretches.{prefix_in, ComesBefore, AreInOrder}
 use Rattle.delta_server.specs.Passages.{HasPassed, Passes, StandsBetween}
-use Rattle.delta_server.specs.Sweeping.{HaveHeads, has_version, shown_at}
+use Rattle.delta_server.specs.Sweeping.{NameFourBytes, has_version, shown_at}
 use Rattle.delta_server.proofs.Membership.{In, in_either, from_map, from_filter, in_right}
 use Rattle.delta_server.proofs.QuadFacts.{quads_rise}
 use Rattle.delta_server.proofs.SetCounts.{same_bytes, has_not}
@@ -309,7 +309,7 @@ Takes before after run head held version = (done later : List Stretch) → Stand
     → HasPassed after (shown_at ((done ++ run) ++ later) held) (shown_at ((done ++ run) ++ later) version) held version (done ++ run)
 
 module _ (stretches done rest run later : List Stretch) (first : Stretch) (whole : stretches ≡ done ++ rest) (split : rest ≡ run ++ later)
-    (below : (s t : Stretch) → In s done → In t rest → s.head < t.head) (heads : HaveHeads stretches) (there : In first rest)
+    (below : (s t : Stretch) → In s done → In t rest → s.head < t.head) (heads : NameFourBytes stretches) (there : In first rest)
     (own : All (λ (s : Stretch). s.head ≡ first.head) run) (after : All (λ (s : Stretch). first.head < s.head) later) where
   pub whole_next : stretches ≡ (done ++ run) ++ later
   whole_next = whole ∙ ap (λ (xs : List Stretch). done ++ xs) split ∙ sym (append_assoc done run later)

@@ -11,7 +11,7 @@ use Rattle.sb_model.specs.declared.names.ListName.{ListName}
 use Rattle.sb_model.specs.Names.{same_name}
 use Rattle.sb_model.specs.History.{History, IsPrefixSize, IsWellFormed, prefix_of, without_hash, with_added, after_change}
 use Rattle.list_versions.specs.HashSizes.{HashSizes, IsMapOf}
-use Rattle.delta_server.specs.Counts.{AreApart}
+use Rattle.delta_server.specs.Counts.{HaveHashesApart}
 use Rattle.delta_server.specs.Walk.{HasSizes, HaveSame, published, entries_after, may_take, changes_taken}
 use Rattle.delta_server.proofs.CountFacts.{SetLaws}
 use Rattle.delta_server.proofs.EntryFacts.{flip_other}
@@ -100,7 +100,7 @@ others_apart : (entry : Added) (entries : List Added) → AllByRecursion (λ has
 others_apart entry [] h = tt
 others_apart entry (other ∷ entries) h = (flip_other entry.hash other.hash h.0, others_apart entry entries h.1)
 
-pub apart_of : (entries : List Added) → IsDistinct bytes_eq (map hash_of entries) → AreApart entries
+pub apart_of : (entries : List Added) → IsDistinct bytes_eq (map hash_of entries) → HaveHashesApart entries
 apart_of [] h = tt
 apart_of (entry ∷ entries) h = (
   others_apart entry entries (IsDistinct-head bytes_eq entry.hash (map hash_of entries) h),

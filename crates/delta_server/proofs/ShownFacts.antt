@@ -18,7 +18,7 @@ use Rattle.sb_model.specs.History.{History, version_count, sizes_at, prefixes_at
 use Rattle.sb_model.specs.Prefixes.{bytes_cmp, IsRising, with_member, set_of}
 use Rattle.list_versions.specs.declared.stretch.Stretch.{Stretch}
 use Rattle.list_versions.specs.Stretches.{prefix_in, shows_at, ComesBefore, AreInOrder, AreStretches}
-use Rattle.delta_server.specs.Sweeping.{has_version, shown_at, is_shown, shows_first}
+use Rattle.delta_server.specs.Sweeping.{has_version, shown_at, is_head_shown, shows_first}
 use Rattle.delta_server.proofs.CountFacts.{SetLaws, nothing_held}
 use Rattle.delta_server.proofs.Membership.{In, contains_in, in_contained, in_left, in_right, in_either, in_map, from_map, in_filter, from_filter}
 use Rattle.delta_server.proofs.SetCounts.{equal_bytes, same_bytes, has_in, in_has, kept, length-with_member, kept-with_member, known-with_member}
@@ -148,19 +148,19 @@ module _ (laws : SetLaws) where
   -- ---- one stretch more
 
   module _ (done : List Stretch) (s : Stretch) (heads : (t : Stretch) → In t done → t.head < 2 ^ 32) (own : s.head < 2 ^ 32) (version : ℕ) where
-    there : is_shown done s.head version ≡ true → In (prefix_in s) (shown_in done version)
+    there : is_head_shown done s.head version ≡ true → In (prefix_in s) (shown_in done version)
     there h =
         let found = any_in (λ t. t.head == s.head && has_version version t) done h in
         subst (λ (y : List ℕ). In y (shown_in done version)) (ap (to_be_bytes w32) (eqb-true found.0.head s.head (first_true _ _ found.2)))
         (shows done version found.0 found.1 (second_true (found.0.head == s.head) _ found.2))
 
-    was_there : In (prefix_in s) (shown_in done version) → is_shown done s.head version ≡ true
+    was_there : In (prefix_in s) (shown_in done version) → is_head_shown done s.head version ≡ true
     was_there h =
         let found = shown_by done version (prefix_in s) h in
         in_any (λ t. t.head == s.head && has_version version t) found.0 done found.1
         (both_true (found.0.head == s.head) _ (eq-eqb found.0.head s.head (same_head found.0.head s.head (heads found.0 found.1) own found.3)) found.2)
 
-    new : is_shown done s.head version ≡ false → In (prefix_in s) (shown_at done version) → ⊥
+    new : is_head_shown done s.head version ≡ false → In (prefix_in s) (shown_at done version) → ⊥
     new none h = false≢true (sym none ∙ was_there (in_contained (prefix_in s) (shown_in done version)
         ((laws.members (shown_in done version) (prefix_in s)).0 (contains_in (prefix_in s) (shown_at done version) h))))
 
@@ -173,7 +173,7 @@ module _ (laws : SetLaws) where
     absent : has_version version s ≡ false → shown_at (done ++ s ∷ []) version ≡ shown_at done version
     absent is = ap set_of (pushed false is ∙ append-nil (shown_in done version))
 
-    again : has_version version s ≡ true → is_shown done s.head version ≡ true → shown_at (done ++ s ∷ []) version ≡ shown_at done version
+    again : has_version version s ≡ true → is_head_shown done s.head version ≡ true → shown_at (done ++ s ∷ []) version ≡ shown_at done version
     again is shown = ap set_of (pushed true is) ∙ laws.same (shown_in done version ++ prefix_in s ∷ []) (shown_in done version) (λ x. (
       λ c. contains_in x (shown_in done version) (go x (in_either x (shown_in done version) (prefix_in s ∷ []) (in_contained x (shown_in done version ++ prefix_in s ∷ []) c))),
       λ c. contains_in x (shown_in done version ++ prefix_in s ∷ []) (in_left x (shown_in done version) (prefix_in s ∷ []) (in_contained x (shown_in done version) c)),
@@ -200,9 +200,9 @@ module _ (laws : SetLaws) where
         from x (inr h) = in_left x (shown_in done version) (prefix_in s ∷ []) h
 
     pub length_shown : length (shown_at (done ++ s ∷ []) version) ≡ length (shown_at done version) + (if shows_first done s version then 1 else 0)
-    length_shown = go (has_version version s) refl (is_shown done s.head version) refl
+    length_shown = go (has_version version s) refl (is_head_shown done s.head version) refl
       where
-        go : (a : Bool) → has_version version s ≡ a → (b : Bool) → is_shown done s.head version ≡ b
+        go : (a : Bool) → has_version version s ≡ a → (b : Bool) → is_head_shown done s.head version ≡ b
             → length (shown_at (done ++ s ∷ []) version) ≡ length (shown_at done version) + (if a && not b then 1 else 0)
         go false has b shown = ap length (absent has) ∙ omega arith
         go true has true shown = ap length (again has shown) ∙ omega arith
@@ -210,9 +210,9 @@ module _ (laws : SetLaws) where
 
     pub kept_shown : (held : List (List ℕ))
         → kept held (shown_at (done ++ s ∷ []) version) ≡ kept held (shown_at done version) + (if shows_first done s version && has_member held (prefix_in s) then 1 else 0)
-    kept_shown held = go (has_version version s) refl (is_shown done s.head version) refl
+    kept_shown held = go (has_version version s) refl (is_head_shown done s.head version) refl
       where
-        go : (a : Bool) → has_version version s ≡ a → (b : Bool) → is_shown done s.head version ≡ b
+        go : (a : Bool) → has_version version s ≡ a → (b : Bool) → is_head_shown done s.head version ≡ b
             → kept held (shown_at (done ++ s ∷ []) version) ≡ kept held (shown_at done version) + (if (a && not b) && has_member held (prefix_in s) then 1 else 0)
         go false has b shown = ap (kept held) (absent has) ∙ omega arith
         go true has true shown = ap (kept held) (again has shown) ∙ omega arith
@@ -232,10 +232,10 @@ module _ (laws : SetLaws) where
 
     -- A prefix that a stretch shows first is held only if a stretch up to this one shows it at the first version: those behind
     -- it begin no earlier.
-    pub held_is : from ≤ version → shows_first done s version ≡ true → has_member (shown_at whole from) (prefix_in s) ≡ is_shown (done ++ s ∷ []) s.head from
-    held_is low first = same_test (has_member (shown_at whole from) (prefix_in s)) (is_shown (done ++ s ∷ []) s.head from) to back
+    pub held_is : from ≤ version → shows_first done s version ≡ true → has_member (shown_at whole from) (prefix_in s) ≡ is_head_shown (done ++ s ∷ []) s.head from
+    held_is low first = same_test (has_member (shown_at whole from) (prefix_in s)) (is_head_shown (done ++ s ∷ []) s.head from) to back
       where
-        place : (t : Stretch) → t.head ≡ s.head → has_version from t ≡ true → In t done ⊎ In t (s ∷ rest) → is_shown (done ++ s ∷ []) s.head from ≡ true
+        place : (t : Stretch) → t.head ≡ s.head → has_version from t ≡ true → In t done ⊎ In t (s ∷ rest) → is_head_shown (done ++ s ∷ []) s.head from ≡ true
         place t same has (inl h) = in_any test t (done ++ s ∷ []) (in_left t done (s ∷ []) h) (both_true (t.head == s.head) _ (eq-eqb t.head s.head same) has)
         place t same has (inr (inl e)) = in_any test t (done ++ s ∷ []) (in_right t done (s ∷ []) (inl e)) (both_true (t.head == s.head) _ (eq-eqb t.head s.head same) has)
         place t same has (inr (inr h)) =
@@ -246,7 +246,7 @@ module _ (laws : SetLaws) where
             in_any test s (done ++ s ∷ []) (in_right s done (s ∷ []) (inl refl))
             (both_true (s.head == s.head) _ (eq-eqb s.head s.head refl) (both_true _ _ (le-leb s.from from (omega arith)) (lt-ltb from s.until (omega arith))))
 
-        to : has_member (shown_at whole from) (prefix_in s) ≡ true → is_shown (done ++ s ∷ []) s.head from ≡ true
+        to : has_member (shown_at whole from) (prefix_in s) ≡ true → is_head_shown (done ++ s ∷ []) s.head from ≡ true
         to h =
             let inside = in_contained (prefix_in s) (shown_in whole from) ((laws.members (shown_in whole from) (prefix_in s)).0
             (contains_in (prefix_in s) (shown_at whole from) (has_in (shown_at whole from) (prefix_in s) h))) in
@@ -258,7 +258,7 @@ module _ (laws : SetLaws) where
         wider t (inr (inl e)) = in_right t done (s ∷ rest) (inl e)
         wider t (inr (inr h)) = absurd h
 
-        back : is_shown (done ++ s ∷ []) s.head from ≡ true → has_member (shown_at whole from) (prefix_in s) ≡ true
+        back : is_head_shown (done ++ s ∷ []) s.head from ≡ true → has_member (shown_at whole from) (prefix_in s) ≡ true
         back h =
             let found = any_in test (done ++ s ∷ []) h in
             let there = shows whole from found.0 (wider found.0 (in_either found.0 done (s ∷ []) found.1)) (second_true (found.0.head == s.head) _ found.2) in
@@ -308,8 +308,8 @@ few_shown (s ∷ ss) version = go (has_version version s) (few_shown ss version)
     go true more = omega (arith, more, few_with (prefix_in s) (shown_at ss version))
     go false more = omega (arith, more)
 
-pub shown_push : (done : List Stretch) (s : Stretch) (version : ℕ) → is_shown (done ++ s ∷ []) s.head version ≡ (is_shown done s.head version || has_version version s)
+pub shown_push : (done : List Stretch) (s : Stretch) (version : ℕ) → is_head_shown (done ++ s ∷ []) s.head version ≡ (is_head_shown done s.head version || has_version version s)
 shown_push done s version =
     list_any-append (λ t. t.head == s.head && has_version version t) done (s ∷ [])
-    ∙ ap (λ (t : Bool). is_shown done s.head version || ((t && has_version version s) || false)) (eq-eqb s.head s.head refl)
-    ∙ ap (λ (t : Bool). is_shown done s.head version || t) (or_false (has_version version s))
+    ∙ ap (λ (t : Bool). is_head_shown done s.head version || ((t && has_version version s) || false)) (eq-eqb s.head s.head refl)
+    ∙ ap (λ (t : Bool). is_head_shown done s.head version || t) (or_false (has_version version s))

@@ -12,7 +12,7 @@ use Rattle.sb_model.specs.Target.{is_within, greatest_up_to, target_version}
 use Rattle.list_versions.specs.declared.stretch.Stretch.{Stretch}
 use Rattle.list_versions.specs.Stretches.{prefix_in, AreInOrder, AreStretches}
 use Rattle.delta_server.specs.declared.marks.Marks.{Marks}
-use Rattle.delta_server.specs.Sweeping.{is_shown, shown_at, shows_first, Tells, HaveHeads}
+use Rattle.delta_server.specs.Sweeping.{is_head_shown, shown_at, shows_first, TellsCounts, NameFourBytes}
 use Rattle.delta_server.specs.Walk.{may_take, published, entries_after}
 use Rattle.delta_server.proofs.CountFacts.{SetLaws}
 use Rattle.delta_server.proofs.MarkFacts.{bit, tells_more}
@@ -41,7 +41,7 @@ place_is first begin reach place low high = same_test (nat_le (begin - first) pl
     let b : first + place < reach = ltb-true (first + place) reach (second_true (nat_le begin (first + place)) _ h) in
     both_true (nat_le (begin - first) place) (nat_lt place (reach - first)) (le-leb (begin - first) place (omega arith)) (lt-ltb place (reach - first) (omega arith)))
 
-module _ (laws : SetLaws) (done : List Stretch) (s : Stretch) (rest : List Stretch) (order : AreInOrder (done ++ s ∷ rest)) (heads : HaveHeads (done ++ s ∷ rest))
+module _ (laws : SetLaws) (done : List Stretch) (s : Stretch) (rest : List Stretch) (order : AreInOrder (done ++ s ∷ rest)) (heads : NameFourBytes (done ++ s ∷ rest))
     (first end begin reach : ℕ) (low : first ≤ begin) (high : first ≤ reach)
     (anew : (version : ℕ) → first ≤ version → version < end → (nat_le begin version && nat_lt version reach) ≡ shows_first done s version) where
   abbrev whole : List Stretch
@@ -61,8 +61,8 @@ module _ (laws : SetLaws) (done : List Stretch) (s : Stretch) (rest : List Stret
 
   -- all prefixes
   pub all_told : (marks : Marks) → length marks.begins.items ≡ end - first + 1
-      → Tells marks (length done + 1) (λ place. length (shown_at done (first + place)) + (if has_piece place then 1 else 0))
-      → Tells marks (length (done ++ s ∷ [])) (λ place. length (shown_at (done ++ s ∷ []) (first + place)))
+      → TellsCounts marks (length done + 1) (λ place. length (shown_at done (first + place)) + (if has_piece place then 1 else 0))
+      → TellsCounts marks (length (done ++ s ∷ [])) (λ place. length (shown_at (done ++ s ∷ []) (first + place)))
   all_told marks long tells = tells_more marks (length done + 1) (length (done ++ s ∷ [])) _ _ (omega (arith, longer)) (λ place within.
       let inside : first + place < end = omega (arith, within, long) in
       length_shown laws done s (λ t there. each_head t (in_left t done (s ∷ rest) there)) (each_head s (in_right s done (s ∷ rest) (inl refl))) (first + place)
@@ -80,7 +80,7 @@ module _ (laws : SetLaws) (done : List Stretch) (s : Stretch) (rest : List Stret
       kept_shown laws done s (λ t there. each_head t (in_left t done (s ∷ rest) there)) (each_head s (in_right s done (s ∷ rest) (inl refl))) (first + place) held
       ∙ ap (λ (t : Bool). kept held (shown_at done (first + place)) + bit (t && has_member held (prefix_in s))) (sym (piece_is place inside))
 
-  pub shared_told : (own : Bool) → own ≡ is_shown (done ++ s ∷ []) s.head first → (place : ℕ) → first + place < end
+  pub shared_told : (own : Bool) → own ≡ is_head_shown (done ++ s ∷ []) s.head first → (place : ℕ) → first + place < end
       → kept held (shown_at (done ++ s ∷ []) (first + place)) ≡ kept held (shown_at done (first + place)) + bit (own && has_piece place)
   shared_told own is place inside =
       kept_more place inside ∙ ap (λ (n : ℕ). kept held (shown_at done (first + place)) + n) (go (has_piece place) refl)
@@ -99,16 +99,16 @@ module _ (laws : SetLaws) (done : List Stretch) (s : Stretch) (rest : List Stret
           and_false false = refl
 
   -- where the prefix is held, its piece is marked
-  pub shared_marked : (marks : Marks) → length marks.begins.items ≡ end - first + 1 → true ≡ is_shown (done ++ s ∷ []) s.head first
-      → Tells marks (length done + 1) (λ place. kept held (shown_at done (first + place)) + (if has_piece place then 1 else 0))
-      → Tells marks (length (done ++ s ∷ [])) (λ place. kept held (shown_at (done ++ s ∷ []) (first + place)))
+  pub shared_marked : (marks : Marks) → length marks.begins.items ≡ end - first + 1 → true ≡ is_head_shown (done ++ s ∷ []) s.head first
+      → TellsCounts marks (length done + 1) (λ place. kept held (shown_at done (first + place)) + (if has_piece place then 1 else 0))
+      → TellsCounts marks (length (done ++ s ∷ [])) (λ place. kept held (shown_at (done ++ s ∷ []) (first + place)))
   shared_marked marks long own tells = tells_more marks (length done + 1) (length (done ++ s ∷ [])) _ _ (omega (arith, longer))
       (λ place within. shared_told true own place (omega (arith, within, long))) tells
 
   -- where it is not, nothing is
-  pub shared_left : (marks : Marks) → length marks.begins.items ≡ end - first + 1 → false ≡ is_shown (done ++ s ∷ []) s.head first
-      → Tells marks (length done) (λ place. kept held (shown_at done (first + place)))
-      → Tells marks (length (done ++ s ∷ [])) (λ place. kept held (shown_at (done ++ s ∷ []) (first + place)))
+  pub shared_left : (marks : Marks) → length marks.begins.items ≡ end - first + 1 → false ≡ is_head_shown (done ++ s ∷ []) s.head first
+      → TellsCounts marks (length done) (λ place. kept held (shown_at done (first + place)))
+      → TellsCounts marks (length (done ++ s ∷ [])) (λ place. kept held (shown_at (done ++ s ∷ []) (first + place)))
   shared_left marks long own tells = tells_more marks (length done) (length (done ++ s ∷ [])) _ _ (omega (arith, longer))
       (λ place within. let more = shared_told false own place (omega (arith, within, long)) in omega (arith, more)) tells
 

@@ -12,12 +12,12 @@ use Rattle.delta_server.specs.declared.hashes.Hashes.{Hashes}
 
 -- ---- maps whose keys are strings of bytes
 
-abbrev pub found_in : {X : Type 0} → List (List ℕ × X) → List ℕ → Option X
-found_in entries key = lookup (bytes_eq key) entries
+abbrev pub value_at_key : {X : Type 0} → List (List ℕ × X) → List ℕ → Option X
+value_at_key entries key = lookup (bytes_eq key) entries
 
 -- what a map becomes where the value of a key is put or taken out
 abbrev pub Puts : {X : Type 0} → List (List ℕ × X) → List (List ℕ × X) → List ℕ → Option X → Type 0
-Puts before after key value = (other : List ℕ) → found_in after other ≡ (if bytes_eq key other then value else found_in before other)
+Puts before after key value = (other : List ℕ) → value_at_key after other ≡ (if bytes_eq key other then value else value_at_key before other)
 
 -- ---- the full hashes that have a prefix
 
@@ -29,9 +29,9 @@ abbrev pub holders_of : List ℕ → List Added → ℕ
 holders_of prefix entries = length (filter (has_prefix prefix) entries)
 
 -- none is not counted
-abbrev pub counted : ℕ → Option ℕ
-counted zero = None
-counted (suc count) = Some (suc count)
+abbrev pub count_if_any : ℕ → Option ℕ
+count_if_any zero = None
+count_if_any (suc count) = Some (suc count)
 
 -- one more full hash has the prefix
 pub record Gains (fewer more : List Added) (prefix : List ℕ) : Type 0 where
@@ -39,24 +39,24 @@ pub record Gains (fewer more : List Added) (prefix : List ℕ) : Type 0 where
 
 -- the prefixes of these full hashes are counted, and those that an older set has too
 pub record Counts (now : Holders) (entries : List Added) : Type 0 where
-  pub holders : (prefix : List ℕ) → found_in now.counts.entries prefix ≡ counted (holders_of prefix entries)
+  pub holders : (prefix : List ℕ) → value_at_key now.counts.entries prefix ≡ count_if_any (holders_of prefix entries)
   pub members : length now.counts.entries ≡ length (published entries)
   pub stay : now.shared ≡ length (filter (has_member (published entries)) now.held.now)
   pub known : now.shared ≡ length (filter (has_member now.held.now) (published entries))
 
 -- ---- the prefix of a full hash
 
-abbrev pub prefix_at : List ℕ → List Added → Option (List ℕ)
-prefix_at hash [] = None
-prefix_at hash (entry ∷ entries) = if bytes_eq entry.hash hash then Some (prefix_of entry) else prefix_at hash entries
+abbrev pub prefix_of_hash : List ℕ → List Added → Option (List ℕ)
+prefix_of_hash hash [] = None
+prefix_of_hash hash (entry ∷ entries) = if bytes_eq entry.hash hash then Some (prefix_of entry) else prefix_of_hash hash entries
 
 -- no two entries have one hash
-abbrev pub AreApart : List Added → Type 0
-AreApart [] = Unit {0}
-AreApart (entry ∷ entries) = AllByRecursion (λ other. bytes_eq other.hash entry.hash ≡ false) entries × AreApart entries
+abbrev pub HaveHashesApart : List Added → Type 0
+HaveHashesApart [] = Unit {0}
+HaveHashesApart (entry ∷ entries) = AllByRecursion (λ other. bytes_eq other.hash entry.hash ≡ false) entries × HaveHashesApart entries
 
 -- these full hashes are known with their prefixes
 pub record Knows (now : Hashes) (entries : List Added) : Type 0 where
-  pub apart : AreApart entries
-  pub prefixes : (hash : List ℕ) → found_in now.prefixes.entries hash ≡ prefix_at hash entries
+  pub apart : HaveHashesApart entries
+  pub prefixes : (hash : List ℕ) → value_at_key now.prefixes.entries hash ≡ prefix_of_hash hash entries
   pub count : length now.prefixes.entries ≡ length entries

@@ -14,12 +14,12 @@ use Rattle.hash_messages.specs.Matches.{asks_list, matches_in}
 use Rattle.hash_messages.specs.declared.response.Match.{Match}
 
 -- the name of three types
-abbrev pub name_of_types : ThreatType → PlatformType → EntryType → ListName
-name_of_types t p e = record { threat = t; platform = p; entry = e }
+abbrev pub name_of_three_types : ThreatType → PlatformType → EntryType → ListName
+name_of_three_types t p e = record { threat = t; platform = p; entry = e }
 
 -- the names of a threat type, rising by the two other codes
 abbrev pub names_of_threat : ThreatType → List ListName
-names_of_threat t = flat_map (λ p. map (name_of_types t p) entries) platforms
+names_of_threat t = flat_map (λ p. map (name_of_three_types t p) entries) platforms
 
 -- the newest full hashes of a list that begin with a prefix, rising
 abbrev pub hashes_begun : History → ListName → List ℕ → List (List ℕ)
@@ -27,8 +27,8 @@ hashes_begun history list prefix =
     set_of (filter (λ hash. bytes_eq (take (length prefix) hash) prefix) (full_hashes_at history list (version_count history)))
 
 -- the match of a full hash of a list, to be kept for so many nanoseconds
-abbrev pub match_of : ListName → ℕ → List ℕ → Match
-match_of list cache hash = record { name = list; hash = record { bytes = hash }; cache = cache }
+abbrev pub match_of_hash : ListName → ℕ → List ℕ → Match
+match_of_hash list cache hash = record { name = list; hash = record { bytes = hash }; cache = cache }
 
 -- the matches of some lists: of those that are declared and asked, in the order in which they stand
 abbrev pub matches_among : History → ℕ → AskedHashes → List ListName → List Match

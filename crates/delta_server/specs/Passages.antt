@@ -4,7 +4,7 @@ use Rattle.sb_model.specs.Difference.{removed_places, added_members}
 use Rattle.sb_model.specs.Prefixes.{concatenation}
 use Rattle.list_versions.specs.declared.stretch.Stretch.{Stretch}
 use Rattle.delta_server.specs.declared.passages.Passage.{Passage}
-use Rattle.delta_server.specs.Sweeping.{shown_at, HaveHeads}
+use Rattle.delta_server.specs.Sweeping.{shown_at, NameFourBytes}
 
 -- Stretches of one prefix stand behind those of lower prefixes and in front of those of higher ones.
 pub record StandsBetween (done run later : List Stretch) (head : ℕ) : Type 0 where
@@ -12,7 +12,7 @@ pub record StandsBetween (done run later : List Stretch) (head : ℕ) : Type 0 w
   pub before : All (λ stretch. stretch.head < head) done
   pub after : All (λ stretch. head < stretch.head) later
   pub fits : head < 2 ^ 32
-  pub heads : HaveHeads later
+  pub heads : NameFourBytes later
 
 -- It was noted of a prefix whether an older version has it, and whether a newer one does.
 pub record Passes (before after : Passage) (prefix : List ℕ) (stood stays : Bool) : Type 0 where

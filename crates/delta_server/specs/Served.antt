@@ -11,7 +11,7 @@ use Rattle.update_messages.specs.Answer.{declared_size}
 use Rattle.delta_server.specs.declared.served.Served.{Served}
 
 -- its declared size, and its newest prefixes with their digest and their numbers
-pub record IsServed (served : Served) (versions : History) (list : ListName) : Type 0 where
+pub record IsServedList (served : Served) (versions : History) (list : ListName) : Type 0 where
   pub declared : declares versions list ≡ true
   pub size : served.size ≡ declared_size versions list
   pub set : served.set.now ≡ prefixes_at versions list (version_count versions)

@@ -20,12 +20,12 @@ abbrev pub shown_at : List Stretch → ℕ → List (List ℕ)
 shown_at stretches version = set_of (map prefix_in (filter (has_version version) stretches))
 
 -- whether one of the stretches of a prefix has a version
-abbrev pub is_shown : List Stretch → ℕ → ℕ → Bool
-is_shown stretches head version = list_any (λ stretch. stretch.head == head && has_version version stretch) stretches
+abbrev pub is_head_shown : List Stretch → ℕ → ℕ → Bool
+is_head_shown stretches head version = list_any (λ stretch. stretch.head == head && has_version version stretch) stretches
 
 -- whether a stretch has a version, and none of its prefix that came before it has
 abbrev pub shows_first : List Stretch → Stretch → ℕ → Bool
-shows_first earlier stretch version = has_version version stretch && not (is_shown earlier stretch.head version)
+shows_first earlier stretch version = has_version version stretch && not (is_head_shown earlier stretch.head version)
 
 -- ---- what is covered
 
@@ -36,13 +36,13 @@ pub record Covers (now : Covered) (first end : ℕ) (done : List Stretch) : Type
   pub high : now.reach ≤ end
   pub greatest : (head : ℕ) → All (λ stretch. stretch.head ≤ head) done ↔ (now.head ≤ head)
   pub covered : (version : ℕ) → first ≤ version → version < end → All (λ stretch. stretch.head ≡ now.head → stretch.from ≤ version) done
-      → is_shown done now.head version ≡ nat_lt version now.reach
-  pub held : now.held ≡ is_shown done now.head first
+      → is_head_shown done now.head version ≡ nat_lt version now.reach
+  pub held : now.held ≡ is_head_shown done now.head first
 
 -- this is covered of the prefix of a stretch that comes next
 pub record StandsBefore (now : Covered) (first end : ℕ) (done : List Stretch) (stretch : Stretch) : Type 0 where
-  pub covered : (version : ℕ) → first ≤ version → version < end → stretch.from ≤ version → is_shown done stretch.head version ≡ nat_lt version now.reach
-  pub held : now.held ≡ is_shown done stretch.head first
+  pub covered : (version : ℕ) → first ≤ version → version < end → stretch.from ≤ version → is_head_shown done stretch.head version ≡ nat_lt version now.reach
+  pub held : now.held ≡ is_head_shown done stretch.head first
 
 -- ---- marks
 
@@ -52,7 +52,7 @@ pub record HasPlaces (marks : Marks) (places : ℕ) : Type 0 where
 
 -- Up to each place but the last, as many stretches begin as stop, and beside these as many as have the place. At no place
 -- do more than so many begin or stop.
-pub record Tells (marks : Marks) (most : ℕ) (count : ℕ → ℕ) : Type 0 where
+pub record TellsCounts (marks : Marks) (most : ℕ) (count : ℕ → ℕ) : Type 0 where
   pub sums : (place : ℕ) → place + 1 < length marks.begins.items
       → sum (take (place + 1) marks.begins.items) ≡ sum (take (place + 1) marks.stops.items) + count place
   pub begins : (place : ℕ) → slice_index marks.begins.items place ≤ most
@@ -61,7 +61,7 @@ pub record Tells (marks : Marks) (most : ℕ) (count : ℕ → ℕ) : Type 0 whe
 -- ---- a sweep
 
 -- There are places for the versions from a first one to an end, and for the end, and no more is covered.
-pub record HasRoom (sweep : Sweep) (first end : ℕ) : Type 0 where
+pub record HasPlacesBetween (sweep : Sweep) (first end : ℕ) : Type 0 where
   pub all : HasPlaces sweep.all (end - first + 1)
   pub shared : HasPlaces sweep.shared (end - first + 1)
   pub low : first ≤ sweep.covered.reach
@@ -71,8 +71,8 @@ pub record HasRoom (sweep : Sweep) (first end : ℕ) : Type 0 where
 -- those of them that are held.
 pub record HasSwept (sweep : Sweep) (first end : ℕ) (held : List (List ℕ)) (done : List Stretch) : Type 0 where
   pub covered : Covers sweep.covered first end done
-  pub all : Tells sweep.all (length done) (λ place. length (shown_at done (first + place)))
-  pub shared : Tells sweep.shared (length done) (λ place. length (filter (has_member held) (shown_at done (first + place))))
+  pub all : TellsCounts sweep.all (length done) (λ place. length (shown_at done (first + place)))
+  pub shared : TellsCounts sweep.shared (length done) (λ place. length (filter (has_member held) (shown_at done (first + place))))
 
 -- So many of the prefixes and of the shared ones were counted before a place.
 pub record IsLevel (level : Level) (sweep : Sweep) (place : ℕ) : Type 0 where
@@ -85,5 +85,5 @@ pub record IsLevelOf (level : Level) (held shown : List (List ℕ)) : Type 0 whe
   pub shared : level.shared ≡ length (filter (has_member held) shown)
 
 -- each names a prefix of four bytes
-abbrev pub HaveHeads : List Stretch → Type 0
-HaveHeads stretches = All (λ stretch. stretch.head < 2 ^ 32) stretches
+abbrev pub NameFourBytes : List Stretch → Type 0
+NameFourBytes stretches = All (λ stretch. stretch.head < 2 ^ 32) stretches

@@ -40,5 +40,5 @@ abbrev pub HaveSame : List Added → List Added → Type 0
 HaveSame first second = (entry : Added) → Contains first entry ↔ Contains second entry
 
 -- how many hash lines a change of a list has
-abbrev pub lines_in : ListName → Change → ℕ
-lines_in list change = if same_name change.list list then length change.adds + length change.removes else 0
+abbrev pub hash_lines_in : ListName → Change → ℕ
+hash_lines_in list change = if same_name change.list list then length change.adds + length change.removes else 0

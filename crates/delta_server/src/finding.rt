@@ -3,7 +3,7 @@ ghost use Rattle.std.specs.List.{flat_map};
 ghost use Rattle.sb_model.specs.History.{declares};
 ghost use Rattle.sb_model.specs.Prefixes.{set_of};
 ghost use Rattle.hash_messages.specs.Matches.{asks_list, hashes_asked, matches_of, find_answer};
-ghost use Rattle.delta_server.specs.Finding.{hashes_begun, match_of, matches_among};
+ghost use Rattle.delta_server.specs.Finding.{hashes_begun, match_of_hash, matches_among};
 
 use crate::answering::{Settings, is_declared};
 use crate::asked::has_types;
@@ -93,7 +93,7 @@ fn push_matches(
     hashes: &[[u8; 32]],
     cache: Duration,
 ) -> Result<(), OutOfMemory>
-    ensures { OnOk result (matches.new ≡ matches.old ++ map (match_of name cache) hashes.now) }
+    ensures { OnOk result (matches.new ≡ matches.old ++ map (match_of_hash name cache) hashes.now) }
 {
     for bytes in hashes {
         let hash = FullHash { bytes: *bytes };

@@ -1,7 +1,7 @@
 ghost use Rattle.std.specs.Prelude.{◌≡◌, ◌<◌, ◌^◌, List, [], length, IfOk, OnOk};
 ghost use Rattle.sb_model.specs.declared.history.Added.{Added as Entry};
 ghost use Rattle.sb_model.specs.History.{prefix_of, without_hash, with_added};
-ghost use Rattle.delta_server.specs.Counts.{prefix_at, Knows};
+ghost use Rattle.delta_server.specs.Counts.{prefix_of_hash, Knows};
 
 use hash_prefixes::{HashKey, Prefix};
 use sb_model::OutOfMemory;
@@ -27,7 +27,7 @@ impl Hashes {
     // Takes a full hash out, and gives its prefix where it was there.
     pub(crate) fn take(&mut self, hash: &[u8; 32]) -> Option<Prefix>
         ensures prefix { (entries : List Entry) → Knows self.old entries
-            → result ≡ prefix_at hash.now entries }
+            → result ≡ prefix_of_hash hash.now entries }
         ensures knows { (entries : List Entry) → Knows self.old entries
             → Knows self.new (without_hash entries hash.now) }
     {
@@ -42,7 +42,7 @@ impl Hashes {
         prefix: Prefix,
     ) -> Result<Option<Prefix>, OutOfMemory>
         ensures prefix { IfOk result (λ gone. (entries : List Entry) → Knows self.old entries
-            → gone ≡ prefix_at hash entries) }
+            → gone ≡ prefix_of_hash hash entries) }
         ensures knows { OnOk result ((entries : List Entry) (added : Entry) → added.hash ≡ hash
             → prefix_of added ≡ prefix → Knows self.old entries
             → Knows self.new (with_added entries added)) }

@@ -3,7 +3,7 @@ ghost use Rattle.std.specs.Option.{unwrap_or};
 ghost use Rattle.sb_model.specs.declared.history.Added.{Added as Entry};
 ghost use Rattle.sb_model.specs.Difference.{difference_count};
 ghost use Rattle.sb_model.specs.History.{without_hash};
-ghost use Rattle.delta_server.specs.Counts.{found_in, Puts, counted, Gains, Counts, AreApart, prefix_at};
+ghost use Rattle.delta_server.specs.Counts.{value_at_key, Puts, count_if_any, Gains, Counts, HaveHashesApart, prefix_of_hash};
 ghost use Rattle.delta_server.specs.Walk.{published};
 
 use hash_prefixes::Prefix;
@@ -19,11 +19,11 @@ pub(crate) type HolderCounts = HashMap<Prefix, u64>;
 // Counts one more of a prefix, and gives the count before.
 fn add_holder(counts: &mut HolderCounts, prefix: Prefix) -> Result<u64, OutOfMemory>
     ensures before { IfOk result
-        (λ count. count ≡ unwrap_or (found_in counts.old.entries prefix) 0) }
+        (λ count. count ≡ unwrap_or (value_at_key counts.old.entries prefix) 0) }
     ensures puts { IfOk result (λ count. Puts counts.old.entries counts.new.entries prefix
         (Some (min (count + 1) (2 ^ 64 - 1)))) }
     ensures len { OnOk result (length counts.new.entries ≡ length counts.old.entries
-        + (if is_some (found_in counts.old.entries prefix) then 0 else 1)) }
+        + (if is_some (value_at_key counts.old.entries prefix) then 0 else 1)) }
 {
     let count = counts.entry(prefix)?.or_insert(0);
     let before = *count;
@@ -34,12 +34,12 @@ fn add_holder(counts: &mut HolderCounts, prefix: Prefix) -> Result<u64, OutOfMem
 // Counts one less of a prefix, and gives the count that is left.
 fn remove_holder(counts: &mut HolderCounts, prefix: Prefix) -> Result<u64, OutOfMemory>
     ensures left { IfOk result
-        (λ left. left ≡ unwrap_or (found_in counts.old.entries prefix) 0 - 1) }
+        (λ left. left ≡ unwrap_or (value_at_key counts.old.entries prefix) 0 - 1) }
     ensures puts { IfOk result
-        (λ left. Puts counts.old.entries counts.new.entries prefix (counted left)) }
+        (λ left. Puts counts.old.entries counts.new.entries prefix (count_if_any left)) }
     ensures len { IfOk result (λ left.
-        length counts.new.entries + (if is_some (found_in counts.old.entries prefix) then 1 else 0)
-        ≡ length counts.old.entries + (if is_some (counted left) then 1 else 0)) }
+        length counts.new.entries + (if is_some (value_at_key counts.old.entries prefix) then 1 else 0)
+        ≡ length counts.old.entries + (if is_some (count_if_any left) then 1 else 0)) }
 {
     let left = counts.remove(&prefix).unwrap_or(0).saturating_sub(1);
     if left > 0 {
@@ -123,8 +123,8 @@ impl<'a> Holders<'a> {
 
     // A full hash went, where it had a prefix.
     pub(crate) fn leave_if(&mut self, gone: Option<Prefix>) -> Result<(), OutOfMemory>
-        ensures ok { OnOk result ((entries : List Entry) (hash : List ℕ) → AreApart entries
-            → gone ≡ prefix_at hash entries → Counts self.old entries
+        ensures ok { OnOk result ((entries : List Entry) (hash : List ℕ) → HaveHashesApart entries
+            → gone ≡ prefix_of_hash hash entries → Counts self.old entries
             → Counts self.new (without_hash entries hash)) }
         ensures held { self.new.held.now ≡ self.old.held.now }
     {

@@ -4,7 +4,7 @@ ghost use Rattle.sb_model.specs.Prefixes.{concatenation};
 ghost use Rattle.sb_model.specs.History.{declares, prefixes_at, version_count};
 ghost use Rattle.sb_model.specs.Target.{target_version};
 ghost use Rattle.update_messages.specs.Answer.{declared_items, version_named, update_to, update_for};
-ghost use Rattle.delta_server.specs.Served.{IsServed, LeadsTo, LeadsToNewest};
+ghost use Rattle.delta_server.specs.Served.{IsServedList, LeadsTo, LeadsToNewest};
 ghost use Rattle.delta_server.specs.Swept.{AreOf};
 ghost use Rattle.delta_server.specs.Tokens.{server_naming, server_token};
 
@@ -41,7 +41,7 @@ fn newest_whole(
     served: &Served<'_>,
     asked: &ListRequest,
 ) -> Result<ListUpdate, OutOfMemory>
-    requires { IsServed served.now history.now.versions asked.now.name }
+    requires { IsServedList served.now history.now.versions asked.now.name }
     ensures { IfOk result (λ update. update ≡ update_to history.now.versions (server_naming history.now.versions) asked.now None
         (version_count history.now.versions)) }
 {
@@ -82,7 +82,7 @@ fn whole_answer(
     served: &Served<'_>,
     asked: &ListRequest,
 ) -> Result<ListUpdate, OutOfMemory>
-    requires served { IsServed served.now history.now.versions asked.now.name }
+    requires served { IsServedList served.now history.now.versions asked.now.name }
     requires swept { AreOf history.now.versions swept.old }
     ensures update { IfOk result (λ update. update ≡ update_to history.now.versions (server_naming history.now.versions) asked.now None
         (target_version history.now.versions asked.now.name None asked.now.max_update asked.now.max_database)) }
@@ -111,7 +111,7 @@ fn led_answer(
     delta: Delta,
     digest: [u8; 32],
 ) -> Result<ListUpdate, OutOfMemory>
-    requires served { IsServed served.now history.now.versions asked.now.name }
+    requires served { IsServedList served.now history.now.versions asked.now.name }
     requires within { held ≤ version_count history.now.versions }
     requires version { version ≤ version_count history.now.versions }
     requires delta { LeadsTo history.now.versions asked.now.name held version delta }
@@ -134,7 +134,7 @@ fn newest_answer(
     held: u64,
     delta: Delta,
 ) -> Result<ListUpdate, OutOfMemory>
-    requires served { IsServed served.now history.now.versions asked.now.name }
+    requires served { IsServedList served.now history.now.versions asked.now.name }
     requires within { held ≤ version_count history.now.versions }
     requires delta { LeadsToNewest history.now.versions asked.now.name held delta }
     ensures { IfOk result (λ update. update ≡ update_to history.now.versions (server_naming history.now.versions) asked.now (Some held)
@@ -155,7 +155,7 @@ fn later_answer(
     held: u64,
     version: u64,
 ) -> Result<ListUpdate, OutOfMemory>
-    requires served { IsServed served.now history.now.versions asked.now.name }
+    requires served { IsServedList served.now history.now.versions asked.now.name }
     requires within { held ≤ version_count history.now.versions }
     requires version { version ≤ version_count history.now.versions }
     ensures { IfOk result (λ update. update ≡ update_to history.now.versions (server_naming history.now.versions) asked.now (Some held) version) }
@@ -205,7 +205,7 @@ fn older_answer(
     held: u64,
     version: u64,
 ) -> Result<ListUpdate, OutOfMemory>
-    requires served { IsServed served.now history.now.versions asked.now.name }
+    requires served { IsServedList served.now history.now.versions asked.now.name }
     requires within { held ≤ version_count history.now.versions }
     requires version { version ≤ version_count history.now.versions }
     requires swept { AreOf history.now.versions swept.now }
@@ -236,7 +236,7 @@ fn swept_answer(
     asked: &ListRequest,
     held: u64,
 ) -> Result<ListUpdate, OutOfMemory>
-    requires served { IsServed served.now history.now.versions asked.now.name }
+    requires served { IsServedList served.now history.now.versions asked.now.name }
     requires within { held ≤ version_count history.now.versions }
     requires swept { AreOf history.now.versions swept.old }
     ensures update { IfOk result (λ update. update ≡ update_to history.now.versions (server_naming history.now.versions) asked.now (Some held)
@@ -257,7 +257,7 @@ fn partial_answer(
     asked: &ListRequest,
     held: u64,
 ) -> Result<ListUpdate, OutOfMemory>
-    requires served { IsServed served.now history.now.versions asked.now.name }
+    requires served { IsServedList served.now history.now.versions asked.now.name }
     requires within { held ≤ version_count history.now.versions }
     requires swept { AreOf history.now.versions swept.old }
     ensures update { IfOk result (λ update. update ≡ update_to history.now.versions (server_naming history.now.versions) asked.now (Some held)

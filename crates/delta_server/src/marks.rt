@@ -1,5 +1,5 @@
 ghost use Rattle.std.specs.Prelude.{◌≡◌, ℕ, ◌+◌, ◌-◌, ◌^◌, ◌<◌, ◌≤◌, ◌&&◌, nat_le, nat_lt, if◌then◌else◌, length, take, slice_index, sum, IfOk};
-ghost use Rattle.delta_server.specs.Sweeping.{Tells, HasPlaces};
+ghost use Rattle.delta_server.specs.Sweeping.{TellsCounts, HasPlaces};
 
 use sb_model::OutOfMemory;
 use std::alloc::Global;
@@ -26,7 +26,7 @@ impl Marks {
     /// No marks, for so many places.
     pub(crate) fn new(alloc: Global, places: usize) -> Result<Marks, OutOfMemory>
         ensures places { IfOk result (λ marks. HasPlaces marks places) }
-        ensures tells { IfOk result (λ marks. Tells marks 0 (λ place. 0)) }
+        ensures tells { IfOk result (λ marks. TellsCounts marks 0 (λ place. 0)) }
     {
         let begins = vec![in alloc; 0; places]?;
         let stops = vec![in alloc; 0; places]?;
@@ -39,8 +39,8 @@ impl Marks {
         requires within { stop < length self.old.begins.items }
         requires same { length self.old.stops.items ≡ length self.old.begins.items }
         ensures places { (places : ℕ) → HasPlaces self.old places → HasPlaces self.new places }
-        ensures tells { (most : ℕ) (count : ℕ → ℕ) → most < 2 ^ 63 → Tells self.old most count
-            → Tells self.new (most + 1) (λ place. count place + (if nat_le begin place && nat_lt place stop then 1 else 0)) }
+        ensures tells { (most : ℕ) (count : ℕ → ℕ) → most < 2 ^ 63 → TellsCounts self.old most count
+            → TellsCounts self.new (most + 1) (λ place. count place + (if nat_le begin place && nat_lt place stop then 1 else 0)) }
     {
         raise(&mut self.begins, begin);
         raise(&mut self.stops, stop);
@@ -51,7 +51,7 @@ impl Marks {
         requires within { place < length self.now.begins.items }
         requires same { length self.now.stops.items ≡ length self.now.begins.items }
         ensures { (most : ℕ) (count : ℕ → ℕ) → most < 2 ^ 63 → count place < 2 ^ 63 → place + 1 < length self.now.begins.items
-            → Tells self.now most count → before + sum (take place self.now.stops.items) ≡ sum (take place self.now.begins.items)
+            → TellsCounts self.now most count → before + sum (take place self.now.stops.items) ≡ sum (take place self.now.begins.items)
             → result ≡ count place }
     {
         before

@@ -2,7 +2,7 @@ ghost use Rattle.std.specs.Prelude.{◌≡◌, ◌++◌, map, filter, OnOk, IfOk
 ghost use Rattle.sb_model.specs.History.{declares};
 ghost use Rattle.sb_model.specs.Names.{entries};
 ghost use Rattle.hash_messages.specs.Matches.{all_names};
-ghost use Rattle.delta_server.specs.Finding.{name_of_types, names_of_threat};
+ghost use Rattle.delta_server.specs.Finding.{name_of_three_types, names_of_threat};
 
 use crate::answering::is_declared;
 use list_versions::History;
@@ -15,7 +15,7 @@ fn push_entries(
     threat: ThreatType,
     platform: PlatformType,
 ) -> Result<(), OutOfMemory>
-    ensures { OnOk result (names.new ≡ names.old ++ map (name_of_types threat platform) entries) }
+    ensures { OnOk result (names.new ≡ names.old ++ map (name_of_three_types threat platform) entries) }
 {
     for entry in &EntryType::ALL {
         names.push(ListName {

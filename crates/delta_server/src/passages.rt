@@ -9,7 +9,7 @@ ghost use Rattle.list_versions.specs.declared.stretch.Stretch.{Stretch as Span};
 ghost use Rattle.list_versions.specs.Stretches.{AreInOrder};
 ghost use Rattle.delta_server.specs.Passages.{HasPassed, Passes, StandsBetween};
 ghost use Rattle.delta_server.specs.Served.{LeadsTo, LeadsToNewest};
-ghost use Rattle.delta_server.specs.Sweeping.{HaveHeads, has_version, shown_at};
+ghost use Rattle.delta_server.specs.Sweeping.{NameFourBytes, has_version, shown_at};
 ghost use Rattle.delta_server.specs.Swept.{AreOf};
 
 use crate::swept::Swept;
@@ -160,7 +160,7 @@ pub(crate) fn passage_between(
     version: u32,
 ) -> Result<Passage, OutOfMemory>
     requires order { AreInOrder stretches.now }
-    requires heads { HaveHeads stretches.now }
+    requires heads { NameFourBytes stretches.now }
     requires few { length (shown_at stretches.now held) < 2 ^ 32 }
     ensures removals { IfOk result (λ passage. passage.removals
         ≡ removed_places (shown_at stretches.now held) (shown_at stretches.now version)) }
@@ -193,7 +193,7 @@ fn lead_between(
     version: u32,
 ) -> Result<Lead, OutOfMemory>
     requires order { AreInOrder stretches.now }
-    requires heads { HaveHeads stretches.now }
+    requires heads { NameFourBytes stretches.now }
     requires few { length (shown_at stretches.now held) < 2 ^ 32 }
     ensures removals { IfOk result (λ lead. lead.delta.removals
         ≡ removed_places (shown_at stretches.now held) (shown_at stretches.now version)) }

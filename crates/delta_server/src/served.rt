@@ -1,6 +1,6 @@
 ghost use Rattle.std.specs.Prelude.{◌≡◌, ◌≤◌, true, false, IfOk, IfSome, IfNone};
 ghost use Rattle.sb_model.specs.History.{declares, version_count, prefixes_at};
-ghost use Rattle.delta_server.specs.Served.{IsServed};
+ghost use Rattle.delta_server.specs.Served.{IsServedList};
 
 use list_versions::History;
 use prefix_set::PrefixSet;
@@ -19,7 +19,7 @@ pub(crate) struct Served<'a> {
 
 /// A list of a history; `None` exactly where the history does not declare it.
 pub(crate) fn served_list(history: &History, list: ListName) -> Option<Served<'_>>
-    ensures served { IfSome result (λ served. IsServed served history.now.versions list) }
+    ensures served { IfSome result (λ served. IsServedList served history.now.versions list) }
     ensures none { IfNone result (declares history.now.versions list ≡ false) }
 {
     let Some(size) = history.declared(list) else {

@@ -3,7 +3,7 @@ ghost use Rattle.sb_model.specs.Difference.{has_member};
 ghost use Rattle.sb_model.specs.Target.{greatest_up_to};
 ghost use Rattle.list_versions.specs.declared.stretch.Stretch.{Stretch as Span};
 ghost use Rattle.list_versions.specs.Stretches.{AreInOrder};
-ghost use Rattle.delta_server.specs.Sweeping.{HasRoom, HasSwept, HaveHeads, IsLevel, IsLevelOf, shown_at};
+ghost use Rattle.delta_server.specs.Sweeping.{HasPlacesBetween, HasSwept, NameFourBytes, IsLevel, IsLevelOf, shown_at};
 ghost use Rattle.delta_server.specs.Walk.{may_take};
 
 use crate::covered::Covered;
@@ -27,7 +27,7 @@ impl Sweep {
     // No stretch, with places for the versions from a first one to an end.
     fn new(alloc: Global, first: u32, end: u32) -> Result<Sweep, OutOfMemory>
         requires { first ≤ end }
-        ensures room { IfOk result (λ sweep. HasRoom sweep first end) }
+        ensures room { IfOk result (λ sweep. HasPlacesBetween sweep first end) }
         ensures swept { IfOk result (λ sweep. (held : List (List ℕ)) → HasSwept sweep first end held []) }
     {
         let places = (end - first) as usize + 1;
@@ -40,11 +40,11 @@ impl Sweep {
 
     // Takes the next stretch in.
     fn take(&mut self, stretch: &Stretch, first: u32, end: u32)
-        requires room { HasRoom self.old first end }
+        requires room { HasPlacesBetween self.old first end }
         requires from { stretch.now.from ≤ end }
-        ensures room { HasRoom self.new first end }
+        ensures room { HasPlacesBetween self.new first end }
         ensures swept { (done rest : List Span) → first < end → length done < 2 ^ 63
-            → AreInOrder (done ++ stretch.now ∷ rest) → HaveHeads (done ++ stretch.now ∷ rest)
+            → AreInOrder (done ++ stretch.now ∷ rest) → NameFourBytes (done ++ stretch.now ∷ rest)
             → HasSwept self.old first end (shown_at (done ++ stretch.now ∷ rest) first) done
             → HasSwept self.new first end (shown_at (done ++ stretch.now ∷ rest) first) (done ++ stretch.now ∷ []) }
     {
@@ -69,9 +69,9 @@ pub(crate) fn sweep_of(
 ) -> Result<Sweep, OutOfMemory>
     requires some { first < end }
     requires order { AreInOrder stretches.now }
-    requires heads { HaveHeads stretches.now }
+    requires heads { NameFourBytes stretches.now }
     requires from { All (λ stretch. stretch.from ≤ end) stretches.now }
-    ensures room { IfOk result (λ sweep. HasRoom sweep first end) }
+    ensures room { IfOk result (λ sweep. HasPlacesBetween sweep first end) }
     ensures swept { IfOk result (λ sweep. HasSwept sweep first end (shown_at stretches.now first) stretches.now) }
 {
     let mut sweep = Sweep::new(alloc, first, end)?;
@@ -92,7 +92,7 @@ pub(crate) struct Level {
 impl Level {
     // Goes on to the version at a place, from the one before it.
     fn next(self, sweep: &Sweep, place: usize, first: u32, end: u32) -> Level
-        requires room { HasRoom sweep.now first end }
+        requires room { HasPlacesBetween sweep.now first end }
         requires within { place < end - first }
         ensures stands { (held : List (List ℕ)) (stretches : List Span) → HasSwept sweep.now first end held stretches
             → length stretches < 2 ^ 63 → IsLevel self sweep.now place → IsLevel result sweep.now (place + 1) }
@@ -130,7 +130,7 @@ impl Level {
 // The greatest of the places that the holder of the first version may be brought to, 0 if there is
 // none, where the first version is.
 fn greatest_place(sweep: &Sweep, first: u32, end: u32, max_update: u32, max_database: u32) -> u64
-    requires room { HasRoom sweep.now first end }
+    requires room { HasPlacesBetween sweep.now first end }
     requires some { first < end }
     ensures { (stretches : List Span) → length stretches < 2 ^ 63 → HasSwept sweep.now first end (shown_at stretches first) stretches
         → result ≡ greatest_up_to (λ place. may_take (shown_at stretches first) max_update max_database (shown_at stretches (first + place))) (end - first - 1) }
@@ -161,7 +161,7 @@ pub(crate) fn versions_taken(
 ) -> Result<u64, OutOfMemory>
     requires some { first < end }
     requires order { AreInOrder stretches.now }
-    requires heads { HaveHeads stretches.now }
+    requires heads { NameFourBytes stretches.now }
     requires from { All (λ stretch. stretch.from ≤ end) stretches.now }
     ensures { IfOk result (λ taken. taken ≡ greatest_up_to
         (λ place. may_take (shown_at stretches.now first) max_update max_database (shown_at stretches.now (first + place))) (end - first - 1)) }

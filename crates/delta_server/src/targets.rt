@@ -4,10 +4,10 @@ ghost use Rattle.sb_model.specs.declared.names.ListName.{ListName as Name};
 ghost use Rattle.sb_model.specs.History.{History as Versions, declares, version_count, sizes_at, prefixes_at};
 ghost use Rattle.sb_model.specs.Target.{target_version};
 ghost use Rattle.list_versions.specs.Stretches.{AreStretches};
-ghost use Rattle.delta_server.specs.Counts.{AreApart};
+ghost use Rattle.delta_server.specs.Counts.{HaveHashesApart};
 ghost use Rattle.delta_server.specs.Served.{LeadsToNewest};
 ghost use Rattle.delta_server.specs.Swept.{AreOf};
-ghost use Rattle.delta_server.specs.Walk.{HaveSame, lines_in};
+ghost use Rattle.delta_server.specs.Walk.{HaveSame, hash_lines_in};
 
 use crate::served::{served_list, set_at};
 use crate::sweeping::versions_taken;
@@ -33,7 +33,7 @@ pub(crate) struct Limits {
 
 // How many hash lines the changes of a list have, at most the greatest u64.
 fn lines_of(list: ListName, changes: &[Change]) -> u64
-    ensures { result ≡ min (sum_by (lines_in list) changes.now) (2 ^ 64 - 1) }
+    ensures { result ≡ min (sum_by (hash_lines_in list) changes.now) (2 ^ 64 - 1) }
 {
     let mut lines: u64 = 0;
     for change in changes {
@@ -51,7 +51,7 @@ fn lines_of(list: ListName, changes: &[Change]) -> u64
 fn is_told_by_lines(history: &History, list: ListName, held: u64, max_update: u32) -> bool
     requires { held ≤ version_count history.now.versions }
     ensures { result ≡ (max_update == 0
-        || nat_le (min (sum_by (lines_in list) (drop held history.now.versions.changes)) (2 ^ 64 - 1)) (max max_update FEW_LINES)) }
+        || nat_le (min (sum_by (hash_lines_in list) (drop held history.now.versions.changes)) (2 ^ 64 - 1)) (max max_update FEW_LINES)) }
 {
     if max_update == 0 {
         return true;
@@ -101,7 +101,7 @@ fn entries_at(
 ) -> Result<Vec<Added>, OutOfMemory>
     requires { version ≤ version_count history.now.versions }
     ensures same { IfOk result (λ entries. HaveSame entries.items (sizes_at history.now.versions list version)) }
-    ensures apart { IfOk result (λ entries. AreApart entries.items) }
+    ensures apart { IfOk result (λ entries. HaveHashesApart entries.items) }
 {
     let folding = history.folding(alloc, list, version)?;
     folding.entries(alloc)

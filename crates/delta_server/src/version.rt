@@ -3,7 +3,7 @@ ghost use Rattle.sb_model.specs.declared.history.Added.{Added as Entry};
 ghost use Rattle.sb_model.specs.Names.{same_name};
 ghost use Rattle.sb_model.specs.Target.{is_within};
 ghost use Rattle.sb_model.specs.History.{IsPrefixSize, without_hash, with_added, after_change};
-ghost use Rattle.delta_server.specs.Counts.{AreApart};
+ghost use Rattle.delta_server.specs.Counts.{HaveHashesApart};
 ghost use Rattle.delta_server.specs.Version.{Stands};
 ghost use Rattle.delta_server.specs.Walk.{published, may_take};
 
@@ -105,7 +105,7 @@ impl<'a> Version<'a> {
         held: &'a PrefixSet,
         entries: &[Added],
     ) -> Result<Version<'a>, OutOfMemory>
-        requires apart { AreApart entries.now }
+        requires apart { HaveHashesApart entries.now }
         requires sizes { All (λ added. IsPrefixSize added.size) entries.now }
         ensures stands { IfOk result (λ version. Stands version entries.now) }
         ensures held { IfOk result (λ version. version.holders.held.now ≡ held.now) }

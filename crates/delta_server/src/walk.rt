@@ -4,7 +4,7 @@ ghost use Rattle.sb_model.specs.declared.history.Added.{Added as Entry};
 ghost use Rattle.sb_model.specs.declared.history.Change.{Change as Recorded};
 ghost use Rattle.sb_model.specs.History.{History, IsPrefixSize};
 ghost use Rattle.sb_model.specs.Target.{target_version};
-ghost use Rattle.delta_server.specs.Counts.{AreApart};
+ghost use Rattle.delta_server.specs.Counts.{HaveHashesApart};
 ghost use Rattle.delta_server.specs.Version.{Stands};
 ghost use Rattle.delta_server.specs.Walk.{HasSizes, HaveSame, entries_after, may_take, changes_taken, published};
 
@@ -66,7 +66,7 @@ pub fn changes_taken(
     max_update: u32,
     max_database: u32,
 ) -> Result<u64, OutOfMemory>
-    requires apart { AreApart entries.now }
+    requires apart { HaveHashesApart entries.now }
     requires sizes { All (λ added. IsPrefixSize added.size) entries.now }
     requires added { All HasSizes changes.now }
     ensures { IfOk result (λ taken. taken
@@ -91,7 +91,7 @@ pub fn target_of(
 ) -> Result<u64, OutOfMemory>
     requires within { IfSome from (λ version. version ≤ length changes.now) }
     requires held { held.now ≡ published entries.now }
-    requires apart { AreApart entries.now }
+    requires apart { HaveHashesApart entries.now }
     requires sizes { All (λ added. IsPrefixSize added.size) entries.now }
     requires same { HaveSame entries.now (entries_after list [] changes.now (unwrap_or from 0)) }
     requires added { All HasSizes changes.now }

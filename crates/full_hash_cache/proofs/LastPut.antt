@@ -13,8 +13,8 @@ use Rattle.sb_model.specs.Names.{threat_code, platform_code, entry_code, same_na
 use Rattle.hash_messages.specs.Messages.{AskedHashes}
 use Rattle.hash_messages.specs.declared.response.FindResponse.{FindResponse}
 use Rattle.full_hash_cache.specs.declared.pair.Pair.{Pair}
-use Rattle.full_hash_cache.specs.Cache.{Kept, Pairs, most_pairs, same_pair, kept_of, asked_pairs, with_pair, put_pair, put_pairs, pairs_asked, taken}
-use Rattle.full_hash_cache.specs.Law.{Step, after_steps, Puts, IsLastPut}
+use Rattle.full_hash_cache.specs.Cache.{KeptOfPair, Pairs, most_pairs, same_pair, kept_of_pair, asked_pairs, with_pair, put_pair, put_pairs, pairs_asked, taken}
+use Rattle.full_hash_cache.specs.Law.{Step, after_steps, PutsPair, IsLastPut}
 use Rattle.full_hash_cache.specs.Law.Step.{Takes, Asks}
 use Rattle.full_hash_cache.proofs.Told.{here, there, equal_pairs}
 use Rattle.full_hash_cache.proofs.Returned.{either_place, in_none, IsFrom, is_from}
@@ -93,74 +93,74 @@ pair_itself a = λ i. same_list a.list i && same_prefix a.prefix i
 
 -- ---- what is kept of a pair as others are put or asked for
 
-module _ (P : Kept → Type 0) (pair : Pair) where
+module _ (P : KeptOfPair → Type 0) (pair : Pair) where
   others_apart : (other : Pair) → same_pair pair other ≡ false → (k : Pair) → same_pair other k ≡ true → same_pair pair k ≡ false
   others_apart other apart k is = subst (λ k. same_pair pair k ≡ false) (equal_pairs other k is) apart
 
-  own_put : (pairs : Pairs) (kept : Kept) → P kept → IfSome (kept_of (with_pair pairs pair kept) pair) P
+  own_put : (pairs : Pairs) (kept : KeptOfPair) → P kept → IfSome (kept_of_pair (with_pair pairs pair kept) pair) P
   own_put pairs kept p = go (lookup_entry (same_pair pair) pairs) (passes (same_pair pair) pairs)
     where
-      go : (o : Option (Pair × Kept)) → IfSome o (λ e. same_pair pair e.0 ≡ true)
-          → IfSome (kept_of (option_map_or (λ e. (e.0, kept) ∷ remove_entry (same_pair pair) pairs) o ((pair, kept) ∷ take (most_pairs - 1) pairs)) pair) P
+      go : (o : Option (Pair × KeptOfPair)) → IfSome o (λ e. same_pair pair e.0 ≡ true)
+          → IfSome (kept_of_pair (option_map_or (λ e. (e.0, kept) ∷ remove_entry (same_pair pair) pairs) o ((pair, kept) ∷ take (most_pairs - 1) pairs)) pair) P
       go None is = if_first P (same_pair pair) (pair, kept) (take (most_pairs - 1) pairs) (pair_itself pair) p
       go (Some e) is = if_first P (same_pair pair) (e.0, kept) (remove_entry (same_pair pair) pairs) is p
 
-  other_put : (pairs : Pairs) (other : Pair) (kept : Kept) → same_pair pair other ≡ false → IfSome (kept_of pairs pair) P → IfSome (kept_of (with_pair pairs other kept) pair) P
+  other_put : (pairs : Pairs) (other : Pair) (kept : KeptOfPair) → same_pair pair other ≡ false → IfSome (kept_of_pair pairs pair) P → IfSome (kept_of_pair (with_pair pairs other kept) pair) P
   other_put pairs other kept apart h = go (lookup_entry (same_pair other) pairs) (passes (same_pair other) pairs)
     where
-      go : (o : Option (Pair × Kept)) → IfSome o (λ e. same_pair other e.0 ≡ true)
-          → IfSome (kept_of (option_map_or (λ e. (e.0, kept) ∷ remove_entry (same_pair other) pairs) o ((other, kept) ∷ take (most_pairs - 1) pairs)) pair) P
+      go : (o : Option (Pair × KeptOfPair)) → IfSome o (λ e. same_pair other e.0 ≡ true)
+          → IfSome (kept_of_pair (option_map_or (λ e. (e.0, kept) ∷ remove_entry (same_pair other) pairs) o ((other, kept) ∷ take (most_pairs - 1) pairs)) pair) P
       go None is = if_later P (same_pair pair) (other, kept) (take (most_pairs - 1) pairs) apart (if_taken P (same_pair pair) (most_pairs - 1) pairs h)
       go (Some e) is = if_later P (same_pair pair) (e.0, kept) (remove_entry (same_pair other) pairs) (others_apart other apart e.0 is)
           (if_removed P (same_pair pair) (same_pair other) (others_apart other apart) pairs h)
 
-  other_asked : (pairs : Pairs) (other : Pair) → same_pair pair other ≡ false → IfSome (kept_of pairs pair) P → IfSome (kept_of (asked_pairs pairs other) pair) P
+  other_asked : (pairs : Pairs) (other : Pair) → same_pair pair other ≡ false → IfSome (kept_of_pair pairs pair) P → IfSome (kept_of_pair (asked_pairs pairs other) pair) P
   other_asked pairs other apart h = go (lookup_entry (same_pair other) pairs) (passes (same_pair other) pairs)
     where
-      go : (o : Option (Pair × Kept)) → IfSome o (λ e. same_pair other e.0 ≡ true)
-          → IfSome (kept_of (option_map_or (λ e. e ∷ remove_entry (same_pair other) pairs) o pairs) pair) P
+      go : (o : Option (Pair × KeptOfPair)) → IfSome o (λ e. same_pair other e.0 ≡ true)
+          → IfSome (kept_of_pair (option_map_or (λ e. e ∷ remove_entry (same_pair other) pairs) o pairs) pair) P
       go None is = h
       go (Some e) is = if_later P (same_pair pair) e (remove_entry (same_pair other) pairs) (others_apart other apart e.0 is)
           (if_removed P (same_pair pair) (same_pair other) (others_apart other apart) pairs h)
 
-  still_kept : (pairs : Pairs) (other : Pair) → IfSome (kept_of pairs pair) P → IfSome (kept_of (asked_pairs pairs other) pair) P
+  still_kept : (pairs : Pairs) (other : Pair) → IfSome (kept_of_pair pairs pair) P → IfSome (kept_of_pair (asked_pairs pairs other) pair) P
   still_kept pairs other h = go (same_pair pair other) refl
     where
-      go : (b : Bool) → same_pair pair other ≡ b → IfSome (kept_of (asked_pairs pairs other) pair) P
-      go true is = subst (λ k. IfSome (kept_of (asked_pairs pairs k) pair) P) (equal_pairs pair other is) (if_promoted P (same_pair pair) pairs h)
+      go : (b : Bool) → same_pair pair other ≡ b → IfSome (kept_of_pair (asked_pairs pairs other) pair) P
+      go true is = subst (λ k. IfSome (kept_of_pair (asked_pairs pairs k) pair) P) (equal_pairs pair other is) (if_promoted P (same_pair pair) pairs h)
       go false apart = other_asked pairs other apart h
 
   -- an answer that does not put it
   none_put : (at : Moment) (response : FindResponse) (others : List Pair) (pairs : Pairs) → AllByRecursion (λ other. same_pair pair other ≡ false) others
-      → IfSome (kept_of pairs pair) P → IfSome (kept_of (put_pairs at response pairs others) pair) P
+      → IfSome (kept_of_pair pairs pair) P → IfSome (kept_of_pair (put_pairs at response pairs others) pair) P
   none_put at response [] pairs apart h = h
   none_put at response (other ∷ others) pairs apart h = none_put at response others (put_pair at response pairs other) apart.1 (other_put pairs other _ apart.0 h)
 
 -- ---- an answer that puts it
 
-own_from : (at : Moment) (response : FindResponse) (pairs : Pairs) (pair : Pair) → IfSome (kept_of (put_pair at response pairs pair) pair) (IsFrom pair at response)
+own_from : (at : Moment) (response : FindResponse) (pairs : Pairs) (pair : Pair) → IfSome (kept_of_pair (put_pair at response pairs pair) pair) (IsFrom pair at response)
 own_from at response pairs pair = own_put (IsFrom pair at response) pair pairs _ (is_from pairs pair at response)
 
 still_from : (at : Moment) (response : FindResponse) (pair : Pair) (others : List Pair) (pairs : Pairs)
-    → IfSome (kept_of pairs pair) (IsFrom pair at response) → IfSome (kept_of (put_pairs at response pairs others) pair) (IsFrom pair at response)
+    → IfSome (kept_of_pair pairs pair) (IsFrom pair at response) → IfSome (kept_of_pair (put_pairs at response pairs others) pair) (IsFrom pair at response)
 still_from at response pair [] pairs h = h
 still_from at response pair (other ∷ others) pairs h = still_from at response pair others (put_pair at response pairs other) (go (same_pair pair other) refl)
   where
-    go : (b : Bool) → same_pair pair other ≡ b → IfSome (kept_of (put_pair at response pairs other) pair) (IsFrom pair at response)
-    go true is = subst (λ k. IfSome (kept_of (put_pair at response pairs k) pair) (IsFrom pair at response)) (equal_pairs pair other is) (own_from at response pairs pair)
+    go : (b : Bool) → same_pair pair other ≡ b → IfSome (kept_of_pair (put_pair at response pairs other) pair) (IsFrom pair at response)
+    go true is = subst (λ k. IfSome (kept_of_pair (put_pair at response pairs k) pair) (IsFrom pair at response)) (equal_pairs pair other is) (own_from at response pairs pair)
     go false apart = other_put (IsFrom pair at response) pair pairs other _ apart h
 
 put_from : (at : Moment) (response : FindResponse) (pair : Pair) (asked : List Pair) (pairs : Pairs) → Contains asked pair
-    → IfSome (kept_of (put_pairs at response pairs asked) pair) (IsFrom pair at response)
+    → IfSome (kept_of_pair (put_pairs at response pairs asked) pair) (IsFrom pair at response)
 put_from at response pair [] pairs c = absurd (in_none pair c)
 put_from at response pair (other ∷ others) pairs c = go (either_place other others pair c) (put_from at response pair others (put_pair at response pairs other))
   where
     after : Pairs
     after = put_pairs at response (put_pair at response pairs other) others
 
-    go : (other ≡ pair) ⊎ Contains others pair → (Contains others pair → IfSome (kept_of after pair) (IsFrom pair at response)) → IfSome (kept_of after pair) (IsFrom pair at response)
+    go : (other ≡ pair) ⊎ Contains others pair → (Contains others pair → IfSome (kept_of_pair after pair) (IsFrom pair at response)) → IfSome (kept_of_pair after pair) (IsFrom pair at response)
     go (inl is) more = still_from at response pair others (put_pair at response pairs other)
-        (subst (λ k. IfSome (kept_of (put_pair at response pairs k) pair) (IsFrom pair at response)) (sym is) (own_from at response pairs pair))
+        (subst (λ k. IfSome (kept_of_pair (put_pair at response pairs k) pair) (IsFrom pair at response)) (sym is) (own_from at response pairs pair))
     go (inr c) more = more c
 
 -- ---- whether an answer puts it
@@ -186,15 +186,15 @@ not_among pair (other ∷ others) apart c = go (either_place other others pair c
 -- ---- steps
 
 abbrev IsNotPut : List Step → Pair → Type 0
-IsNotPut steps pair = (step : Step) → Contains steps step → Puts step pair → ⊥
+IsNotPut steps pair = (step : Step) → Contains steps step → PutsPair step pair → ⊥
 
-pub record WasPut (steps : List Step) (pair : Pair) (kept : Kept) : Type 0 where
+pub record WasPut (steps : List Step) (pair : Pair) (kept : KeptOfPair) : Type 0 where
   pub at : Moment
   pub response : FindResponse
   pub last_put : IsLastPut steps pair at response
   pub is_from : IsFrom pair at response kept
 
-later_put : (step : Step) (steps : List Step) (pair : Pair) (kept : Kept) → WasPut steps pair kept → WasPut (step ∷ steps) pair kept
+later_put : (step : Step) (steps : List Step) (pair : Pair) (kept : KeptOfPair) → WasPut steps pair kept → WasPut (step ∷ steps) pair kept
 later_put step steps pair kept was = record {
   at = was.at;
   response = was.response;
@@ -210,7 +210,7 @@ later_put step steps pair kept was = record {
   is_from = was.is_from;
 }
 
-first_put : (at : Moment) (lists : List ListName) (asked : AskedHashes) (response : FindResponse) (steps : List Step) (pair : Pair) (kept : Kept)
+first_put : (at : Moment) (lists : List ListName) (asked : AskedHashes) (response : FindResponse) (steps : List Step) (pair : Pair) (kept : KeptOfPair)
     → Contains (pairs_asked asked lists) pair → IsNotPut steps pair → IsFrom pair at response kept → WasPut (Takes at lists asked response ∷ steps) pair kept
 first_put at lists asked response steps pair kept c apart from = record {
   at = at;
@@ -219,37 +219,37 @@ first_put at lists asked response steps pair kept c apart from = record {
   is_from = from;
 }
 
-not_put_more : (step : Step) (steps : List Step) (pair : Pair) → (Puts step pair → ⊥) → IsNotPut steps pair → IsNotPut (step ∷ steps) pair
+not_put_more : (step : Step) (steps : List Step) (pair : Pair) → (PutsPair step pair → ⊥) → IsNotPut steps pair → IsNotPut (step ∷ steps) pair
 not_put_more step steps pair apart none one c puts = go (either_place step steps one c)
   where
     go : (step ≡ one) ⊎ Contains steps one → ⊥
-    go (inl is) = apart (subst (λ s. Puts s pair) (sym is) puts)
+    go (inl is) = apart (subst (λ s. PutsPair s pair) (sym is) puts)
     go (inr c) = none one c puts
 
 -- what is kept of a pair after some steps was kept before them, and they do not put it, or it is from the last of them that puts it
 module _ (pair : Pair) where
-  abbrev Came : (Kept → Type 0) → List Step → Kept → Type 0
+  abbrev Came : (KeptOfPair → Type 0) → List Step → KeptOfPair → Type 0
   Came P steps kept = (P kept × IsNotPut steps pair) ⊎ WasPut steps pair kept
 
-  through : (P : Kept → Type 0) (step : Step) (steps : List Step) → (Puts step pair → ⊥) → (kept : Kept) → Came P steps kept → Came P (step ∷ steps) kept
+  through : (P : KeptOfPair → Type 0) (step : Step) (steps : List Step) → (PutsPair step pair → ⊥) → (kept : KeptOfPair) → Came P steps kept → Came P (step ∷ steps) kept
   through P step steps apart kept (inl before) = inl (before.0, not_put_more step steps pair apart before.1)
   through P step steps apart kept (inr was) = inr (later_put step steps pair kept was)
 
-  from_here : (P : Kept → Type 0) (at : Moment) (lists : List ListName) (asked : AskedHashes) (response : FindResponse) (steps : List Step) → Contains (pairs_asked asked lists) pair
-      → (kept : Kept) → Came (IsFrom pair at response) steps kept → Came P (Takes at lists asked response ∷ steps) kept
+  from_here : (P : KeptOfPair → Type 0) (at : Moment) (lists : List ListName) (asked : AskedHashes) (response : FindResponse) (steps : List Step) → Contains (pairs_asked asked lists) pair
+      → (kept : KeptOfPair) → Came (IsFrom pair at response) steps kept → Came P (Takes at lists asked response ∷ steps) kept
   from_here P at lists asked response steps c kept (inl before) = inr (first_put at lists asked response steps pair kept c before.1 before.0)
   from_here P at lists asked response steps c kept (inr was) = inr (later_put (Takes at lists asked response) steps pair kept was)
 
   -- after an answer, by what is kept then
-  taken_then : (P : Kept → Type 0) (at : Moment) (lists : List ListName) (asked : AskedHashes) (response : FindResponse) (steps : List Step) (pairs : Pairs) → IfSome (kept_of pairs pair) P
-      → (IfSome (kept_of (taken at lists asked response pairs) pair) (IsFrom pair at response)
-      → IfSome (kept_of (after_steps (taken at lists asked response pairs) steps) pair) (Came (IsFrom pair at response) steps))
-      → (IfSome (kept_of (taken at lists asked response pairs) pair) P → IfSome (kept_of (after_steps (taken at lists asked response pairs) steps) pair) (Came P steps))
-      → IfSome (kept_of (after_steps (taken at lists asked response pairs) steps) pair) (Came P (Takes at lists asked response ∷ steps))
+  taken_then : (P : KeptOfPair → Type 0) (at : Moment) (lists : List ListName) (asked : AskedHashes) (response : FindResponse) (steps : List Step) (pairs : Pairs) → IfSome (kept_of_pair pairs pair) P
+      → (IfSome (kept_of_pair (taken at lists asked response pairs) pair) (IsFrom pair at response)
+      → IfSome (kept_of_pair (after_steps (taken at lists asked response pairs) steps) pair) (Came (IsFrom pair at response) steps))
+      → (IfSome (kept_of_pair (taken at lists asked response pairs) pair) P → IfSome (kept_of_pair (after_steps (taken at lists asked response pairs) steps) pair) (Came P steps))
+      → IfSome (kept_of_pair (after_steps (taken at lists asked response pairs) steps) pair) (Came P (Takes at lists asked response ∷ steps))
   taken_then P at lists asked response steps pairs h own other = go (among pair (pairs_asked asked lists))
     where
-      end : Option Kept
-      end = kept_of (after_steps (taken at lists asked response pairs) steps) pair
+      end : Option KeptOfPair
+      end = kept_of_pair (after_steps (taken at lists asked response pairs) steps) pair
 
       go : Contains (pairs_asked asked lists) pair ⊎ AllByRecursion (λ other. same_pair pair other ≡ false) (pairs_asked asked lists)
           → IfSome end (Came P (Takes at lists asked response ∷ steps))
@@ -258,19 +258,19 @@ module _ (pair : Pair) where
       go (inr apart) = if_map (Came P steps) (Came P (Takes at lists asked response ∷ steps)) (through P (Takes at lists asked response) steps (not_among pair (pairs_asked asked lists) apart))
           end (other (none_put P pair at response (pairs_asked asked lists) pairs apart h))
 
-  came : (steps : List Step) (P : Kept → Type 0) (pairs : Pairs) → IfSome (kept_of pairs pair) P → IfSome (kept_of (after_steps pairs steps) pair) (Came P steps)
-  came [] P pairs h = if_map P (Came P []) (λ kept p. inl (p, λ step c puts. in_none step c)) (kept_of pairs pair) h
+  came : (steps : List Step) (P : KeptOfPair → Type 0) (pairs : Pairs) → IfSome (kept_of_pair pairs pair) P → IfSome (kept_of_pair (after_steps pairs steps) pair) (Came P steps)
+  came [] P pairs h = if_map P (Came P []) (λ kept p. inl (p, λ step c puts. in_none step c)) (kept_of_pair pairs pair) h
   came (Takes at lists asked response ∷ steps) P pairs h =
       taken_then P at lists asked response steps pairs h
       (came steps (IsFrom pair at response) (taken at lists asked response pairs))
       (came steps P (taken at lists asked response pairs))
   came (Asks now other hash ∷ steps) P pairs h = if_map (Came P steps) (Came P (Asks now other hash ∷ steps)) (through P (Asks now other hash) steps (λ puts. puts))
-      (kept_of (after_steps (asked_pairs pairs other) steps) pair) (came steps P (asked_pairs pairs other) (still_kept P pair pairs other h))
+      (kept_of_pair (after_steps (asked_pairs pairs other) steps) pair) (came steps P (asked_pairs pairs other) (still_kept P pair pairs other h))
 
 -- from no pairs on
-settled : (steps : List Step) (pair : Pair) (kept : Kept) → Came pair (λ _. ⊥) steps kept → WasPut steps pair kept
+settled : (steps : List Step) (pair : Pair) (kept : KeptOfPair) → Came pair (λ _. ⊥) steps kept → WasPut steps pair kept
 settled steps pair kept (inl before) = absurd before.0
 settled steps pair kept (inr was) = was
 
-pub last_put : (steps : List Step) (pair : Pair) → IfSome (kept_of (after_steps [] steps) pair) (WasPut steps pair)
-last_put steps pair = if_map (Came pair (λ _. ⊥) steps) (WasPut steps pair) (settled steps pair) (kept_of (after_steps [] steps) pair) (came pair steps (λ _. ⊥) [] tt)
+pub last_put : (steps : List Step) (pair : Pair) → IfSome (kept_of_pair (after_steps [] steps) pair) (WasPut steps pair)
+last_put steps pair = if_map (Came pair (λ _. ⊥) steps) (WasPut steps pair) (settled steps pair) (kept_of_pair (after_steps [] steps) pair) (came pair steps (λ _. ⊥) [] tt)

@@ -14,7 +14,7 @@ use Rattle.hash_prefixes.specs.declared.hashes.FullHash.{FullHash}
 use Rattle.hash_messages.specs.declared.response.Match.{Match}
 use Rattle.hash_messages.specs.declared.response.FindResponse.{FindResponse}
 use Rattle.full_hash_cache.specs.declared.pair.Pair.{Pair}
-use Rattle.full_hash_cache.specs.Cache.{Matches, Kept, Pairs, same_hash, hash_cmp, end_of, with_match, ending, matches_for, alive, begins, beginning_with, matches_of, kept_after}
+use Rattle.full_hash_cache.specs.Cache.{Matches, KeptOfPair, Pairs, same_hash, hash_cmp, match_end, with_match, ending, matches_for, alive, begins_full_hash, beginning_with, kept_matches_of, kept_after}
 use Rattle.full_hash_cache.proofs.Ranges.{same_number}
 use Rattle.full_hash_cache.proofs.Told.{equal_hashes, by_is_eq}
 
@@ -28,7 +28,7 @@ same_itself hash = λ i. is_eq (same_bytes hash.bytes i)
 -- ---- whether there is a match of a hash
 
 abbrev pub has : Matches → FullHash → Bool
-has matches hash = is_some (end_of matches hash)
+has matches hash = is_some (match_end matches hash)
 
 one_more : (b : Bool) (o : Option Moment) (end : Moment) → is_some o ≡ true → is_some (cond b (Some end) o) ≡ true
 one_more true o end h = refl
@@ -39,7 +39,7 @@ either true o p d e f h = refl
 either false o p d e f h = f h
 
 here : (hash : FullHash) (end : Moment) (rest : Matches) → has ((hash, end) ∷ rest) hash ≡ true
-here hash end rest = λ i. is_some (cond (same_itself hash i) (Some end) (end_of rest hash))
+here hash end rest = λ i. is_some (cond (same_itself hash i) (Some end) (match_end rest hash))
 
 -- ---- putting matches
 
@@ -50,8 +50,8 @@ inserted (m ∷ ms) hash end = go (hash_cmp hash m.0) refl (inserted ms hash end
     go : (o : Ordering) → hash_cmp hash m.0 ≡ o → has (insert_entry hash_cmp ms hash end) hash ≡ true
         → has (match_ordering o ((hash, end) ∷ m ∷ ms) ((m.0, end) ∷ ms) (m ∷ insert_entry hash_cmp ms hash end)) hash ≡ true
     go Less is more = here hash end (m ∷ ms)
-    go Equal is more = λ i. is_some (cond (is_eq (is i)) (Some end) (end_of ms hash))
-    go Greater is more = one_more (same_hash hash m.0) (end_of (insert_entry hash_cmp ms hash end) hash) m.1 more
+    go Equal is more = λ i. is_some (cond (is_eq (is i)) (Some end) (match_end ms hash))
+    go Greater is more = one_more (same_hash hash m.0) (match_end (insert_entry hash_cmp ms hash end) hash) m.1 more
 
 stays : (matches : Matches) (hash : FullHash) (end : Moment) (other : FullHash) → has matches other ≡ true → has (insert_entry hash_cmp matches hash end) other ≡ true
 stays [] hash end other h = cc h
@@ -59,9 +59,9 @@ stays (m ∷ ms) hash end other h = go (hash_cmp hash m.0) (stays ms hash end ot
   where
     go : (o : Ordering) → (has ms other ≡ true → has (insert_entry hash_cmp ms hash end) other ≡ true)
         → has (match_ordering o ((hash, end) ∷ m ∷ ms) ((m.0, end) ∷ ms) (m ∷ insert_entry hash_cmp ms hash end)) other ≡ true
-    go Less more = one_more (same_hash other hash) (end_of (m ∷ ms) other) end h
-    go Equal more = either (same_hash other m.0) (end_of ms other) (end_of ms other) m.1 end (λ e. e) h
-    go Greater more = either (same_hash other m.0) (end_of ms other) (end_of (insert_entry hash_cmp ms hash end) other) m.1 m.1 more h
+    go Less more = one_more (same_hash other hash) (match_end (m ∷ ms) other) end h
+    go Equal more = either (same_hash other m.0) (match_end ms other) (match_end ms other) m.1 end (λ e. e) h
+    go Greater more = either (same_hash other m.0) (match_end ms other) (match_end (insert_entry hash_cmp ms hash end) other) m.1 m.1 more h
 
 all_stay : (found matches : Matches) (hash : FullHash) → has matches hash ≡ true → has (fold with_match matches found) hash ≡ true
 all_stay [] matches hash h = h
@@ -74,7 +74,7 @@ all_put (m ∷ ms) matches hash h = go (same_hash hash m.0) refl h (all_put ms (
     after : Matches
     after = fold with_match (with_match matches m) ms
 
-    go : (b : Bool) → same_hash hash m.0 ≡ b → is_some (cond b (Some m.1) (end_of ms hash)) ≡ true → (has ms hash ≡ true → has after hash ≡ true) → has after hash ≡ true
+    go : (b : Bool) → same_hash hash m.0 ≡ b → is_some (cond b (Some m.1) (match_end ms hash)) ≡ true → (has ms hash ≡ true → has after hash ≡ true) → has after hash ≡ true
     go true is h more =
         let one = subst (λ k. has (with_match matches m) k ≡ true) (sym (equal_hashes hash m.0 (by_is_eq _ is))) (inserted matches m.0 _) in
         all_stay ms (with_match matches m) hash one
@@ -84,9 +84,9 @@ all_put (m ∷ ms) matches hash h = go (same_hash hash m.0) refl h (all_put ms (
 
 appended : (xs ys : Matches) (hash : FullHash) → has ys hash ≡ true → has (xs ++ ys) hash ≡ true
 appended [] ys hash h = h
-appended (x ∷ xs) ys hash h = one_more (same_hash hash x.0) (end_of (xs ++ ys) hash) x.1 (appended xs ys hash h)
+appended (x ∷ xs) ys hash h = one_more (same_hash hash x.0) (match_end (xs ++ ys) hash) x.1 (appended xs ys hash h)
 
-beginning : (prefix : List ℕ) (matches : Matches) (hash : FullHash) → begins prefix hash ≡ true → has matches hash ≡ true → has (beginning_with prefix matches) hash ≡ true
+beginning : (prefix : List ℕ) (matches : Matches) (hash : FullHash) → begins_full_hash prefix hash ≡ true → has matches hash ≡ true → has (beginning_with prefix matches) hash ≡ true
 beginning prefix [] hash b h = cc h
 beginning prefix (m ∷ ms) hash b h = go (same_hash hash m.0) refl h (beginning prefix ms hash b)
   where
@@ -94,16 +94,16 @@ beginning prefix (m ∷ ms) hash b h = go (same_hash hash m.0) refl h (beginning
     rest = beginning_with prefix ms
 
     other : (c : Bool) → has rest hash ≡ true → has (cond c (m ∷ rest) rest) hash ≡ true
-    other true h = one_more (same_hash hash m.0) (end_of rest hash) m.1 h
+    other true h = one_more (same_hash hash m.0) (match_end rest hash) m.1 h
     other false h = h
 
-    go : (s : Bool) → same_hash hash m.0 ≡ s → is_some (cond s (Some m.1) (end_of ms hash)) ≡ true → (has ms hash ≡ true → has rest hash ≡ true)
-        → has (cond (begins prefix m.0) (m ∷ rest) rest) hash ≡ true
+    go : (s : Bool) → same_hash hash m.0 ≡ s → is_some (cond s (Some m.1) (match_end ms hash)) ≡ true → (has ms hash ≡ true → has rest hash ≡ true)
+        → has (cond (begins_full_hash prefix m.0) (m ∷ rest) rest) hash ≡ true
     go true is h more =
         let same = equal_hashes hash m.0 (by_is_eq _ is) in
-        let begun : begins prefix m.0 ≡ true = subst (λ k. begins prefix k ≡ true) same b in
-        subst (λ c. has (cond c (m ∷ rest) rest) hash ≡ true) (sym begun) (λ i. is_some (cond (is i) (Some m.1) (end_of rest hash)))
-    go false is h more = other (begins prefix m.0) (more h)
+        let begun : begins_full_hash prefix m.0 ≡ true = subst (λ k. begins_full_hash prefix k ≡ true) same b in
+        subst (λ c. has (cond c (m ∷ rest) rest) hash ≡ true) (sym begun) (λ i. is_some (cond (is i) (Some m.1) (match_end rest hash)))
+    go false is h more = other (begins_full_hash prefix m.0) (more h)
 
 pub either_place : {X : Type 0} (x : X) (xs : List X) (y : X) → Contains (x ∷ xs) y → (x ≡ y) ⊎ Contains xs y
 either_place x xs y c = go c.0 c.1 c.2
@@ -124,7 +124,7 @@ listed at list (m ∷ ms) one c named = go (either_place m ms one c) (listed at 
     rest = filter (λ m. same_name m.name list) ms
 
     other : (b : Bool) → has (map (ending at) rest) one.hash ≡ true → has (map (ending at) (cond b (m ∷ rest) rest)) one.hash ≡ true
-    other true h = one_more (same_hash one.hash m.hash) (end_of (map (ending at) rest) one.hash) _ h
+    other true h = one_more (same_hash one.hash m.hash) (match_end (map (ending at) rest) one.hash) _ h
     other false h = h
 
     go : (m ≡ one) ⊎ Contains ms one → (Contains ms one → same_name one.name list ≡ true → has (map (ending at) rest) one.hash ≡ true)
@@ -136,9 +136,9 @@ listed at list (m ∷ ms) one c named = go (either_place m ms one c) (listed at 
 -- ---- what is kept of a pair is from an answer
 
 -- The answer was received at a moment: its negative duration ends then, and each match that it returned for the pair is kept.
-pub record IsFrom (pair : Pair) (at : Moment) (response : FindResponse) (kept : Kept) : Type 0 where
+pub record IsFrom (pair : Pair) (at : Moment) (response : FindResponse) (kept : KeptOfPair) : Type 0 where
   pub ends : kept.negative_end ≡ later_than at (cache_of response.negative)
-  pub keeps : (one : Match) → Contains response.matches one → same_name one.name pair.list ≡ true → begins pair.prefix one.hash ≡ true → has kept.matches one.hash ≡ true
+  pub keeps : (one : Match) → Contains response.matches one → same_name one.name pair.list ≡ true → begins_full_hash pair.prefix one.hash ≡ true → has kept.matches one.hash ≡ true
 
 pub is_from : (pairs : Pairs) (pair : Pair) (at : Moment) (response : FindResponse)
     → IsFrom pair at response (kept_after at (later_than at (cache_of response.negative)) (matches_for at pair.list response.matches) pairs pair)
@@ -147,5 +147,5 @@ is_from pairs pair at response = record {
   keeps = λ one c named begun.
       let found = all_put _ [] one.hash (listed at pair.list response.matches one c named) in
       let own = beginning pair.prefix (matches_for at pair.list response.matches) one.hash begun found in
-      all_put _ [] one.hash (appended (alive at (matches_of pairs pair)) _ one.hash own);
+      all_put _ [] one.hash (appended (alive at (kept_matches_of pairs pair)) _ one.hash own);
 }

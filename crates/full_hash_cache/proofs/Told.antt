@@ -25,8 +25,8 @@ use Rattle.hash_messages.specs.declared.response.Match.{Match}
 use Rattle.hash_messages.specs.declared.response.FindResponse.{FindResponse}
 use Rattle.full_hash_cache.specs.declared.pair.Pair.{Pair}
 use Rattle.full_hash_cache.specs.declared.pair.Cached.TheVariants.{Unsafe, Safe, Ask}
-use Rattle.full_hash_cache.specs.Cache.{Matches, Kept, Pairs, most_pairs, same_pair, same_hash, hash_cmp, is_before, kept_of, end_of, said_by, answer_of, later_end, with_match, ending, matches_for, begins, matches_of, with_pair, put_pair, put_pairs, pairs_asked}
-use Rattle.full_hash_cache.specs.Law.{Step, after_step, after_steps, IsTold, IsToldAfter}
+use Rattle.full_hash_cache.specs.Cache.{Matches, KeptOfPair, Pairs, most_pairs, same_pair, same_hash, hash_cmp, is_earlier, kept_of_pair, match_end, said_by_pair, cached_of, later_end, with_match, ending, matches_for, begins_full_hash, kept_matches_of, with_pair, put_pair, put_pairs, pairs_asked}
+use Rattle.full_hash_cache.specs.Law.{Step, after_step, after_steps, IsMatchTold, IsToldAfter}
 use Rattle.full_hash_cache.specs.Law.Step.{Takes, Asks}
 
 -- ---- lists
@@ -164,18 +164,18 @@ module _ (T : Pair → FullHash → Moment → Type 0) where
   abbrev Holds : Pair → Matches → Type 0
   Holds pair matches = Each (λ m. T pair m.0 m.1) matches
 
-  kept_end : (pair : Pair) (hash : FullHash) (matches : Matches) → Holds pair matches → IfSome (end_of matches hash) (λ end. T pair hash end)
+  kept_end : (pair : Pair) (hash : FullHash) (matches : Matches) → Holds pair matches → IfSome (match_end matches hash) (λ end. T pair hash end)
   kept_end pair hash [] h = tt
   kept_end pair hash (m ∷ ms) h = go (same_hash hash m.0) refl (kept_end pair hash ms h.1)
     where
-      go : (b : Bool) → same_hash hash m.0 ≡ b → IfSome (end_of ms hash) (λ end. T pair hash end)
-          → IfSome (cond b (Some m.1) (end_of ms hash)) (λ end. T pair hash end)
+      go : (b : Bool) → same_hash hash m.0 ≡ b → IfSome (match_end ms hash) (λ end. T pair hash end)
+          → IfSome (cond b (Some m.1) (match_end ms hash)) (λ end. T pair hash end)
       go true is more = subst (λ k. T pair k m.1) (sym (equal_hashes hash m.0 (by_is_eq _ is))) h.0
       go false is more = more
 
   told_later : (pair : Pair) (hash : FullHash) (end : Moment) (o : Option Moment) → T pair hash end → IfSome o (λ end. T pair hash end) → T pair hash (later_end end o)
   told_later pair hash end None h k = h
-  told_later pair hash end (Some other) h k = go (is_before end other)
+  told_later pair hash end (Some other) h k = go (is_earlier end other)
     where
       go : (b : Bool) → T pair hash (cond b other end)
       go true = k
@@ -192,7 +192,7 @@ module _ (T : Pair → FullHash → Moment → Type 0) where
       go Greater is more = (h.0, more)
 
   with_told : (pair : Pair) (matches : Matches) (m : FullHash × Moment) → Holds pair matches → T pair m.0 m.1 → Holds pair (with_match matches m)
-  with_told pair matches m h t = inserted pair m.0 _ matches (told_later pair m.0 m.1 (end_of matches m.0) t (kept_end pair m.0 matches h)) h
+  with_told pair matches m h t = inserted pair m.0 _ matches (told_later pair m.0 m.1 (match_end matches m.0) t (kept_end pair m.0 matches h)) h
 
   all_told : (pair : Pair) (found matches : Matches) → Holds pair matches → Holds pair found → Holds pair (fold with_match matches found)
   all_told pair [] matches h k = h
@@ -201,26 +201,26 @@ module _ (T : Pair → FullHash → Moment → Type 0) where
   -- ---- pairs
 
   abbrev IsFounded : Pairs → Type 0
-  IsFounded pairs = Each (λ (e : Pair × Kept). Holds e.0 e.1.matches) pairs
+  IsFounded pairs = Each (λ (e : Pair × KeptOfPair). Holds e.0 e.1.matches) pairs
 
-  kept_matches : (pair : Pair) (pairs : Pairs) → IsFounded pairs → Holds pair (matches_of pairs pair)
+  kept_matches : (pair : Pair) (pairs : Pairs) → IsFounded pairs → Holds pair (kept_matches_of pairs pair)
   kept_matches pair [] h = tt
   kept_matches pair (e ∷ es) h = go (same_pair pair e.0) refl (kept_matches pair es h.1)
     where
-      go : (b : Bool) → same_pair pair e.0 ≡ b → Holds pair (matches_of es pair)
-          → Holds pair (option_map_or (λ (kept : Kept). kept.matches) (cond b (Some e.1) (kept_of es pair)) [])
+      go : (b : Bool) → same_pair pair e.0 ≡ b → Holds pair (kept_matches_of es pair)
+          → Holds pair (option_map_or (λ (kept : KeptOfPair). kept.matches) (cond b (Some e.1) (kept_of_pair es pair)) [])
       go true is more = subst (λ p. Holds p e.1.matches) (sym (equal_pairs pair e.0 is)) h.0
       go false is more = more
 
-  founded_with : (pairs : Pairs) (pair : Pair) (kept : Kept) → IsFounded pairs → Holds pair kept.matches → IsFounded (with_pair pairs pair kept)
-  founded_with pairs pair kept h k = go (lookup_entry (same_pair pair) pairs) (found_entry (λ (e : Pair × Kept). Holds e.0 e.1.matches) (same_pair pair) pairs h)
+  founded_with : (pairs : Pairs) (pair : Pair) (kept : KeptOfPair) → IsFounded pairs → Holds pair kept.matches → IsFounded (with_pair pairs pair kept)
+  founded_with pairs pair kept h k = go (lookup_entry (same_pair pair) pairs) (found_entry (λ (e : Pair × KeptOfPair). Holds e.0 e.1.matches) (same_pair pair) pairs h)
     where
-      go : (o : Option (Pair × Kept)) → IfSome o (λ e. Holds e.0 e.1.matches × (same_pair pair e.0 ≡ true))
+      go : (o : Option (Pair × KeptOfPair)) → IfSome o (λ e. Holds e.0 e.1.matches × (same_pair pair e.0 ≡ true))
           → IsFounded (option_map_or (λ e. (e.0, kept) ∷ remove_entry (same_pair pair) pairs) o ((pair, kept) ∷ take (most_pairs - 1) pairs))
-      go None is = (k, each_take (λ (e : Pair × Kept). Holds e.0 e.1.matches) (most_pairs - 1) pairs h)
+      go None is = (k, each_take (λ (e : Pair × KeptOfPair). Holds e.0 e.1.matches) (most_pairs - 1) pairs h)
       go (Some e) is = (
         subst (λ p. Holds p kept.matches) (equal_pairs pair e.0 is.1) k,
-        each_removed (λ (e : Pair × Kept). Holds e.0 e.1.matches) (same_pair pair) pairs h,
+        each_removed (λ (e : Pair × KeptOfPair). Holds e.0 e.1.matches) (same_pair pair) pairs h,
       )
 
   -- what an answer received at a moment returned tells of a pair
@@ -239,9 +239,9 @@ module _ (T : Pair → FullHash → Moment → Type 0) where
   founded_put : (at : Moment) (response : FindResponse) (pair : Pair) → Returns at pair response.matches → (pairs : Pairs) → IsFounded pairs → IsFounded (put_pair at response pairs pair)
   founded_put at response pair returned pairs h =
       let told = λ (m : FullHash × Moment). T pair m.0 m.1 in
-      let old = each_filter told (λ m. is_before at m.1) (matches_of pairs pair) (kept_matches pair pairs h) in
+      let old = each_filter told (λ m. is_earlier at m.1) (kept_matches_of pairs pair) (kept_matches pair pairs h) in
       let found = all_told pair (map (ending at) (filter (λ m. same_name m.name pair.list) response.matches)) [] tt (listed at pair response.matches returned) in
-      let new = each_filter told (λ m. begins pair.prefix m.0) (matches_for at pair.list response.matches) found in
+      let new = each_filter told (λ m. begins_full_hash pair.prefix m.0) (matches_for at pair.list response.matches) found in
       founded_with pairs pair _ h (all_told pair _ [] tt (each_append told _ _ old new))
 
   founded_puts : (at : Moment) (response : FindResponse) (asked : List Pair) → Each (λ pair. Returns at pair response.matches) asked → (pairs : Pairs) → IsFounded pairs
@@ -253,49 +253,49 @@ module _ (T : Pair → FullHash → Moment → Type 0) where
 -- ---- steps
 
 returned_by : (all : List Step) (at : Moment) (lists : List ListName) (asked : AskedHashes) (response : FindResponse) → Contains all (Takes at lists asked response)
-    → (pair : Pair) → Contains (pairs_asked asked lists) pair → Returns (IsTold all) at pair response.matches
+    → (pair : Pair) → Contains (pairs_asked asked lists) pair → Returns (IsMatchTold all) at pair response.matches
 returned_by all at lists asked response h pair a =
     each_map (Contains response.matches) _
     (λ m c is. record { at = at; lists = lists; asked = asked; response = response; found = m; was_taken = h; was_asked = a; was_returned = c; of_list = is; of_hash = refl; ends = refl })
     response.matches (each_there response.matches)
 
 all_returned : (all : List Step) (at : Moment) (lists : List ListName) (asked : AskedHashes) (response : FindResponse) → Contains all (Takes at lists asked response)
-    → Each (λ pair. Returns (IsTold all) at pair response.matches) (pairs_asked asked lists)
+    → Each (λ pair. Returns (IsMatchTold all) at pair response.matches) (pairs_asked asked lists)
 all_returned all at lists asked response h =
     each_map (Contains (pairs_asked asked lists)) _ (returned_by all at lists asked response h) (pairs_asked asked lists) (each_there (pairs_asked asked lists))
 
-founded_step : (all : List Step) (step : Step) (pairs : Pairs) → Contains all step → IsFounded (IsTold all) pairs → IsFounded (IsTold all) (after_step pairs step)
+founded_step : (all : List Step) (step : Step) (pairs : Pairs) → Contains all step → IsFounded (IsMatchTold all) pairs → IsFounded (IsMatchTold all) (after_step pairs step)
 founded_step all (Takes at lists asked response) pairs c h =
-    founded_puts (IsTold all) at response (pairs_asked asked lists) (all_returned all at lists asked response c) pairs h
+    founded_puts (IsMatchTold all) at response (pairs_asked asked lists) (all_returned all at lists asked response c) pairs h
 founded_step all (Asks now pair hash) pairs c h = each_promoted _ (same_pair pair) pairs h
 
 -- from any pairs whose matches were told
-pub founded_steps : (all steps : List Step) (pairs : Pairs) → Each (Contains all) steps → IsFounded (IsTold all) pairs → IsFounded (IsTold all) (after_steps pairs steps)
+pub founded_steps : (all steps : List Step) (pairs : Pairs) → Each (Contains all) steps → IsFounded (IsMatchTold all) pairs → IsFounded (IsMatchTold all) (after_steps pairs steps)
 founded_steps all [] pairs c h = h
 founded_steps all (step ∷ steps) pairs c h = founded_steps all steps (after_step pairs step) c.1 (founded_step all step pairs c.0 h)
 
 unsafe_is_told : (all : List Step) (now : Moment) (pair : Pair) (hash : FullHash) (negative_end : Moment) (o : Option Moment)
-    → IfSome o (λ end. IsTold all pair hash end) → said_by now negative_end o ≡ Unsafe → IsToldAfter all now pair hash
-unsafe_is_told all now pair hash negative_end None h is = go (is_before now negative_end) is
+    → IfSome o (λ end. IsMatchTold all pair hash end) → said_by_pair now negative_end o ≡ Unsafe → IsToldAfter all now pair hash
+unsafe_is_told all now pair hash negative_end None h is = go (is_earlier now negative_end) is
   where
     go : (b : Bool) → cond b Safe Ask ≡ Unsafe → IsToldAfter all now pair hash
     go true e = cc e
     go false e = cc e
-unsafe_is_told all now pair hash negative_end (Some end) h is = go (is_before now end) refl is
+unsafe_is_told all now pair hash negative_end (Some end) h is = go (is_earlier now end) refl is
   where
-    go : (b : Bool) → is_before now end ≡ b → cond b Unsafe Ask ≡ Unsafe → IsToldAfter all now pair hash
+    go : (b : Bool) → is_earlier now end ≡ b → cond b Unsafe Ask ≡ Unsafe → IsToldAfter all now pair hash
     go true before e = record { end = end; told = h; not_ended = before }
     go false before e = cc e
 
-unsafe_in : (all : List Step) (now : Moment) (pair : Pair) (hash : FullHash) (pairs : Pairs) → IsFounded (IsTold all) pairs
-    → answer_of pairs now pair hash ≡ Unsafe → IsToldAfter all now pair hash
+unsafe_in : (all : List Step) (now : Moment) (pair : Pair) (hash : FullHash) (pairs : Pairs) → IsFounded (IsMatchTold all) pairs
+    → cached_of pairs now pair hash ≡ Unsafe → IsToldAfter all now pair hash
 unsafe_in all now pair hash pairs h is =
-    go (kept_of pairs pair) (kept_matches (IsTold all) pair pairs h) is
+    go (kept_of_pair pairs pair) (kept_matches (IsMatchTold all) pair pairs h) is
   where
-    go : (o : Option Kept) → Holds (IsTold all) pair (option_map_or (λ (kept : Kept). kept.matches) o [])
-        → option_map_or (λ (kept : Kept). said_by now kept.negative_end (end_of kept.matches hash)) o Ask ≡ Unsafe → IsToldAfter all now pair hash
+    go : (o : Option KeptOfPair) → Holds (IsMatchTold all) pair (option_map_or (λ (kept : KeptOfPair). kept.matches) o [])
+        → option_map_or (λ (kept : KeptOfPair). said_by_pair now kept.negative_end (match_end kept.matches hash)) o Ask ≡ Unsafe → IsToldAfter all now pair hash
     go None h e = cc e
-    go (Some kept) h e = unsafe_is_told all now pair hash kept.negative_end (end_of kept.matches hash) (kept_end (IsTold all) pair hash kept.matches h) e
+    go (Some kept) h e = unsafe_is_told all now pair hash kept.negative_end (match_end kept.matches hash) (kept_end (IsMatchTold all) pair hash kept.matches h) e
 
-pub told_after : (steps : List Step) (now : Moment) (pair : Pair) (hash : FullHash) → answer_of (after_steps [] steps) now pair hash ≡ Unsafe → IsToldAfter steps now pair hash
+pub told_after : (steps : List Step) (now : Moment) (pair : Pair) (hash : FullHash) → cached_of (after_steps [] steps) now pair hash ≡ Unsafe → IsToldAfter steps now pair hash
 told_after steps now pair hash is = unsafe_in steps now pair hash (after_steps [] steps) (founded_steps steps steps [] (each_there steps) tt) is

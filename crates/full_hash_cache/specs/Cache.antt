@@ -32,13 +32,13 @@ abbrev pub Matches : Type 0
 Matches = List (FullHash × Moment)
 
 -- what is kept of a pair: the moment up to which it is negative, and its matches
-pub record Kept : Type 0 where
+pub record KeptOfPair : Type 0 where
   pub negative_end : Moment
   pub matches : Matches
 
 -- the kept pairs, the last used first
 abbrev pub Pairs : Type 0
-Pairs = List (Pair × Kept)
+Pairs = List (Pair × KeptOfPair)
 
 abbrev pub pair_of : ListName → List ℕ → Pair
 pair_of list prefix = record { list = list; prefix = prefix }
@@ -53,27 +53,27 @@ hash_cmp a b = bytes_cmp a.bytes b.bytes
 abbrev pub same_hash : FullHash → FullHash → Bool
 same_hash a b = is_eq (hash_cmp a b)
 
-abbrev pub is_before : Moment → Moment → Bool
-is_before a b = nat_lt a.0 b.0
+abbrev pub is_earlier : Moment → Moment → Bool
+is_earlier a b = nat_lt a.0 b.0
 
 -- what is kept of a pair
-abbrev pub kept_of : Pairs → Pair → Option Kept
-kept_of pairs pair = lookup (same_pair pair) pairs
+abbrev pub kept_of_pair : Pairs → Pair → Option KeptOfPair
+kept_of_pair pairs pair = lookup (same_pair pair) pairs
 
 -- the end of the match of a hash
-abbrev pub end_of : Matches → FullHash → Option Moment
-end_of matches hash = lookup (same_hash hash) matches
+abbrev pub match_end : Matches → FullHash → Option Moment
+match_end matches hash = lookup (same_hash hash) matches
 
 -- ---- what is said of a hash
 
 -- by a pair that keeps no match of it, and by one that keeps one, with its end
-abbrev pub said_by : Moment → Moment → Option Moment → Cached
-said_by now negative_end None = if is_before now negative_end then Safe else Ask
-said_by now negative_end (Some end) = if is_before now end then Unsafe else Ask
+abbrev pub said_by_pair : Moment → Moment → Option Moment → Cached
+said_by_pair now negative_end None = if is_earlier now negative_end then Safe else Ask
+said_by_pair now negative_end (Some end) = if is_earlier now end then Unsafe else Ask
 
 -- Ask where the pair is not kept
-abbrev pub answer_of : Pairs → Moment → Pair → FullHash → Cached
-answer_of pairs now pair hash = option_map_or (λ kept. said_by now kept.negative_end (end_of kept.matches hash)) (kept_of pairs pair) Ask
+abbrev pub cached_of : Pairs → Moment → Pair → FullHash → Cached
+cached_of pairs now pair hash = option_map_or (λ kept. said_by_pair now kept.negative_end (match_end kept.matches hash)) (kept_of_pair pairs pair) Ask
 
 -- afterwards the pair stands first, where it is kept
 abbrev pub asked_pairs : Pairs → Pair → Pairs
@@ -84,11 +84,11 @@ asked_pairs pairs pair = promoted (same_pair pair) pairs
 -- the later of an end and one that is there already
 abbrev pub later_end : Moment → Option Moment → Moment
 later_end end None = end
-later_end end (Some other) = if is_before end other then other else end
+later_end end (Some other) = if is_earlier end other then other else end
 
 -- one match more: the later end counts where the hash is there already
 abbrev pub with_match : Matches → FullHash × Moment → Matches
-with_match matches found = insert_entry hash_cmp matches found.0 (later_end found.1 (end_of matches found.0))
+with_match matches found = insert_entry hash_cmp matches found.0 (later_end found.1 (match_end matches found.0))
 
 -- some matches rising by their hashes, each hash once, with the latest of its ends
 abbrev pub latest : List (FullHash × Moment) → Matches
@@ -104,30 +104,30 @@ matches_for at list found = latest (map (ending at) (filter (λ m. same_name m.n
 
 -- those that have not ended at a moment
 abbrev pub alive : Moment → Matches → Matches
-alive at matches = filter (λ m. is_before at m.1) matches
+alive at matches = filter (λ m. is_earlier at m.1) matches
 
 -- whether a hash begins with a prefix
-abbrev pub begins : List ℕ → FullHash → Bool
-begins prefix hash = bytes_eq (take (length prefix) hash.bytes) prefix
+abbrev pub begins_full_hash : List ℕ → FullHash → Bool
+begins_full_hash prefix hash = bytes_eq (take (length prefix) hash.bytes) prefix
 
 -- those whose hash begins with a prefix
 abbrev pub beginning_with : List ℕ → Matches → Matches
-beginning_with prefix matches = filter (λ m. begins prefix m.0) matches
+beginning_with prefix matches = filter (λ m. begins_full_hash prefix m.0) matches
 
 -- the kept matches of a pair, of which there are none where it is not kept
-abbrev pub matches_of : Pairs → Pair → Matches
-matches_of pairs pair = option_map_or (λ kept. kept.matches) (kept_of pairs pair) []
+abbrev pub kept_matches_of : Pairs → Pair → Matches
+kept_matches_of pairs pair = option_map_or (λ kept. kept.matches) (kept_of_pair pairs pair) []
 
 -- The pair goes to the front with what is kept of it then, and the last leaves where there are too many.
-abbrev pub with_pair : Pairs → Pair → Kept → Pairs
+abbrev pub with_pair : Pairs → Pair → KeptOfPair → Pairs
 with_pair pairs pair kept = put_entries same_pair (lru_cache pairs most_pairs) pair kept
 
 -- what is kept of a pair once an answer with some matches for its list was received at a moment: those of its kept
 -- matches that have not ended, and those found that begin with its prefix
-abbrev pub kept_after : Moment → Moment → Matches → Pairs → Pair → Kept
+abbrev pub kept_after : Moment → Moment → Matches → Pairs → Pair → KeptOfPair
 kept_after at negative_end found pairs pair = record {
   negative_end = negative_end;
-  matches = latest (alive at (matches_of pairs pair) ++ beginning_with pair.prefix found);
+  matches = latest (alive at (kept_matches_of pairs pair) ++ beginning_with pair.prefix found);
 }
 
 -- one pair is put

@@ -10,7 +10,7 @@ use Rattle.hash_messages.specs.Messages.{AskedHashes}
 use Rattle.hash_messages.specs.declared.response.Match.{Match}
 use Rattle.hash_messages.specs.declared.response.FindResponse.{FindResponse}
 use Rattle.full_hash_cache.specs.declared.pair.Pair.{Pair}
-use Rattle.full_hash_cache.specs.Cache.{Pairs, asked_pairs, end_of, matches_of, pairs_asked, taken, is_before}
+use Rattle.full_hash_cache.specs.Cache.{Pairs, asked_pairs, match_end, kept_matches_of, pairs_asked, taken, is_earlier}
 
 -- An answer is taken, which was received at a moment, or a hash is asked for.
 pub data Step : Type 0 where
@@ -27,7 +27,7 @@ after_steps pairs steps = fold after_step pairs steps
 
 -- An answer that was taken to a request that asks for a pair has a match of the pair's list and a hash, which may be
 -- kept up to an end.
-pub record IsTold (steps : List Step) (pair : Pair) (hash : FullHash) (end : Moment) : Type 0 where
+pub record IsMatchTold (steps : List Step) (pair : Pair) (hash : FullHash) (end : Moment) : Type 0 where
   pub at : Moment
   pub lists : List ListName
   pub asked : AskedHashes
@@ -43,13 +43,13 @@ pub record IsTold (steps : List Step) (pair : Pair) (hash : FullHash) (end : Mom
 -- the same with an end after a moment
 pub record IsToldAfter (steps : List Step) (now : Moment) (pair : Pair) (hash : FullHash) : Type 0 where
   pub end : Moment
-  pub told : IsTold steps pair hash end
-  pub not_ended : IsTrue (is_before now end)
+  pub told : IsMatchTold steps pair hash end
+  pub not_ended : IsTrue (is_earlier now end)
 
 -- A step puts a pair where it takes an answer to a request that asks for the pair.
-abbrev pub Puts : Step → Pair → Type 0
-Puts (Takes at lists asked response) pair = Contains (pairs_asked asked lists) pair
-Puts (Asks now other hash) pair = ⊥
+abbrev pub PutsPair : Step → Pair → Type 0
+PutsPair (Takes at lists asked response) pair = Contains (pairs_asked asked lists) pair
+PutsPair (Asks now other hash) pair = ⊥
 
 -- The last of the steps that put a pair took this answer, which was received at a moment.
 pub record IsLastPut (steps : List Step) (pair : Pair) (at : Moment) (response : FindResponse) : Type 0 where
@@ -59,7 +59,7 @@ pub record IsLastPut (steps : List Step) (pair : Pair) (at : Moment) (response :
   pub after : List Step
   pub parted : steps ≡ before ++ Takes at lists asked response ∷ after
   pub was_put : Contains (pairs_asked asked lists) pair
-  pub is_last : (step : Step) → Contains after step → Puts step pair → ⊥
+  pub is_last : (step : Step) → Contains after step → PutsPair step pair → ⊥
 
 -- The last answer that put a pair has no match of the pair's list and a hash; its negative duration, counted from
 -- when it was received, has not passed at a moment; and no match of the hash is kept of the pair.
@@ -68,5 +68,5 @@ pub record IsNotReturned (steps : List Step) (now : Moment) (pair : Pair) (hash 
   pub response : FindResponse
   pub last_put : IsLastPut steps pair at response
   pub not_returned : (found : Match) → Contains response.matches found → IsTrue (same_name found.name pair.list) → found.hash ≡ hash → ⊥
-  pub not_ended : IsTrue (is_before now (later_than at (cache_of response.negative)))
-  pub none_kept : end_of (matches_of (after_steps [] steps) pair) hash ≡ None
+  pub not_ended : IsTrue (is_earlier now (later_than at (cache_of response.negative)))
+  pub none_kept : match_end (kept_matches_of (after_steps [] steps) pair) hash ≡ None

@@ -2,7 +2,7 @@ ghost use Rattle.std.specs.Prelude.{◌≡◌, ◌==◌, [], take, length, IfOk,
 ghost use Rattle.std.specs.List.{list_any};
 ghost use Rattle.sb_model.specs.Names.{threat_code, platform_code, entry_code};
 ghost use Rattle.hash_messages.specs.Matches.{asks_list};
-ghost use Rattle.full_hash_cache.specs.Cache.{pair_of, answer_of, asked_pairs, said_by, end_of, latest, alive, matches_of, with_pair, kept_after, put_pairs, pairs_of, pairs_asked, taken, IsPartlyTaken};
+ghost use Rattle.full_hash_cache.specs.Cache.{pair_of, cached_of, asked_pairs, said_by_pair, match_end, latest, alive, kept_matches_of, with_pair, kept_after, put_pairs, pairs_of, pairs_asked, taken, IsPartlyTaken};
 ghost use Rattle.full_hash_cache.specs.Keys.{HasFullHashes};
 
 use crate::matches::{alive_of, gathered, put_beginning};
@@ -18,7 +18,7 @@ use std::collections::BTreeMap;
 use std::marker::Model;
 use std::num::NonZeroUsize;
 
-/// What is kept of a pair. Contracts see it as `Kept` of `specs/Cache.antt`.
+/// What is kept of a pair. Contracts see it as `KeptOfPair` of `specs/Cache.antt`.
 #[derive(Drop)]
 pub(crate) struct Kept {
     negative_end: Moment,
@@ -26,7 +26,7 @@ pub(crate) struct Kept {
 }
 
 impl Model for Kept {
-    ghost use Rattle.full_hash_cache.specs.Cache.{Kept as Seen};
+    ghost use Rattle.full_hash_cache.specs.Cache.{KeptOfPair as Seen};
 
     ghost Value = { Seen };
 
@@ -74,7 +74,7 @@ impl FullHashCache {
         hash: &FullHash,
     ) -> Cached
         requires { take (length prefix.now) hash.now.bytes ≡ prefix.now }
-        ensures answer { result ≡ answer_of self.old now (pair_of list prefix.now) hash.now }
+        ensures answer { result ≡ cached_of self.old now (pair_of list prefix.now) hash.now }
         ensures pairs { self.new ≡ asked_pairs self.old (pair_of list prefix.now) }
     {
         let pair = Pair {
@@ -146,7 +146,7 @@ impl FullHashCache {
         pair: &Pair,
     ) -> Result<BTreeMap<FullHash, Moment>, OutOfMemory>
         ensures { IfOk result (λ matches. matches.entries
-            ≡ latest (alive at (matches_of self.now pair.now))) }
+            ≡ latest (alive at (kept_matches_of self.now pair.now))) }
     {
         match self.pairs.peek(pair) {
             Some(kept) => alive_of(alloc, at, &kept.matches),
@@ -185,7 +185,7 @@ impl FullHashCache {
 impl Kept {
     /// What this says of a hash at a moment.
     fn says(&self, now: Moment, hash: &FullHash) -> Cached
-        ensures { result ≡ said_by now self.now.negative_end (end_of self.now.matches hash.now) }
+        ensures { result ≡ said_by_pair now self.now.negative_end (match_end self.now.matches hash.now) }
     {
         match self.matches.get(hash) {
             Some(end) if now.0 < end.0 => Cached::Unsafe,

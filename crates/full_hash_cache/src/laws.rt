@@ -1,7 +1,7 @@
 ghost use Rattle.std.specs.Prelude.{◌≡◌, List, [], length, take};
 ghost use Rattle.sb_model.specs.declared.time.Moment.{Moment};
 ghost use Rattle.hash_prefixes.specs.declared.hashes.FullHash.{FullHash};
-ghost use Rattle.full_hash_cache.specs.Cache.{answer_of};
+ghost use Rattle.full_hash_cache.specs.Cache.{cached_of};
 ghost use Rattle.full_hash_cache.specs.Law.{Step, after_steps, IsToldAfter, IsNotReturned};
 ghost use Rattle.full_hash_cache.specs.declared.pair.Pair.{Pair};
 
@@ -12,7 +12,7 @@ use crate::Cached;
 /// that this match may be kept has not passed.
 pub fn unsafe_hashes_were_told()
     ensures { (steps : List Step) (now : Moment) (pair : Pair) (hash : FullHash)
-        → answer_of (after_steps [] steps) now pair hash ≡ Cached.Unsafe
+        → cached_of (after_steps [] steps) now pair hash ≡ Cached.Unsafe
         → IsToldAfter steps now pair hash }
 {}
 
@@ -22,6 +22,6 @@ pub fn unsafe_hashes_were_told()
 pub fn safe_hashes_were_not_returned()
     ensures { (steps : List Step) (now : Moment) (pair : Pair) (hash : FullHash)
         → take (length pair.prefix) hash.bytes ≡ pair.prefix
-        → answer_of (after_steps [] steps) now pair hash ≡ Cached.Safe
+        → cached_of (after_steps [] steps) now pair hash ≡ Cached.Safe
         → IsNotReturned steps now pair hash }
 {}

@@ -26,6 +26,6 @@ meaning number =
     else OfTheDoor
 
 -- Any other error, and one without a number, is the door's.
-abbrev pub meaning_of : Option ℕ → AcceptFault
-meaning_of (Some number) = meaning number
-meaning_of None = OfTheDoor
+abbrev pub accept_fault_of : Option ℕ → AcceptFault
+accept_fault_of (Some number) = meaning number
+accept_fault_of None = OfTheDoor

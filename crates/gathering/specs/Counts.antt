@@ -36,8 +36,8 @@ abbrev pub share_of : Taken → Address → ℕ
 share_of taken address = count_of address_cmp taken address
 
 -- the list with so many milliseconds more of an address
-abbrev pub with_more : Taken → Address → (millis : ℕ) → Taken
-with_more taken address millis = with_count address_cmp taken address (moment (share_of taken address + millis))
+abbrev pub with_millis_more : Taken → Address → (millis : ℕ) → Taken
+with_millis_more taken address millis = with_count address_cmp taken address (moment (share_of taken address + millis))
 
 -- how many addresses are kept
 abbrev pub most_shares : ℕ
@@ -60,8 +60,8 @@ pub record LostLeast (taken kept : Taken) : Type 0 where
   pub least : TookLeast taken address
   pub without : kept ≡ without_key address_cmp taken address
 
-abbrev pub IsKept : Taken → Taken → Type 0
-IsKept taken kept = ((length taken ≤ most_shares) × (kept ≡ taken)) ⊎ ((most_shares < length taken) × LostLeast taken kept)
+abbrev pub IsTakenKept : Taken → Taken → Type 0
+IsTakenKept taken kept = ((length taken ≤ most_shares) × (kept ≡ taken)) ⊎ ((most_shares < length taken) × LostLeast taken kept)
 
 -- After some minutes, at most 63, each has half as much for each minute, and those that come to nothing are gone.
 abbrev pub halved : (minutes : ℕ) → Taken → Taken

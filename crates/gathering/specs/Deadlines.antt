@@ -26,5 +26,5 @@ has_passed (Some due) now = nat_le due now
 has_passed None now = false
 
 -- How much of a stretch between two looks at the clock counts, in nanoseconds: at most a second.
-abbrev pub counted : (stretch : ℕ) → ℕ
-counted stretch = min stretch 1000000000
+abbrev pub counted_stretch : (stretch : ℕ) → ℕ
+counted_stretch stretch = min stretch 1000000000

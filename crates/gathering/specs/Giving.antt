@@ -19,17 +19,17 @@ pub record Standing : Type 0 where
   pub due : List (Place × ℕ)
 
 -- the first of a row
-abbrev pub first : List (Place × ℕ) → Option ℕ
-first [] = None
-first (one ∷ others) = Some one.1
+abbrev pub first_place : List (Place × ℕ) → Option ℕ
+first_place [] = None
+first_place (one ∷ others) = Some one.1
 
 -- Where so many bytes of answers wait: whose answer is cut next, until they are within their sum.
 abbrev pub cut_next : DoorLimits → (waiting : ℕ) → Standing → Option ℕ
-cut_next limits waiting rows = if nat_le waiting limits.answer_bytes then None else first rows.sending
+cut_next limits waiting rows = if nat_le waiting limits.answer_bytes then None else first_place rows.sending
 
 -- Where so many bytes are gathered, and so many come: who gives way to them next, until all are within their sum.
 abbrev pub drop_next : DoorLimits → (gathered more : ℕ) → Standing → Option ℕ
-drop_next limits gathered more rows = if nat_le (moment (gathered + more)) limits.gathered_bytes then None else first rows.gathering
+drop_next limits gathered more rows = if nat_le (moment (gathered + more)) limits.gathered_bytes then None else first_place rows.gathering
 
 -- when the time of some connection is up first, and of which
 abbrev pub first_due : List (Place × ℕ) → Option (ℕ × ℕ)
@@ -52,8 +52,8 @@ place at serial = record { at = at; serial = serial }
 abbrev pub put : List (Place × ℕ) → Place → ℕ → List (Place × ℕ)
 put row at slot = insert_entry place_cmp row at slot
 
-abbrev pub without : List (Place × ℕ) → Place → List (Place × ℕ)
-without row at = remove_entry (is_at (place_cmp at)) row
+abbrev pub without_place : List (Place × ℕ) → Place → List (Place × ℕ)
+without_place row at = remove_entry (is_at (place_cmp at)) row
 
 -- The rows with a connection in that of its phase: gathering by when it began, sent an answer by when a byte of it was last
 -- taken. In another phase it stands in none.
@@ -79,14 +79,14 @@ IsHalfEntered phase serial slot rows rows' = (rows' ≡ rows) ⊎ (rows' ≡ wit
 
 -- The rows without a connection in that of its phase, and without it among all.
 abbrev pub without_its_phase : Phase → (serial : ℕ) → Standing → Standing
-without_its_phase (Gathering since) serial rows = record rows { gathering = without rows.gathering (place since serial) }
+without_its_phase (Gathering since) serial rows = record rows { gathering = without_place rows.gathering (place since serial) }
 without_its_phase (Decided since) serial rows = rows
 without_its_phase InTurn serial rows = rows
-without_its_phase (Sending since last taken ended) serial rows = record rows { sending = without rows.sending (place last serial) }
+without_its_phase (Sending since last taken ended) serial rows = record rows { sending = without_place rows.sending (place last serial) }
 without_its_phase (Past since read) serial rows = rows
 
 abbrev pub without_its_time : Option ℕ → (serial : ℕ) → Standing → Standing
-without_its_time (Some at) serial rows = record rows { due = without rows.due (place at serial) }
+without_its_time (Some at) serial rows = record rows { due = without_place rows.due (place at serial) }
 without_its_time None serial rows = rows
 
 -- the rows once a connection has left

@@ -1,7 +1,7 @@
 -- What waits to be sent, and the wire that is handed out, as contracts see them.
 use Rattle.std.specs.Prelude.{◌≡◌, ℕ, zero, suc, ◌+◌, ◌<◌, ◌⊎◌, Option, Some, None, Bool, true, List, [], ◌∷◌, ◌++◌, length, drop}
 use Rattle.std.specs.List.{All, concat}
-use Rattle.sb_outside.specs.Connections.{pieces_of}
+use Rattle.sb_outside.specs.Connections.{pieces_of_wire}
 use Rattle.http_edge.specs.Deciding.{IsDecided}
 use Rattle.gathering.specs.declared.phases.Ending.{Ending}
 use Rattle.gathering.specs.declared.phases.Ending.TheVariants.{Fault}
@@ -12,27 +12,27 @@ pub record Waiting : Type 0 where
   pub rest : List ℕ
 
 -- all these bytes, in order
-abbrev pub bytes_of : Waiting → List ℕ
-bytes_of waiting = waiting.front ++ waiting.rest
+abbrev pub bytes_waiting : Waiting → List ℕ
+bytes_waiting waiting = waiting.front ++ waiting.rest
 
 -- nothing waits
 abbrev pub nothing : Waiting
 nothing = record { front = []; rest = [] }
 
 -- the first of the pieces, of which the last is kept apart, and the bytes after it
-abbrev pub first_piece : List (List ℕ) → List ℕ → List ℕ
-first_piece [] last = last
-first_piece (piece ∷ pieces) last = piece
+abbrev pub first_of_pieces : List (List ℕ) → List ℕ → List ℕ
+first_of_pieces [] last = last
+first_of_pieces (piece ∷ pieces) last = piece
 
-abbrev pub after_first : List (List ℕ) → List ℕ → List ℕ
-after_first [] last = []
-after_first (piece ∷ pieces) last = concat pieces ++ last
+abbrev pub pieces_after_first : List (List ℕ) → List ℕ → List ℕ
+pieces_after_first [] last = []
+pieces_after_first (piece ∷ pieces) last = concat pieces ++ last
 
 -- Some of the first piece is not sent, unless nothing waits, each other piece has a byte, and so many bytes wait.
 pub record IsOutgoing (full : List (List ℕ)) (last : List ℕ) (sent left : ℕ) : Type 0 where
-  pub going : (sent ≡ 0) ⊎ (sent < length (first_piece full last))
+  pub going : (sent ≡ 0) ⊎ (sent < length (first_of_pieces full last))
   pub filled : All (λ piece. 0 < length piece) full
-  pub count : left ≡ length (drop sent (first_piece full last) ++ after_first full last)
+  pub count : left ≡ length (drop sent (first_of_pieces full last) ++ pieces_after_first full last)
 
 -- An answer that leaves: what is left of its own bytes before the text that it shares, of that text, and of its own bytes behind it;
 -- how many bytes are sent next; and the number and the length of that text, where it holds one.
@@ -56,13 +56,13 @@ abbrev pub own_left : Leaving → ℕ
 own_left answer = length answer.before + length answer.behind
 
 -- a text of this length is held, whatever its number
-abbrev pub Holds : Option (ℕ × ℕ) → ℕ → Type 0
-Holds held size = (number : ℕ) × (held ≡ Some (number, size))
+abbrev pub HoldsSize : Option (ℕ × ℕ) → ℕ → Type 0
+HoldsSize held size = (number : ℕ) × (held ≡ Some (number, size))
 
 -- the bytes of a text, where there is one
-abbrev pub text_of : Option (List ℕ) → List ℕ
-text_of None = []
-text_of (Some text) = text
+abbrev pub bytes_of_text : Option (List ℕ) → List ℕ
+bytes_of_text None = []
+bytes_of_text (Some text) = text
 
 -- its number and its length
 abbrev pub held_of : ℕ → Option (List ℕ) → Option (ℕ × ℕ)
@@ -78,9 +78,9 @@ first_length (suc a) b c = suc a
 -- own bytes, then what is left of a text, then own bytes
 abbrev pub leaving : Waiting → List ℕ → Waiting → Option (ℕ × ℕ) → Leaving
 leaving head shared tail held = record {
-  before = bytes_of head;
+  before = bytes_waiting head;
   text = shared;
-  behind = bytes_of tail;
+  behind = bytes_waiting tail;
   front = first_length (length head.front) (length shared) (length tail.front);
   held = held;
 }
@@ -105,7 +105,7 @@ pub record WireInHand : Type 0 where
 -- A wire of this number as the door hands it out: all its bytes are to come, and nothing is written or counted.
 pub record IsFreshWire (number : ℕ) (wire : WireInHand) : Type 0 where
   pub numbered : wire.number ≡ number
-  pub whole : wire.left ≡ pieces_of wire.sends
+  pub whole : wire.left ≡ pieces_of_wire wire.sends
   pub unwritten : wire.written ≡ []
   pub read_faults : wire.read_faults ≡ 0
   pub write_faults : wire.write_faults ≡ 0

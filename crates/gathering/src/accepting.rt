@@ -1,5 +1,5 @@
 ghost use Rattle.std.specs.Prelude.{◌≡◌};
-ghost use Rattle.gathering.specs.Accepting.{meaning, meaning_of};
+ghost use Rattle.gathering.specs.Accepting.{meaning, accept_fault_of};
 
 /// What an error of `accept` says.
 #[derive(Clone, Copy, Debug, PartialEq, Eq, Hash)]
@@ -42,7 +42,7 @@ fn fault_of(number: u32) -> AcceptFault
 
 /// What an error of `accept` says, by its number on Linux (accept(2), errno(3)). An error without one is the door's.
 pub fn accept_fault(number: Option<u32>) -> AcceptFault
-    ensures { result ≡ meaning_of number }
+    ensures { result ≡ accept_fault_of number }
 {
     match number {
         Some(number) => fault_of(number),

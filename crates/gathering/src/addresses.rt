@@ -1,5 +1,5 @@
 ghost use Rattle.std.specs.Prelude.{◌≡◌};
-ghost use Rattle.gathering.specs.Addresses.{IsAddressOf, number_of};
+ghost use Rattle.gathering.specs.Addresses.{IsAddressOfIp, number_of_ip};
 
 use std::net::IpAddr;
 
@@ -19,7 +19,7 @@ const REST: u128 = 0x1_0000_0000_0000_0000;
 
 /// The number of an address that is no mapped one.
 fn number_of(ip: IpAddr) -> u128
-    ensures { result ≡ number_of ip }
+    ensures { result ≡ number_of_ip ip }
 {
     match ip {
         IpAddr::V4(four) => MAPPED + u128::from(four.to_bits()),
@@ -29,7 +29,7 @@ fn number_of(ip: IpAddr) -> u128
 
 /// From whom a connection of this address comes.
 pub fn address_of(ip: IpAddr) -> Address
-    ensures { IsAddressOf ip result }
+    ensures { IsAddressOfIp ip result }
 {
     Address {
         bits: number_of(ip.to_canonical()),

@@ -1,6 +1,6 @@
 ghost use Rattle.std.specs.Prelude.{◌≡◌, ◌+◌, ◌-◌, ◌≤◌, [], ◌++◌, length, take, drop, true, false, None, IfOk, OnErr, ◌↔◌, IsTrue};
 ghost use Rattle.gathering.specs.Deadlines.{moment};
-ghost use Rattle.gathering.specs.Wires.{all_left, own_left, nothing_leaves, text_of, Holds};
+ghost use Rattle.gathering.specs.Wires.{all_left, own_left, nothing_leaves, bytes_of_text, HoldsSize};
 
 use crate::own_bytes::OwnBytes;
 use sb_model::OutOfMemory;
@@ -28,19 +28,19 @@ pub struct Outgoing {
 
 impl Model for Outgoing {
     ghost use Rattle.std.specs.Prelude.{◌≡◌, ◌≤◌, [], None, drop, length};
-    ghost use Rattle.gathering.specs.Wires.{Leaving, leaving, bytes_of, text_of, held_of};
+    ghost use Rattle.gathering.specs.Wires.{Leaving, leaving, bytes_waiting, bytes_of_text, held_of};
 
     ghost Value = { Leaving };
 
-    ghost view = { λ o. leaving o.head (drop o.sent (text_of o.shared)) o.tail (held_of o.number o.shared) };
+    ghost view = { λ o. leaving o.head (drop o.sent (bytes_of_text o.shared)) o.tail (held_of o.number o.shared) };
 
-    ghost invariant = { λ o. (o.sent ≤ length (text_of o.shared)) × (o.shared ≡ None → bytes_of o.head ≡ []) };
+    ghost invariant = { λ o. (o.sent ≤ length (bytes_of_text o.shared)) × (o.shared ≡ None → bytes_waiting o.head ≡ []) };
 }
 
 /// What of a text is left after so many bytes.
 fn rest_of(shared: &Option<SharedText>, sent: usize) -> &[u8]
-    requires { sent ≤ length (text_of shared.now) }
-    ensures { result.now ≡ drop sent (text_of shared.now) }
+    requires { sent ≤ length (bytes_of_text shared.now) }
+    ensures { result.now ≡ drop sent (bytes_of_text shared.now) }
 {
     match shared {
         Some(text) => &text.as_slice()[sent..],
@@ -50,7 +50,7 @@ fn rest_of(shared: &Option<SharedText>, sent: usize) -> &[u8]
 
 /// How many bytes a text has.
 fn length_of(shared: &Option<SharedText>) -> usize
-    ensures { result ≡ length (text_of shared.now) }
+    ensures { result ≡ length (bytes_of_text shared.now) }
 {
     match shared {
         Some(text) => text.as_slice().len(),
@@ -120,7 +120,7 @@ impl Outgoing {
         ensures takes { IfOk result (λ took. IsTrue took ↔ self.old.held ≡ None) }
         ensures taken { IfOk result (λ took. took ≡ true → all_left self.new ≡ all_left self.old ++ text.now) }
         ensures own { IfOk result (λ took. took ≡ true → own_left self.new ≡ own_left self.old) }
-        ensures held { IfOk result (λ took. took ≡ true → Holds self.new.held (length text.now)) }
+        ensures held { IfOk result (λ took. took ≡ true → HoldsSize self.new.held (length text.now)) }
         ensures not { IfOk result (λ took. took ≡ false → self.new ≡ self.old) }
         ensures err { OnErr result (self.new ≡ self.old) }
     {

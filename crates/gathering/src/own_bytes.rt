@@ -1,5 +1,5 @@
 ghost use Rattle.std.specs.Prelude.{◌≡◌, ◌<◌, ◌≤◌, [], ◌++◌, length, take, drop, IfOk, OnOk, OnErr, All};
-ghost use Rattle.gathering.specs.Wires.{bytes_of, nothing, first_piece, after_first};
+ghost use Rattle.gathering.specs.Wires.{bytes_waiting, nothing, first_of_pieces, pieces_after_first};
 
 use sb_model::{Bytes, OutOfMemory};
 use std::alloc::Global;
@@ -26,13 +26,13 @@ pub(crate) struct OwnBytes {
 
 impl Model for OwnBytes {
     ghost use Rattle.std.specs.Prelude.{drop};
-    ghost use Rattle.gathering.specs.Wires.{Waiting, first_piece, after_first, IsOutgoing};
+    ghost use Rattle.gathering.specs.Wires.{Waiting, first_of_pieces, pieces_after_first, IsOutgoing};
 
     ghost Value = { Waiting };
 
     ghost view = { λ o. record {
-      front = drop o.sent (first_piece o.full.items o.last);
-      rest = after_first o.full.items o.last;
+      front = drop o.sent (first_of_pieces o.full.items o.last);
+      rest = pieces_after_first o.full.items o.last;
     } };
 
     ghost invariant = { λ o. IsOutgoing o.full.items o.last o.sent o.left };
@@ -41,8 +41,8 @@ impl Model for OwnBytes {
 /// Puts the last piece to the others, where it is full, and begins another. Where memory is refused, both stay.
 fn seal(alloc: Global, full: &mut VecDeque<Bytes>, last: &mut Bytes) -> Result<(), OutOfMemory>
     ensures room { OnOk result (length last.new < PIECE) }
-    ensures first { first_piece full.new.items last.new ≡ first_piece full.old.items last.old }
-    ensures rest { after_first full.new.items last.new ≡ after_first full.old.items last.old }
+    ensures first { first_of_pieces full.new.items last.new ≡ first_of_pieces full.old.items last.old }
+    ensures rest { pieces_after_first full.new.items last.new ≡ pieces_after_first full.old.items last.old }
     ensures filled { All (λ piece. 0 < length piece) full.old.items → All (λ piece. 0 < length piece) full.new.items }
 {
     if last.len() < PIECE {
@@ -56,7 +56,7 @@ fn seal(alloc: Global, full: &mut VecDeque<Bytes>, last: &mut Bytes) -> Result<(
 
 /// How many bytes the first piece has.
 fn first_len(full: &VecDeque<Bytes>, last: &Bytes) -> usize
-    ensures { result ≡ length (first_piece full.now.items last.now) }
+    ensures { result ≡ length (first_of_pieces full.now.items last.now) }
 {
     match full.front() {
         Some(first) => first.len(),
@@ -67,7 +67,7 @@ fn first_len(full: &VecDeque<Bytes>, last: &Bytes) -> usize
 /// Frees the first piece.
 fn free_first(alloc: Global, full: &mut VecDeque<Bytes>, last: &mut Bytes)
     requires filled { All (λ piece. 0 < length piece) full.old.items }
-    ensures bytes { first_piece full.new.items last.new ++ after_first full.new.items last.new ≡ after_first full.old.items last.old }
+    ensures bytes { first_of_pieces full.new.items last.new ++ pieces_after_first full.new.items last.new ≡ pieces_after_first full.old.items last.old }
     ensures filled { All (λ piece. 0 < length piece) full.new.items }
 {
     if full.pop_front().is_none() {
@@ -91,7 +91,7 @@ impl OwnBytes {
 
     /// How many bytes are left to send.
     pub(crate) fn len(&self) -> usize
-        ensures { result ≡ length (bytes_of self.now) }
+        ensures { result ≡ length (bytes_waiting self.now) }
     {
         self.left
     }
@@ -101,8 +101,8 @@ impl OwnBytes {
     pub(crate) fn put(&mut self, piece: &[u8]) -> Result<usize, OutOfMemory>
         ensures within { IfOk result (λ n. n ≤ length piece.now) }
         ensures some { IfOk result (λ n. n ≡ 0 → piece.now ≡ []) }
-        ensures ok { IfOk result (λ n. bytes_of self.new ≡ bytes_of self.old ++ take n piece.now) }
-        ensures err { OnErr result (bytes_of self.new ≡ bytes_of self.old) }
+        ensures ok { IfOk result (λ n. bytes_waiting self.new ≡ bytes_waiting self.old ++ take n piece.now) }
+        ensures err { OnErr result (bytes_waiting self.new ≡ bytes_waiting self.old) }
     {
         seal(self.alloc, &mut self.full, &mut self.last)?;
         let count = piece.len().min(PIECE - self.last.len());
@@ -128,7 +128,7 @@ impl OwnBytes {
     /// Says that so many bytes of the front are sent.
     pub(crate) fn advance(&mut self, count: usize)
         requires { count ≤ length self.old.front }
-        ensures { bytes_of self.new ≡ drop count (bytes_of self.old) }
+        ensures { bytes_waiting self.new ≡ drop count (bytes_waiting self.old) }
     {
         self.left -= count;
         let size = first_len(&self.full, &self.last);

@@ -1,5 +1,5 @@
 ghost use Rattle.std.specs.Prelude.{◌≡◌, [], OnOk, OnErr};
-ghost use Rattle.gathering.specs.Giving.{first, first_due, cut_next, drop_next, place, put, without, with_its_phase, without_its_phase, entered, left, IsRow, IsHalfEntered};
+ghost use Rattle.gathering.specs.Giving.{first_place, first_due, cut_next, drop_next, place, put, without_place, with_its_phase, without_its_phase, entered, left, IsRow, IsHalfEntered};
 
 use crate::phases::due_at;
 use crate::{DoorLimits, Phase};
@@ -40,7 +40,7 @@ impl Model for Rows {
 
 /// The slot at the first place of a row.
 fn first_of(row: &BTreeMap<Place, usize>) -> Option<usize>
-    ensures { result ≡ first row.now.entries }
+    ensures { result ≡ first_place row.now.entries }
 {
     match row.first_key_value() {
         Some((_, slot)) => Some(*slot),
@@ -67,7 +67,7 @@ fn put_in(
 
 /// Takes what stands at a place out of a row.
 fn take_out(row: &mut BTreeMap<Place, usize>, at: u64, serial: u64)
-    ensures without { row.new.entries ≡ without row.old.entries (place at serial) }
+    ensures without { row.new.entries ≡ without_place row.old.entries (place at serial) }
     ensures ordered { IsRow row.new.entries }
 {
     row.remove(&Place { at, serial });
@@ -109,7 +109,7 @@ impl Rows {
 
     /// The connection that has gathered longest.
     pub fn first_gathering(&self) -> Option<usize>
-        ensures first { result ≡ first self.now.gathering }
+        ensures first { result ≡ first_place self.now.gathering }
         ensures longest { IsRow self.now.gathering }
     {
         first_of(&self.gathering)
@@ -117,7 +117,7 @@ impl Rows {
 
     /// The connection whose answer has had no byte taken for longest.
     pub fn first_sending(&self) -> Option<usize>
-        ensures first { result ≡ first self.now.sending }
+        ensures first { result ≡ first_place self.now.sending }
         ensures longest { IsRow self.now.sending }
     {
         first_of(&self.sending)

@@ -1,6 +1,6 @@
 ghost use Rattle.std.specs.Prelude.{◌≡◌, ◌+◌, ◌<◌, ◌≤◌, [], length, min, IfSome, IfNone, OnOk, OnErr};
 ghost use Rattle.gathering.specs.Addresses.{address_cmp};
-ghost use Rattle.gathering.specs.Counts.{share_of, with_more, halved, lesser, most_shares, with_count, IsKept, TookLeast};
+ghost use Rattle.gathering.specs.Counts.{share_of, with_millis_more, halved, lesser, most_shares, with_count, IsTakenKept, TookLeast};
 
 use crate::Address;
 use sb_model::OutOfMemory;
@@ -72,7 +72,7 @@ fn put_in(
 
 /// Takes one that took least out of a list that is too long.
 fn keep_most(taken: &mut BTreeMap<Address, u64>)
-    ensures kept { IsKept taken.old.entries taken.new.entries }
+    ensures kept { IsTakenKept taken.old.entries taken.new.entries }
     ensures most { length taken.old.entries ≤ most_shares + 1 → length taken.new.entries ≤ most_shares }
 {
     if taken.len() <= MOST {
@@ -106,7 +106,7 @@ impl Shares {
     /// An answer of an address took so long. Where memory is refused, all stays.
     pub fn add(&mut self, address: Address, millis: u64) -> Result<(), OutOfMemory>
         ensures nothing { millis ≡ 0 → self.new ≡ self.old }
-        ensures ok { OnOk result (0 < millis → IsKept (with_more self.old address millis) self.new) }
+        ensures ok { OnOk result (0 < millis → IsTakenKept (with_millis_more self.old address millis) self.new) }
         ensures err { OnErr result (self.new ≡ self.old) }
     {
         if millis == 0 {

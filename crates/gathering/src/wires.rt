@@ -1,7 +1,7 @@
 ghost use Rattle.std.specs.Prelude.{◌≡◌, ℕ, ◌≤◌, ◌<◌, ◌↔◌, min, List, [], ◌++◌, length, take, Some, None, IsErr, IfSome, IfNone, IsSome, IfOk, OnOk, OnErr};
 ghost use Rattle.http_edge.specs.Requests.{NeedsMore};
 ghost use Rattle.sb_outside.specs.Outside.{Rose, GivesFront, AnswersEnd, raised, next_piece, appended};
-ghost use Rattle.sb_outside.specs.Connections.{pieces_of};
+ghost use Rattle.sb_outside.specs.Connections.{pieces_of_wire};
 ghost use Rattle.gathering.specs.Wires.{WireInHand, all_left, IsFreshWire, HasItsTurn};
 
 use crate::{Ending, Gathered, Outgoing};
@@ -31,7 +31,7 @@ pub struct GatheredWire {
 
 impl Model for GatheredWire {
     ghost use Rattle.std.specs.Prelude.{◌≡◌, ◌≤◌, [], drop, length, true, if◌then◌else◌};
-    ghost use Rattle.sb_outside.specs.Connections.{pieces_of};
+    ghost use Rattle.sb_outside.specs.Connections.{pieces_of_wire};
     ghost use Rattle.gathering.specs.Wires.{WireInHand, all_left};
     ghost use Rattle.gathering.specs.declared.phases.Ending.{Ending};
 
@@ -43,7 +43,7 @@ impl Model for GatheredWire {
       serial = s.serial;
       sends = s.gathered;
       ended = s.ended;
-      left = (if s.has_ended then [] else pieces_of (drop s.given s.gathered));
+      left = (if s.has_ended then [] else pieces_of_wire (drop s.given s.gathered));
       ending = s.ending;
       written = all_left s.written;
       read_faults = s.read_faults;
@@ -80,7 +80,7 @@ impl GatheredWire {
           serial = serial;
           sends = gathered;
           ended = ended;
-          left = pieces_of gathered;
+          left = pieces_of_wire gathered;
           ending = ending;
           written = [];
           read_faults = 0;
@@ -163,7 +163,7 @@ impl Source for GatheredWire {
 
     ghost back = { λ s. record {
       number = s.number;
-      start = Some (pieces_of s.sends);
+      start = Some (pieces_of_wire s.sends);
       contents = Some s.written;
       faults = s.write_faults;
     } };
@@ -217,7 +217,7 @@ impl Sink for GatheredWire {
 
     ghost front = { λ s. record {
       number = s.number;
-      start = Some (pieces_of s.sends);
+      start = Some (pieces_of_wire s.sends);
       left = Some s.left;
       faults = s.read_faults;
     } };
@@ -247,11 +247,11 @@ impl Sink for GatheredWire {
 
 impl Wire for GatheredWire {
     ghost use Rattle.std.specs.Prelude.{Some, refl};
-    ghost use Rattle.sb_outside.specs.Connections.{pieces_of};
+    ghost use Rattle.sb_outside.specs.Connections.{pieces_of_wire};
 
     ghost number = { λ s. s.number };
 
-    ghost start = { λ s. Some (pieces_of s.sends) };
+    ghost start = { λ s. Some (pieces_of_wire s.sends) };
 
     ghost back_is = { λ _. refl };
 

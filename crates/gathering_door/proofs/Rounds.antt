@@ -6,8 +6,8 @@ use Rattle.slab.specs.Slab.{Slab, get, with_value, Updates}
 use Rattle.slab.proofs.SlabLemmas.{Updates-with_value}
 use Rattle.gathering.specs.declared.phases.Phase.TheVariants.{InTurn}
 use Rattle.gathering.specs.Wires.{WireInHand}
-use Rattle.gathering_door.specs.Guests.{left_of, IsRest, IsServed, IsSettled, StandsFor, HasTurnBy}
-use Rattle.gathering_door.specs.Houses.{Answers, HandsOut, IsOut, OnlyCloses, OnlyClosesOthers, Settles, TakesBack, WorksFor, WorksForAll}
+use Rattle.gathering_door.specs.Guests.{left_of, IsRest, IsServedGuest, IsSettled, StandsForGuest, HasTurnBy}
+use Rattle.gathering_door.specs.Houses.{BeginsAnswer, HandsOut, IsOut, OnlyCloses, OnlyClosesOthers, Settles, TakesBack, WorksFor, WorksForAll}
 use Rattle.gathering_door.specs.declared.guests.Guest.{Guest}
 use Rattle.gathering_door.proofs.Served.{rest_of_rest, settled_served, served_twice, served_same}
 
@@ -49,7 +49,7 @@ pub works_settles : (before between after : Slab Guest) (slot : ℕ) → WorksFo
 works_settles before between after slot works settles = works_twice before between after slot works (settles_works between after slot settles)
 
 still_served : (before between after : Slab Guest) (slot other : ℕ) (guest : Guest) → WorksForAll before between → WorksFor between after slot → get after other ≡ Some guest
-    → (other ≡ slot) ⊎ (other ≢ slot) → (was : Guest) × (get before other ≡ Some was) × IsServed was guest
+    → (other ≡ slot) ⊎ (other ≢ slot) → (was : Guest) × (get before other ≡ Some was) × IsServedGuest was guest
 still_served before between after slot other guest all works there (inl same) =
     let mid = works.own guest (ap (λ k. get after k) (sym same) ∙ there) in
     let old = all.own other mid.0 (ap (λ k. get between k) same ∙ mid.1) in
@@ -72,7 +72,7 @@ out_before before between wire closes out = record { guest = out.guest; there = 
 
 -- the connection of a wire that was handed out has its turn by it
 pub out_if : (mid : Slab Guest) (slot : ℕ) (guest turned : Guest) (found : Option WireInHand) → get mid slot ≡ Some guest → turned.serial ≡ guest.serial → turned.phase ≡ InTurn
-    → IfSome found (λ wire. wire.slot ≡ slot) → IfSome found (λ wire. StandsFor wire guest) → IfSome found (λ wire. IsOut (with_value mid slot turned) wire)
+    → IfSome found (λ wire. wire.slot ≡ slot) → IfSome found (λ wire. StandsForGuest wire guest) → IfSome found (λ wire. IsOut (with_value mid slot turned) wire)
 out_if mid slot guest turned None there serial phase at stands = tt
 out_if mid slot guest turned (Some wire) there serial phase at stands = record {
   guest = turned;
@@ -90,9 +90,9 @@ written_others : (before : Slab Guest) (slot : ℕ) (was now : Guest) → get be
 written_others before slot was now there =
     record { was = λ other differs guest found. sym ((Updates-with_value before slot now (rw there (search rules))).others other differs) ∙ found }
 
-written_works : (before : Slab Guest) (slot : ℕ) (was now : Guest) → get before slot ≡ Some was → IsServed was now → WorksFor before (with_value before slot now) slot
+written_works : (before : Slab Guest) (slot : ℕ) (was now : Guest) → get before slot ≡ Some was → IsServedGuest was now → WorksFor before (with_value before slot now) slot
 written_works before slot was now there served = record {
-  own = λ guest found. (was, there, subst (λ (g : Guest). IsServed was g) (sym (written_there before slot was now guest there found)) served);
+  own = λ guest found. (was, there, subst (λ (g : Guest). IsServedGuest was g) (sym (written_there before slot was now guest there found)) served);
   others = written_others before slot was now there;
 }
 
@@ -103,7 +103,7 @@ heard_works before between after slot was now there settled works settles =
     works_settles before between after slot (works_twice before (with_value before slot now) between slot (written_works before slot was now there (settled_served was now settled)) works) settles
 
 -- an answer is sent to a connection, and it goes on
-pub sent_works : (before after : Slab Guest) (slot : ℕ) (was now : Guest) → get before slot ≡ Some was → IsServed was now → Settles (with_value before slot now) after slot → WorksFor before after slot
+pub sent_works : (before after : Slab Guest) (slot : ℕ) (was now : Guest) → get before slot ≡ Some was → IsServedGuest was now → Settles (with_value before slot now) after slot → WorksFor before after slot
 sent_works before after slot was now there served settles =
     works_settles before (with_value before slot now) after slot (written_works before slot was now there served) settles
 
@@ -112,7 +112,7 @@ begun : (was now guest : Guest) (answer : List ℕ) → now.serial ≡ was.seria
 begun was now guest answer serial left settled = (settled.serial ∙ serial, rw (← left) (settled_served now guest settled).answer)
 
 pub answer_begins : (before after : Slab Guest) (slot : ℕ) (was now : Guest) (answer : List ℕ) → get before slot ≡ Some was → now.serial ≡ was.serial → left_of now.answer ≡ answer
-    → Settles (with_value before slot now) after slot → Answers before after slot answer
+    → Settles (with_value before slot now) after slot → BeginsAnswer before after slot answer
 answer_begins before after slot was now answer there serial left settles = record {
   own = λ guest found.
       let mid = settles.own guest found in
@@ -127,7 +127,7 @@ noted_works before after slot was now there settled works =
     works_twice before (with_value before slot now) after slot (written_works before slot was now there (settled_served was now settled)) works
 
 -- an answer begins, the connection is worked for, and some are closed
-pub answer_sent : (before begins works after : Slab Guest) (slot : ℕ) (answer : List ℕ) → Answers before begins slot answer → WorksFor begins works slot → OnlyCloses works after → Answers before after slot answer
+pub answer_sent : (before begins works after : Slab Guest) (slot : ℕ) (answer : List ℕ) → BeginsAnswer before begins slot answer → WorksFor begins works slot → OnlyCloses works after → BeginsAnswer before after slot answer
 answer_sent before begins works after slot answer begun worked closes = record {
   own = λ guest found.
       let mid = worked.own guest (closes.was slot guest found) in
@@ -144,14 +144,14 @@ turn_by wire found was turn same =
     record { serial = both.0; phase = both.1 }
 
 pub taken_back : (before ended after : Slab Guest) (wire : WireInHand) (slot serial : ℕ) (answer : List ℕ) → slot ≡ wire.slot → serial ≡ wire.serial
-    → IsSomeAnd (get before slot) (λ (g : Guest). (g.serial ≡ serial) × (g.phase ≡ InTurn)) → Settles before ended slot → Answers ended after slot answer → answer ≡ wire.written → TakesBack before after wire
+    → IsSomeAnd (get before slot) (λ (g : Guest). (g.serial ≡ serial) × (g.phase ≡ InTurn)) → Settles before ended slot → BeginsAnswer ended after slot answer → answer ≡ wire.written → TakesBack before after wire
 taken_back before ended after wire slot serial answer at number turn ends begun same =
     let there : IsSomeAnd (get before wire.slot) (λ (g : Guest). (g.serial ≡ serial) × (g.phase ≡ InTurn)) =
     subst (λ (s : ℕ). IsSomeAnd (get before s) (λ (g : Guest). (g.serial ≡ serial) × (g.phase ≡ InTurn))) at turn in
     let numbered : IsSomeAnd (get before wire.slot) (λ (g : Guest). (g.serial ≡ wire.serial) × (g.phase ≡ InTurn)) =
     subst (λ (n : ℕ). IsSomeAnd (get before wire.slot) (λ (g : Guest). (g.serial ≡ n) × (g.phase ≡ InTurn))) number there in
     let ended_there = subst (λ (s : ℕ). Settles before ended s) at ends in
-    let begun_there = subst (λ (s : ℕ). Answers ended after s answer) at begun in
+    let begun_there = subst (λ (s : ℕ). BeginsAnswer ended after s answer) at begun in
     record {
       own = λ guest found.
           let mid = begun_there.own guest found in

@@ -3,13 +3,13 @@ use Rattle.std.proofs.Common.{◌≡◌, ℕ, ◌+◌, ◌≤◌, List, length, 
 use Rattle.std.proofs.lemmas.List.{drop-drop}
 use Rattle.gathering.specs.Deadlines.{moment}
 use Rattle.gathering.specs.declared.steps.Sent.TheVariants.{Taken, Fault}
-use Rattle.gathering_door.specs.Guests.{IsSent}
+use Rattle.gathering_door.specs.Guests.{IsLeftAfterTry}
 
-pub nothing_sent : (whole : List ℕ) → IsSent whole whole (Taken 0)
+pub nothing_sent : (whole : List ℕ) → IsLeftAfterTry whole whole (Taken 0)
 nothing_sent whole = record { count = 0; within = omega arith; rest = refl; said = refl }
 
-pub more_sent : (before between after : List ℕ) (taken more sum : ℕ) → IsSent before between (Taken taken) → more ≤ length between → after ≡ drop more between → sum ≡ moment (taken + more)
-    → IsSent before after (Taken sum)
+pub more_sent : (before between after : List ℕ) (taken more sum : ℕ) → IsLeftAfterTry before between (Taken taken) → more ≤ length between → after ≡ drop more between → sum ≡ moment (taken + more)
+    → IsLeftAfterTry before after (Taken sum)
 more_sent before between after taken more sum sent within rest said = record {
   count = sent.count + more;
   within = omega (arith, ap length sent.rest, length-drop sent.count before);
@@ -17,5 +17,5 @@ more_sent before between after taken more sum sent within rest said = record {
   said = omega (arith, said, sent.said);
 }
 
-pub sent_till_fault : (before after : List ℕ) (taken : ℕ) → IsSent before after (Taken taken) → IsSent before after Fault
+pub sent_till_fault : (before after : List ℕ) (taken : ℕ) → IsLeftAfterTry before after (Taken taken) → IsLeftAfterTry before after Fault
 sent_till_fault before after taken sent = record { count = sent.count; within = sent.within; rest = sent.rest; said = tt }

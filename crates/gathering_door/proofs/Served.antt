@@ -2,7 +2,7 @@
 use Rattle.std.proofs.Common.{◌≡◌, ◌⊎◌, inl, inr, ℕ, ◌+◌, List, [], ◌++◌, length, drop, Option, Some, None, refl, sym, ap, ◌∙◌, append_assoc, arith}
 use Rattle.std.proofs.lemmas.List.{append-nil, drop-drop, drop_all}
 use Rattle.gathering.specs.declared.steps.Sent.{Sent}
-use Rattle.gathering_door.specs.Guests.{gathered_with, left_of, IsRest, IsLonger, IsSent, IsSettled, IsServed}
+use Rattle.gathering_door.specs.Guests.{gathered_with, left_of, IsRest, IsLonger, IsLeftAfterTry, IsSettled, IsServedGuest}
 use Rattle.gathering_door.specs.declared.guests.Guest.{Guest}
 
 pub whole_rest : (whole : List ℕ) → IsRest whole whole
@@ -38,21 +38,21 @@ settled_rest : (was guest : Guest) → (guest.answer ≡ was.answer) ⊎ (guest.
 settled_rest was guest (inl same) = rw same (whole_rest (left_of was.answer))
 settled_rest was guest (inr over) = rw over (no_rest (left_of was.answer))
 
-pub settled_served : (was guest : Guest) → IsSettled was guest → IsServed was guest
+pub settled_served : (was guest : Guest) → IsSettled was guest → IsServedGuest was guest
 settled_served was guest settled = record {
   serial = settled.serial;
   gathered = as_long was.gathered guest.gathered settled.gathered;
   answer = settled_rest was guest settled.answer;
 }
 
-pub served_twice : (was between guest : Guest) → IsServed was between → IsServed between guest → IsServed was guest
+pub served_twice : (was between guest : Guest) → IsServedGuest was between → IsServedGuest between guest → IsServedGuest was guest
 served_twice was between guest one other = record {
   serial = other.serial ∙ one.serial;
   gathered = longer was.gathered between.gathered guest.gathered one.gathered other.gathered;
   answer = rest_of_rest (left_of guest.answer) (left_of between.answer) (left_of was.answer) other.answer one.answer;
 }
 
-pub served_same : (was : Guest) → IsServed was was
+pub served_same : (was : Guest) → IsServedGuest was was
 served_same was = record {
   serial = refl;
   gathered = as_long was.gathered was.gathered refl;
@@ -62,7 +62,7 @@ served_same was = record {
 pub heard_settled : (was heard : Guest) → heard ≡ record was { has_ended = heard.has_ended; can_read = heard.can_read } → IsSettled was heard
 heard_settled was heard same = record { serial = ap (λ g. g.serial) same; gathered = ap (λ g. g.gathered) same; answer = inl (ap (λ g. g.answer) same) }
 
-pub sent_served : (was now : Guest) (sent : Sent) → IsSent (left_of was.answer) (left_of now.answer) sent → now ≡ record was { answer = now.answer; can_write = now.can_write } → IsServed was now
+pub sent_served : (was now : Guest) (sent : Sent) → IsLeftAfterTry (left_of was.answer) (left_of now.answer) sent → now ≡ record was { answer = now.answer; can_write = now.can_write } → IsServedGuest was now
 sent_served was now sent is same = record {
   serial = ap (λ g. g.serial) same;
   gathered = as_long was.gathered now.gathered (ap (λ g. g.gathered) same);

@@ -28,7 +28,7 @@ SaysTaken (Taken n) count = n ≡ moment count
 SaysTaken Fault count = Unit
 
 -- What is left to send, after a try, is what was not taken.
-pub record IsSent (before after : List ℕ) (sent : Sent) : Type 0 where
+pub record IsLeftAfterTry (before after : List ℕ) (sent : Sent) : Type 0 where
   pub count : ℕ
   pub within : count ≤ length before
   pub rest : after ≡ drop count before
@@ -46,13 +46,13 @@ pub record IsLonger (before after : Option (List ℕ)) : Type 0 where
   pub is : after ≡ gathered_with before piece
 
 -- A connection was worked for: what came of it is behind what came before, and of its answer a rest is left to send.
-pub record IsServed (was guest : Guest) : Type 0 where
+pub record IsServedGuest (was guest : Guest) : Type 0 where
   pub serial : guest.serial ≡ was.serial
   pub gathered : IsLonger was.gathered guest.gathered
   pub answer : IsRest (left_of guest.answer) (left_of was.answer)
 
 -- A wire has the number, the bytes and the end of a connection.
-pub record StandsFor (wire : WireInHand) (guest : Guest) : Type 0 where
+pub record StandsForGuest (wire : WireInHand) (guest : Guest) : Type 0 where
   pub serial : wire.serial ≡ guest.serial
   pub bytes : guest.gathered ≡ Some wire.sends
   pub ended : wire.ended ≡ guest.has_ended
@@ -64,7 +64,7 @@ pub record HasTurnBy (wire : WireInHand) (guest : Guest) : Type 0 where
   pub phase : guest.phase ≡ InTurn
 
 -- What is left to send to a connection that had its turn by a wire is what this wire wrote, or a rest of it. Another is as it was.
-pub record IsAnswered (wire : WireInHand) (was guest : Guest) : Type 0 where
+pub record IsAnsweredByWire (wire : WireInHand) (was guest : Guest) : Type 0 where
   pub serial : guest.serial ≡ was.serial
   pub answer : HasTurnBy wire was → IsRest (left_of guest.answer) wire.written
   pub other : HasTurnBy wire was ⊎ (guest ≡ was)

@@ -1,5 +1,5 @@
 ghost use Rattle.std.specs.Prelude.{◌≡◌, ◌-◌, [], OnOk, OnErr};
-ghost use Rattle.gathering_door.specs.Counted.{entered, without};
+ghost use Rattle.gathering_door.specs.Counted.{with_waiting_answer, without_waiting_answer};
 
 use gathering::{Outgoing, Texts};
 use sb_model::OutOfMemory;
@@ -30,7 +30,7 @@ impl Answers {
 
     /// An answer waits from now on. Where memory is refused, it does not count.
     pub(crate) fn enter(&mut self, answer: &Outgoing) -> Result<(), OutOfMemory>
-        ensures ok { OnOk result (self.new ≡ entered self.old answer.now) }
+        ensures ok { OnOk result (self.new ≡ with_waiting_answer self.old answer.now) }
         ensures err { OnErr result (self.new ≡ self.old) }
     {
         if let Some((number, length)) = answer.shared() {
@@ -53,7 +53,7 @@ impl Answers {
 
     /// An answer waits no longer.
     pub(crate) fn leave(&mut self, answer: &Outgoing)
-        ensures { self.new ≡ without self.old answer.now }
+        ensures { self.new ≡ without_waiting_answer self.old answer.now }
     {
         self.bytes = self.bytes.saturating_sub(answer.owned());
         if let Some((number, length)) = answer.shared()

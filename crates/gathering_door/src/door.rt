@@ -1,6 +1,6 @@
 ghost use Rattle.std.specs.Prelude.{◌≡◌, ◌≢◌, ◌≤◌, None, Ok, Some, [], false, IsErr, IfSome, IfOk, OnOk, OnErr};
 ghost use Rattle.sb_outside.specs.Outside.{Rose, IfTold};
-ghost use Rattle.sb_outside.specs.Connections.{connected, TakesFirst, pieces_of};
+ghost use Rattle.sb_outside.specs.Connections.{connected, TakesFirst, pieces_of_wire};
 ghost use Rattle.gathering.specs.Wires.{IsFreshWire, HasItsTurn};
 ghost use Rattle.gathering_door.specs.Doors.{taken_after};
 
@@ -189,7 +189,7 @@ impl<R: time::Clock + Drop, T: Teller + Drop> Door for GatheringDoor<R, T> {
         ensures no_faults { IfOk result (λ next. IfSome next (λ wire. (wire.read_faults ≡ 0) × (wire.write_faults ≡ 0))) }
         ensures nothing_written { IfOk result (λ next. IfSome next (λ wire. IfTold (Some wire.written) (Some []))) }
         ensures first { IfOk result (λ next. IfSome next (λ wire.
-            TakesFirst None None (Some (pieces_of wire.sends)) (Some wire.left))) }
+            TakesFirst None None (Some (pieces_of_wire wire.sends)) (Some wire.left))) }
     {
         match self.take_next(None) {
             Ok(Some(wire)) => Ok(Some(wire)),
@@ -220,7 +220,7 @@ impl<R: time::Clock + Drop, T: Teller + Drop> Door for GatheringDoor<R, T> {
         ensures nothing_written { IfOk result (λ arrival. IfSome (connected arrival)
             (λ wire. IfTold (Some wire.written) (Some []))) }
         ensures first { IfOk result (λ arrival. IfSome (connected arrival) (λ wire.
-            TakesFirst None None (Some (pieces_of wire.sends)) (Some wire.left))) }
+            TakesFirst None None (Some (pieces_of_wire wire.sends)) (Some wire.left))) }
     {
         match self.take_next(Some(moment)) {
             Ok(Some(wire)) => Ok(Arrival::Connected(wire)),

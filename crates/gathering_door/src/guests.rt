@@ -1,7 +1,7 @@
 ghost use Rattle.std.specs.Prelude.{◌≡◌, ◌≤◌, [], length, drop, Some, None, IfOk, OnOk, OnErr};
 ghost use Rattle.gathering.specs.Deadlines.{moment};
 ghost use Rattle.gathering.specs.Wires.{all_left, own_left};
-ghost use Rattle.gathering_door.specs.Guests.{gathered_with, left_of, IsSent, IsSettled};
+ghost use Rattle.gathering_door.specs.Guests.{gathered_with, left_of, IsLeftAfterTry, IsSettled};
 
 use gathering::{Address, Candidate, Ending, Gathered, Heard, InLine, Outgoing, Phase, Sent};
 use mio::event::Event;
@@ -71,7 +71,7 @@ fn send_piece(stream: &mut TcpStream, answer: &mut Outgoing) -> io::Result<usize
 /// Writes what the system takes of an answer, at most some pieces. Where it takes no more, there is no writing for now.
 #[tactic(auto, using(crate::proofs::Sending::nothing_sent, crate::proofs::Sending::more_sent, crate::proofs::Sending::sent_till_fault))]
 fn send_pieces(stream: &mut TcpStream, answer: &mut Outgoing, can_write: &mut bool) -> Sent
-    ensures sent { IsSent (all_left answer.old) (all_left answer.new) result }
+    ensures sent { IsLeftAfterTry (all_left answer.old) (all_left answer.new) result }
     ensures stream { stream.new ≡ stream.old }
 {
     let mut taken = 0u64;
@@ -284,7 +284,7 @@ impl Guest {
 
     /// Writes what the system takes of the answer, at most some pieces.
     pub(crate) fn send(&mut self) -> Sent
-        ensures sent { IsSent (left_of self.old.answer) (left_of self.new.answer) result }
+        ensures sent { IsLeftAfterTry (left_of self.old.answer) (left_of self.new.answer) result }
         ensures same { self.new ≡ record self.old { answer = self.new.answer; can_write = self.new.can_write } }
     {
         match &mut self.answer {

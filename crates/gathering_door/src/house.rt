@@ -1,7 +1,7 @@
 ghost use Rattle.std.specs.Prelude.{◌≡◌, ◌↔◌, take, None, IfSome, IfNone, IsSomeAnd, IsTrue, OnOk, OnErr};
 ghost use Rattle.gathering.specs.Wires.{IsFreshWire, HasItsTurn, all_left};
-ghost use Rattle.gathering_door.specs.Guests.{gathered_with, left_of, IsSettled, StandsFor};
-ghost use Rattle.gathering_door.specs.Houses.{Answers as AnswersIn, HandsOut, IsOut, Keeps, Moves, OnlyCloses, OnlyClosesOthers, Settles, TakesBack, WorksFor, WorksForAll};
+ghost use Rattle.gathering_door.specs.Guests.{gathered_with, left_of, IsSettled, StandsForGuest};
+ghost use Rattle.gathering_door.specs.Houses.{BeginsAnswer as AnswersIn, HandsOut, IsOut, GathersPiece, MovesToPhase, OnlyCloses, OnlyClosesOthers, Settles, TakesBack, WorksFor, WorksForAll};
 ghost use Rattle.slab.specs.Slab.{get, Updates};
 
 use crate::answers::Answers;
@@ -53,7 +53,7 @@ fn turn_of(alloc: Global, guest: &mut Guest, slot: usize, number: u64) -> Option
     ensures fresh { IfSome result (λ wire. IsFreshWire number wire) }
     ensures turn { IfSome result HasItsTurn }
     ensures slot { IfSome result (λ wire. wire.slot ≡ slot) }
-    ensures stands { IfSome result (λ wire. StandsFor wire guest.old) }
+    ensures stands { IfSome result (λ wire. StandsForGuest wire guest.old) }
     ensures took { guest.new ≡ record guest.old { gathered = None } }
 {
     let gathered = guest.gathered.take()?;
@@ -400,7 +400,7 @@ impl House {
     /// Keeps so many bytes of the buffer for a connection, and says whether they decide its request. Where all that are
     /// gathered would pass their sum, those that have gathered longest give way: this one too.
     fn keep(&mut self, slot: usize, count: u64) -> Result<bool, OutOfMemory>
-        ensures ok { OnOk result (Keeps self.old.guests self.new.guests slot (take count self.old.buffer.items)) }
+        ensures ok { OnOk result (GathersPiece self.old.guests self.new.guests slot (take count self.old.buffer.items)) }
         ensures err { OnErr result (OnlyCloses self.old.guests self.new.guests) }
     {
         self.drop_longest(count);
@@ -524,7 +524,7 @@ impl House {
 
     /// Moves a connection to its rows in another phase. Where memory is refused for that, it is closed.
     fn move_to(&mut self, slot: usize, phase: Phase)
-        ensures { Moves self.old.guests self.new.guests slot phase }
+        ensures { MovesToPhase self.old.guests self.new.guests slot phase }
     {
         let Some(guest) = self.guests.get_mut(slot) else {
             return;

@@ -7,7 +7,7 @@ use Rattle.hex.specs.Hex.{encode_lower}
 use Rattle.sb_model.specs.declared.history.Change.{Change}
 use Rattle.list_versions.specs.Lines.{newline}
 use Rattle.list_versions.specs.Written.{change_line, change_text, line_of}
-use Rattle.generated_load.specs.Generated.{change_of, generated_list}
+use Rattle.generated_load.specs.Generated.{generated_change, generated_list}
 
 abbrev change_with : Bool → List ℕ → List ℕ → Change
 change_with removes before hash = record {
@@ -47,29 +47,29 @@ both_lines before hash =
     ∙ ap (λ (bytes : List ℕ). (adds_and_removes ++ bytes) ++ (marked 45 before ++ [])) (append-nil (marked 43 hash))
     ∙ ap (λ (bytes : List ℕ). (adds_and_removes ++ marked 43 hash) ++ bytes) (append-nil (marked 45 before))
 
-change_is : (place : ℕ) (removes : Bool) (before hash : List ℕ) → (place % 4 == 0) ≡ removes → change_of place before hash ≡ change_with removes before hash
-unfolding change_of
+change_is : (place : ℕ) (removes : Bool) (before hash : List ℕ) → (place % 4 == 0) ≡ removes → generated_change place before hash ≡ change_with removes before hash
+unfolding generated_change
 change_is place removes before hash h = ap (λ (b : Bool). change_with b before hash) h
 
-pub plain_lines : (place : ℕ) (before hash : List ℕ) → place % 4 ≢ 0 → change_text false (change_of place before hash) ≡ adds_alone ++ marked 43 hash
+pub plain_lines : (place : ℕ) (before hash : List ℕ) → place % 4 ≢ 0 → change_text false (generated_change place before hash) ≡ adds_alone ++ marked 43 hash
 plain_lines place before hash h =
     let odd : (place % 4 == 0) ≡ false = grind (arith, nat_tests) in
     ap (change_text false) (change_is place false before hash odd) ∙ alone_lines before hash
 
-pub fourth_lines : (place : ℕ) (before hash : List ℕ) → place % 4 ≡ 0 → change_text false (change_of place before hash) ≡ (adds_and_removes ++ marked 43 hash) ++ marked 45 before
+pub fourth_lines : (place : ℕ) (before hash : List ℕ) → place % 4 ≡ 0 → change_text false (generated_change place before hash) ≡ (adds_and_removes ++ marked 43 hash) ++ marked 45 before
 fourth_lines place before hash h =
     ap (change_text false) (change_is place true before hash (eq-eqb (place % 4) 0 h)) ∙ both_lines before hash
 
 -- ---- what is written of each
 
 pub plain_text : (place : ℕ) (before hash page front whole : List ℕ) → place % 4 ≢ 0 → front ≡ page ++ adds_alone → whole ≡ front ++ marked 43 hash
-    → whole ≡ page ++ change_text false (change_of place before hash)
+    → whole ≡ page ++ change_text false (generated_change place before hash)
 plain_text place before hash page front whole other begun is =
     is ∙ ap (λ (bytes : List ℕ). bytes ++ marked 43 hash) begun ∙ append_assoc page adds_alone (marked 43 hash)
     ∙ ap (λ (bytes : List ℕ). page ++ bytes) (sym (plain_lines place before hash other))
 
 pub fourth_text : (place : ℕ) (before hash page front middle whole : List ℕ) → place % 4 ≡ 0 → front ≡ page ++ adds_and_removes → middle ≡ front ++ marked 43 hash
-    → whole ≡ middle ++ marked 45 before → whole ≡ page ++ change_text false (change_of place before hash)
+    → whole ≡ middle ++ marked 45 before → whole ≡ page ++ change_text false (generated_change place before hash)
 fourth_text place before hash page front middle whole fourth begun added is =
     is ∙ ap (λ (bytes : List ℕ). bytes ++ marked 45 before) (added ∙ ap (λ (bytes : List ℕ). bytes ++ marked 43 hash) begun ∙ append_assoc page adds_and_removes (marked 43 hash))
     ∙ append_assoc page (adds_and_removes ++ marked 43 hash) (marked 45 before)

@@ -12,7 +12,7 @@ use Rattle.list_versions.specs.Loaded.{Gives, IsBadJournal, JournalOutcome}
 use Rattle.list_versions.specs.Split.{IsFront}
 use Rattle.list_versions.specs.Written.{wholly}
 use Rattle.generated_load.specs.declared.fault.ExerciseFault.TheVariants as exercise
-use Rattle.generated_load.specs.Exercise.{fault_of}
+use Rattle.generated_load.specs.Exercise.{exercise_fault_of}
 
 -- a source of one text that came to its end gave the text
 gives_all : (text bytes : List ℕ) (ended : Bool) (pieces : List (List ℕ)) (after : Option (List (List ℕ))) → pieces ≡ text ∷ [] → IsTrue ended
@@ -60,7 +60,7 @@ not_front text bytes ended pieces after kept is reads gives end front =
     cc
 
 pub past : (fault : JournalFault) (text bytes : List ℕ) (ended : Bool) (pieces : List (List ℕ)) (after : Option (List (List ℕ))) (kept : Kept) → pieces ≡ text ∷ []
-    → kept_of text ≡ Ok kept → Gives bytes ended (Some pieces) after → JournalOutcome bytes ended (Err fault) → fault_of fault ≡ exercise.PastLimits → ⊥
+    → kept_of text ≡ Ok kept → Gives bytes ended (Some pieces) after → JournalOutcome bytes ended (Err fault) → exercise_fault_of fault ≡ exercise.PastLimits → ⊥
 past journal.ReadFault text bytes ended pieces after kept is reads gives outcome e = cc
 past journal.OutOfMemory text bytes ended pieces after kept is reads gives outcome e = cc
 past journal.Header text bytes ended pieces after kept is reads gives (inl bad) e = not_bad text bytes ended pieces after kept journal.Header is reads gives bad

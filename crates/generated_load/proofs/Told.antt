@@ -19,7 +19,7 @@ use Rattle.sb_model.specs.History.{IsPrefixSize}
 use Rattle.list_versions.specs.Journal.{declared_size_of}
 use Rattle.list_versions.specs.Limits.{WithinLimits, hash_lines}
 use Rattle.list_versions.specs.Written.{HasDeclaredSizes, HasJournal, HasLines}
-use Rattle.generated_load.specs.Generated.{change_at, change_of, generated, generated_list, hash_at, hash_of, number_at}
+use Rattle.generated_load.specs.Generated.{change_at, generated_change, generated, generated_list, hash_at, generated_hash, seed_number_at}
 
 -- ---- the bytes of a digest
 
@@ -50,12 +50,12 @@ are_bytes bytes all = λ i.
       | inr past ↦ subst IsByte (sym (get_or_past bytes i 0 past)) (lit< tt)
     ]
 
-hash_bytes : (number : ℕ) → IsBytes (hash_of number)
-unfolding hash_of
+hash_bytes : (number : ℕ) → IsBytes (generated_hash number)
+unfolding generated_hash
 hash_bytes number = are_bytes (sha256 _) (sha_bytes _)
 
-hash_long : (number : ℕ) → length (hash_of number) ≡ 32
-unfolding hash_of
+hash_long : (number : ℕ) → length (generated_hash number) ≡ 32
+unfolding generated_hash
 hash_long number = length-sha256 _
 
 -- ---- each change
@@ -78,23 +78,23 @@ four : IsPrefixSize 4
 four = record { low = lit≤ tt; high = lit≤ tt }
 
 adds_right : (seed place : ℕ) → All (λ (added : Added). (length added.hash ≡ 32) × IsPrefixSize added.size) (change_at seed place).adds
-unfolding change_of
+unfolding generated_change
 adds_right seed place =
-    only (λ (added : Added). (length added.hash ≡ 32) × IsPrefixSize added.size) (record { hash = hash_at seed place; size = 4 }) (hash_long (number_at seed place), four)
+    only (λ (added : Added). (length added.hash ≡ 32) × IsPrefixSize added.size) (record { hash = hash_at seed place; size = 4 }) (hash_long (seed_number_at seed place), four)
 
 removes_right : (seed place : ℕ) → All (λ (hash : List ℕ). length hash ≡ 32) (change_at seed place).removes
-unfolding change_of
+unfolding generated_change
 removes_right seed place = if_removed (λ (hash : List ℕ). length hash ≡ 32) (place % 4 == 0) _ (hash_long _)
 
 has_lines : (count seed place : ℕ) → HasLines (generated count seed) (change_at seed place)
-unfolding generated change_of
+unfolding generated generated_change
 has_lines count seed place =
     let few = few_removed (place % 4 == 0) (hash_at seed (place - 1)) in
     record {
       declared = refl;
       some = omega (arith, few);
       few = omega (arith, few);
-      adds = only (λ (added : Added). IsBytes added.hash) (record { hash = hash_at seed place; size = 4 }) (hash_bytes (number_at seed place));
+      adds = only (λ (added : Added). IsBytes added.hash) (record { hash = hash_at seed place; size = 4 }) (hash_bytes (seed_number_at seed place));
       removes = if_removed IsBytes (place % 4 == 0) _ (hash_bytes _);
     }
 
@@ -102,7 +102,7 @@ at_places : (P : Change → Type 0) (count seed : ℕ) → ((place : ℕ) → P 
 at_places P count seed each = All-map P (change_at seed) (range_with_len 1 count) (of_each (λ (place : ℕ). P (change_at seed place)) (range_with_len 1 count) each)
 
 two_lines : (seed place : ℕ) → length (change_at seed place).adds + length (change_at seed place).removes ≤ 2
-unfolding change_of
+unfolding generated_change
 two_lines seed place = let few = few_removed (place % 4 == 0) (hash_at seed (place - 1)) in omega (arith, few)
 
 few_lines : (count seed : ℕ) → hash_lines (map (change_at seed) (range_with_len 1 count)) ≤ count * 2
@@ -137,7 +137,7 @@ has_journal count seed few small within = record {
 }
 
 four_each : (count seed place : ℕ) → All (λ (added : Added). declared_size_of (generated count seed) (change_at seed place).list ≡ Some added.size) (change_at seed place).adds
-unfolding generated change_of
+unfolding generated generated_change
 four_each count seed place =
     only (λ (added : Added). declared_size_of (generated count seed) generated_list ≡ Some added.size) (record { hash = hash_at seed place; size = 4 }) refl
 

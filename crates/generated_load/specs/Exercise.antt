@@ -21,10 +21,10 @@ use Rattle.generated_load.specs.declared.fault.ExerciseFault.TheVariants as exer
 use Rattle.generated_load.specs.Generated.{generated, generated_list}
 
 -- why a journal in memory is not loaded: no source is there to fail
-abbrev pub fault_of : JournalFault → ExerciseFault
-fault_of journal.ReadFault = exercise.OutOfMemory
-fault_of journal.OutOfMemory = exercise.OutOfMemory
-fault_of fault = exercise.PastLimits
+abbrev pub exercise_fault_of : JournalFault → ExerciseFault
+exercise_fault_of journal.ReadFault = exercise.OutOfMemory
+exercise_fault_of journal.OutOfMemory = exercise.OutOfMemory
+exercise_fault_of fault = exercise.PastLimits
 
 -- what is asked, with a state
 abbrev pub asked_with : List ℕ → AskedList

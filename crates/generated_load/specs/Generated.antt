@@ -18,20 +18,20 @@ unfoldable pub number_after : ℕ → ℕ
 number_after number = (number * 6364136223846793005 + 1442695040888963407) % 2 ^ 64
 
 -- the numbers of a seed, which is itself the one at place 0
-unfoldable pub number_at : ℕ → ℕ → ℕ
-number_at seed zero = seed
-number_at seed (suc place) = number_after (number_at seed place)
+unfoldable pub seed_number_at : ℕ → ℕ → ℕ
+seed_number_at seed zero = seed
+seed_number_at seed (suc place) = number_after (seed_number_at seed place)
 
 -- the host of a number: `h`, the number divided by 2^48 and rounded down, and `.example`
-unfoldable pub host_of : ℕ → List ℕ
-host_of number = codes "h" ++ decimal (number / 2 ^ 48) ++ codes ".example"
+unfoldable pub generated_host : ℕ → List ℕ
+generated_host number = codes "h" ++ decimal (number / 2 ^ 48) ++ codes ".example"
 
 -- the full hash of the host's first page
-unfoldable pub hash_of : ℕ → List ℕ
-hash_of number = sha256 (host_of number ++ codes "/")
+unfoldable pub generated_hash : ℕ → List ℕ
+generated_hash number = sha256 (generated_host number ++ codes "/")
 
 abbrev pub hash_at : ℕ → ℕ → List ℕ
-hash_at seed place = hash_of (number_at seed place)
+hash_at seed place = generated_hash (seed_number_at seed place)
 
 -- ---- the history
 
@@ -39,15 +39,15 @@ abbrev pub generated_list : ListName
 generated_list = record { threat = threat.Malware; platform = platform.AnyPlatform; entry = entry.Url }
 
 -- The change at a place adds a hash. Where the place is a multiple of 4, it removes another, that of the host before.
-unfoldable pub change_of : ℕ → List ℕ → List ℕ → Change
-change_of place before hash = record {
+unfoldable pub generated_change : ℕ → List ℕ → List ℕ → Change
+generated_change place before hash = record {
   list = generated_list;
   adds = record { hash = hash; size = 4 } ∷ [];
   removes = if place % 4 == 0 then before ∷ [] else [];
 }
 
 abbrev pub change_at : ℕ → ℕ → Change
-change_at seed place = change_of place (hash_at seed (place - 1)) (hash_at seed place)
+change_at seed place = generated_change place (hash_at seed (place - 1)) (hash_at seed place)
 
 -- one list with prefixes of 4 bytes, the seed as the epoch, and so many changes, at the places from 1 on
 unfoldable pub generated : ℕ → ℕ → History
@@ -60,13 +60,13 @@ generated count seed = record {
 -- ---- URLs: a line for each place from 1 on, with a host of the numbers of the seed after this one
 
 abbrev pub url_line : ℕ → ℕ → List ℕ
-url_line number place = codes "http://" ++ host_of number ++ codes "/p" ++ decimal place ++ newline ∷ []
+url_line number place = codes "http://" ++ generated_host number ++ codes "/p" ++ decimal place ++ newline ∷ []
 
 abbrev pub other_seed : ℕ → ℕ
 other_seed seed = (seed + 1) % 2 ^ 64
 
-abbrev pub url_at : ℕ → ℕ → List ℕ
-url_at seed place = url_line (number_at (other_seed seed) place) place
+abbrev pub generated_url_at : ℕ → ℕ → List ℕ
+generated_url_at seed place = url_line (seed_number_at (other_seed seed) place) place
 
 unfoldable pub urls_text : ℕ → ℕ → List ℕ
-urls_text count seed = flat_map (url_at seed) (range_with_len 1 count)
+urls_text count seed = flat_map (generated_url_at seed) (range_with_len 1 count)

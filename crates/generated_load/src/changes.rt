@@ -1,7 +1,7 @@
 ghost use Rattle.std.specs.Prelude.{◌≡◌, false, [], ◌∷◌, ◌++◌, OnOk};
 ghost use Rattle.hex.specs.Hex.{encode_lower};
 ghost use Rattle.list_versions.specs.Written.{change_text, line_of};
-ghost use Rattle.generated_load.specs.Generated.{change_of};
+ghost use Rattle.generated_load.specs.Generated.{generated_change};
 
 use hash_prefixes::append_hex;
 use sb_model::{Bytes, EntryType, ListName, OutOfMemory, PlatformType, ThreatType};
@@ -33,7 +33,7 @@ pub(crate) fn push_change_lines(
     before: &[u8; 32],
     hash: &[u8; 32],
 ) -> Result<(), OutOfMemory>
-    ensures { OnOk result (page.new ≡ page.old ++ change_text false (change_of place before.now hash.now)) }
+    ensures { OnOk result (page.new ≡ page.old ++ change_text false (generated_change place before.now hash.now)) }
 {
     if place % 4 != 0 {
         page.append(b"change MALWARE/ANY_PLATFORM/URL 1 0\n")?;

@@ -1,5 +1,5 @@
 ghost use Rattle.std.specs.Prelude.{◌≡◌, ◌++◌, IfOk, OnOk};
-ghost use Rattle.generated_load.specs.Generated.{hash_of, host_of, number_after};
+ghost use Rattle.generated_load.specs.Generated.{generated_hash, generated_host, number_after};
 
 use hash_prefixes::full_hash;
 use sb_model::{Bytes, OutOfMemory};
@@ -18,9 +18,9 @@ pub(crate) fn number_after(number: u64) -> u64
 }
 
 /// Appends the host of a number.
-#[tactic(auto, unfolding(crate::specs::Generated::host_of))]
+#[tactic(auto, unfolding(crate::specs::Generated::generated_host))]
 pub(crate) fn push_host(page: &mut Bytes, number: u64) -> Result<(), OutOfMemory>
-    ensures { OnOk result (page.new ≡ page.old ++ host_of number) }
+    ensures { OnOk result (page.new ≡ page.old ++ generated_host number) }
 {
     page.push(b'h')?;
     page.append_decimal(number >> 48)?;
@@ -35,10 +35,10 @@ pub(crate) struct Host {
 }
 
 /// The host of a number. Its URL without the scheme is written into `text`, in place of what is there.
-#[tactic(auto, unfolding(crate::specs::Generated::hash_of))]
+#[tactic(auto, unfolding(crate::specs::Generated::generated_hash))]
 pub(crate) fn host_of(number: u64, text: &mut Bytes) -> Result<Host, OutOfMemory>
     ensures number { IfOk result (λ host. host.number ≡ number) }
-    ensures hash { IfOk result (λ host. host.hash ≡ hash_of number) }
+    ensures hash { IfOk result (λ host. host.hash ≡ generated_hash number) }
 {
     text.clear();
     push_host(text, number)?;

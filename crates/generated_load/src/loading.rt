@@ -1,5 +1,5 @@
 ghost use Rattle.std.specs.Prelude.{◌≡◌, [], ◌∷◌, IfOk, IsErrOf};
-ghost use Rattle.generated_load.specs.Exercise.{HasRoom, fault_of};
+ghost use Rattle.generated_load.specs.Exercise.{HasRoom, exercise_fault_of};
 ghost use Rattle.generated_load.specs.Generated.{generated};
 
 use crate::ExerciseFault;
@@ -20,7 +20,7 @@ fn source_of(alloc: Global, text: Bytes) -> Result<MemorySource, OutOfMemory>
 
 // Why a journal in memory is not loaded. A source in memory does not fail.
 fn fault_of(fault: JournalFault) -> ExerciseFault
-    ensures { result ≡ fault_of fault }
+    ensures { result ≡ exercise_fault_of fault }
 {
     match fault {
         JournalFault::ReadFault => ExerciseFault::OutOfMemory,

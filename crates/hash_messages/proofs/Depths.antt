@@ -2,7 +2,7 @@
 use Rattle.std.proofs.Common.{ℕ, ◌+◌, ◌==◌, ◌≤◌, Bool, true, false, if◌then◌else◌, List, [], ◌∷◌, Some, None, arith}
 use Rattle.serde_json.specs.Data.{Data, Members, no_members, member, depth, members_depth}
 use Rattle.sb_members.specs.Laws.{NestAsValues}
-use Rattle.sb_members.specs.Parts.{IsWithin}
+use Rattle.sb_members.specs.Parts.{NestsWithin}
 use Rattle.sb_members.specs.Writing.{text_written, bytes_written, duration_written, unless_bare}
 use Rattle.update_messages.specs.declared.client.ClientInfo.{ClientInfo}
 use Rattle.update_messages.specs.Writing as shared
@@ -20,28 +20,28 @@ use Rattle.hash_messages.proofs.ResponseAgain.{hash_parts, match_parts, response
 string_flat : (n : ℕ) → 0 ≤ n
 string_flat n = omega arith
 
-text_flat : (cs : List ℕ) (n : ℕ) → IsWithin n (text_written cs)
+text_flat : (cs : List ℕ) (n : ℕ) → NestsWithin n (text_written cs)
 text_flat [] n = tt
 text_flat (c ∷ cs) n = omega arith
 
-bytes_flat : (bs : List ℕ) (n : ℕ) → IsWithin n (bytes_written bs)
+bytes_flat : (bs : List ℕ) (n : ℕ) → NestsWithin n (bytes_written bs)
 bytes_flat [] n = tt
 bytes_flat (b ∷ bs) n = omega arith
 
-duration_flat : (d n : ℕ) → IsWithin n (duration_written d)
+duration_flat : (d n : ℕ) → NestsWithin n (duration_written d)
 duration_flat d n = chosen (d == 0) _ (omega arith)
   where
-    chosen : (b : Bool) (value : Data) → depth value ≤ n → IsWithin n (if b then None else Some value)
+    chosen : (b : Bool) (value : Data) → depth value ≤ n → NestsWithin n (if b then None else Some value)
     chosen true value h = tt
     chosen false value h = h
 
-bare_depth : (ms : Members) (n : ℕ) → members_depth ms ≤ n → IsWithin (n + 1) (unless_bare ms)
+bare_depth : (ms : Members) (n : ℕ) → members_depth ms ≤ n → NestsWithin (n + 1) (unless_bare ms)
 bare_depth no_members n h = tt
 bare_depth (member k d ms) n h = omega (arith, h)
 
 -- ---- the request
 
-client_depth : NestAsValues → (c : ClientInfo) → IsWithin 4 (unless_bare (shared.client_members c))
+client_depth : NestAsValues → (c : ClientInfo) → NestsWithin 4 (unless_bare (shared.client_members c))
 client_depth nest c = bare_depth (shared.client_members c) 3 (nest (client_parts c) 3 (text_flat c.id 3, (text_flat c.version 3, tt)))
 
 prefix_depth : NestAsValues → (prefix : List ℕ) → depth (spec.prefix_written prefix) ≤ 1

@@ -8,7 +8,7 @@ use Rattle.sb_json.specs.declared.fields.Field.TheVariants as field
 use Rattle.sb_json.specs.declared.faults.FieldFault.{FieldFault}
 use Rattle.sb_json.specs.declared.faults.MessageFault.TheVariants.{TooManyItems}
 use Rattle.update_messages.specs.declared.client.ClientInfo.{ClientInfo}
-use Rattle.sb_members.specs.Lists.{EachReads, ReadsList, fault_of, first, first_of_items, fault_of_list, first_from, in_item, item_count}
+use Rattle.sb_members.specs.Lists.{EachReads, ReadsList, fault_of_row, first, first_of_items, fault_of_list, first_from, in_item, item_count}
 use Rattle.sb_members.specs.Somes.{somes, ReadsSome}
 use Rattle.sb_members.specs.Rows.{threat_row, platform_row, entry_row}
 use Rattle.update_messages.specs.RequestRows.{client_row, client_id_row, client_version_row}
@@ -22,6 +22,7 @@ use Rattle.hash_messages.specs.ResponseRows as response
 use Rattle.hash_messages.specs.Reading.{ReadsAs, ReadsOutsideItems, ReadsFindRequest, ReadsMatch, ReadsFindResponse}
 use Rattle.hash_messages.specs.Faults.{fault_by, faults_outside_items, fault_of_prefixes, faults_of_find_request, fault_of_find_request, faults_of_match, fault_of_match, fault_of_matches, faults_of_find_response, fault_of_find_response}
 use Rattle.hash_messages.proofs.NoFault.{count_of_each}
+use Rattle.update_messages.specs.ResponseRows.{wait_row}
 
 -- none of them is there
 abbrev AllNone : {F : Type 0} → List (Option F) → Type 0
@@ -33,7 +34,7 @@ all_none [] e = tt
 all_none (None ∷ os) e = (refl, all_none os e)
 all_none (Some f ∷ os) e = absurd (cc e)
 
-row_read : {A : Type 0} (r : Result A FieldFault) → fault_of r ≡ None → (a : A) × (r ≡ Ok a)
+row_read : {A : Type 0} (r : Result A FieldFault) → fault_of_row r ≡ None → (a : A) × (r ≡ Ok a)
 row_read (Ok a) e = (a, refl)
 row_read (Err f) e = absurd (cc e)
 
@@ -45,7 +46,7 @@ object_same f (string s) e h = absurd (cc h)
 object_same f (array ds) e h = absurd (cc h)
 object_same f (object ms) e h = refl
 
-is_object : (f : Field) (d : Data) → fault_of (object_in f d) ≡ None → object_in f d ≡ Ok d
+is_object : (f : Field) (d : Data) → fault_of_row (object_in f d) ≡ None → object_in f d ≡ Ok d
 is_object f d e = let o = row_read (object_in f d) e in object_same f d o.0 o.1
 
 -- a relation that holds for something wherever there is no fault
@@ -111,7 +112,7 @@ outside_there : (d : Data) → first (faults_outside_items d) ≡ None → (pref
 outside_there d e prefixes =
     let h : AllNone (faults_outside_items d) = all_none (faults_outside_items d) e in
     let client = client_there (client_row d) h.1.0 in
-    let states = somes_there request.state_row (request.states_row d) h.1.1.0 in
+    let states = somes_there request.asked_state_row (request.states_row d) h.1.1.0 in
     let threats = somes_there request.asked_threat_row (request.in_info request.threats_row d) h.1.1.1.0 in
     let platforms = somes_there request.asked_platform_row (request.in_info request.platforms_row d) h.1.1.1.1.0 in
     let entries = somes_there request.asked_entry_row (request.in_info request.entries_row d) h.1.1.1.1.1.0 in (
@@ -182,7 +183,7 @@ pub response_there : (d : Data) → fault_of_find_response d ≡ None → (m : F
 response_there d e =
     let h : AllNone (faults_of_find_response d) = all_none (faults_of_find_response d) e in
     let matches = matches_there (response.matches_row d) h.1.0 in
-    let wait = row_read (response.wait_row d) (not_in_item 0 _ h.1.1.0) in
+    let wait = row_read (wait_row d) (not_in_item 0 _ h.1.1.0) in
     let negative = row_read (response.negative_row d) (not_in_item 0 _ h.1.1.1.0) in (
       record { matches = matches.0; wait = wait.0; negative = negative.0 },
       record { object = is_object field.Root d (not_in_item 0 _ h.0); matches = matches.1; wait = wait.1; negative = negative.1 },

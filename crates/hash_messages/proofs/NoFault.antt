@@ -4,7 +4,7 @@ use Rattle.serde_json.specs.Data.{Data, Items, no_items, item}
 use Rattle.sb_json.specs.declared.faults.FieldFault.{FieldFault}
 use Rattle.sb_json.specs.declared.faults.MessageFault.{MessageFault}
 use Rattle.update_messages.specs.declared.client.ClientInfo.{ClientInfo}
-use Rattle.sb_members.specs.Lists.{EachReads, ReadsList, fault_of, first, first_of_items, fault_of_list, first_from, in_item, item_count}
+use Rattle.sb_members.specs.Lists.{EachReads, ReadsList, fault_of_row, first, first_of_items, fault_of_list, first_from, in_item, item_count}
 use Rattle.sb_members.specs.Somes.{ReadsSome}
 use Rattle.update_messages.specs.Reading.{ReadsClient}
 use Rattle.update_messages.specs.Faults.{faults_of_client}
@@ -15,7 +15,7 @@ use Rattle.hash_messages.specs.RequestRows.{prefix_row}
 use Rattle.hash_messages.specs.Reading.{ReadsAs, ReadsOutsideItems, ReadsFindRequest, ReadsMatch, ReadsFindResponse}
 use Rattle.hash_messages.specs.Faults.{fault_by, faults_outside_items, fault_of_prefixes, fault_of_find_request, fault_of_match, fault_of_matches, fault_of_find_response}
 
-passes : {A : Type 0} (r : Result A FieldFault) (a : A) (os : List (Option FieldFault)) → r ≡ Ok a → first (fault_of r ∷ os) ≡ first os
+passes : {A : Type 0} (r : Result A FieldFault) (a : A) (os : List (Option FieldFault)) → r ≡ Ok a → first (fault_of_row r ∷ os) ≡ first os
 passes r a os e = rw e refl
 
 passes_by : {F : Type 0} (o : Option F) (os : List (Option F)) → o ≡ None → first (o ∷ os) ≡ first os
@@ -93,7 +93,7 @@ matches_clean : (r : Result Items FieldFault) (xs : List Match) → ReadsList Re
 matches_clean (Ok ds) xs h = numbered_clean ReadsMatch fault_of_match match_clean 1 ds xs h
 matches_clean (Err f) xs h = absurd h
 
-top_clean : {A : Type 0} (r : Result A FieldFault) (a : A) (os : List (Option MessageFault)) → r ≡ Ok a → first (in_item 0 (fault_of r) ∷ os) ≡ first os
+top_clean : {A : Type 0} (r : Result A FieldFault) (a : A) (os : List (Option MessageFault)) → r ≡ Ok a → first (in_item 0 (fault_of_row r) ∷ os) ≡ first os
 top_clean r a os e = rw e refl
 
 pub response_clean : (d : Data) (m : FindResponse) → ReadsFindResponse d m → fault_of_find_response d ≡ None

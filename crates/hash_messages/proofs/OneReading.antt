@@ -41,7 +41,7 @@ request_one d a b h k = λ i. record {
     id = same _ a.client.id b.client.id h.outside.client.id k.outside.client.id i;
     version = same _ a.client.version b.client.version h.outside.client.version k.outside.client.version i;
   };
-  states = some_one request.state_row (request.states_row d) a.states b.states h.outside.states k.outside.states i;
+  states = some_one request.asked_state_row (request.states_row d) a.states b.states h.outside.states k.outside.states i;
   threats = some_one request.asked_threat_row (request.in_info request.threats_row d) a.threats b.threats h.outside.threats k.outside.threats i;
   platforms = some_one request.asked_platform_row (request.in_info request.platforms_row d) a.platforms b.platforms h.outside.platforms k.outside.platforms i;
   entries = some_one request.asked_entry_row (request.in_info request.entries_row d) a.entries b.entries h.outside.entries k.outside.entries i;

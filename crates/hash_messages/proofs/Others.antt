@@ -7,7 +7,7 @@ use Rattle.sb_members.specs.Lists.{EachReads, ReadsList}
 use Rattle.sb_members.specs.Somes.{somes, ReadsSome, without_nothing}
 use Rattle.update_messages.specs.Reading.{ReadsClient}
 use Rattle.hash_messages.specs.Messages.{AskedHashes}
-use Rattle.hash_messages.specs.Others.{IsWithoutNothing, IsWithoutOthers}
+use Rattle.hash_messages.specs.Others.{IsWithoutNothing, IsFindWithoutOthers}
 use Rattle.hash_messages.specs.RequestRows as request
 use Rattle.hash_messages.specs.Reading.{ReadsAs, ReadsFindRequest}
 
@@ -41,12 +41,12 @@ some_without row r others xs e h = record {
   kept = h.kept ∙ same_somes h.all;
 }
 
-pub request_without : (value other : Data) (message : AskedHashes) → IsWithoutOthers value other → ReadsFindRequest value message → ReadsFindRequest other message
+pub request_without : (value other : Data) (message : AskedHashes) → IsFindWithoutOthers value other → ReadsFindRequest value message → ReadsFindRequest other message
 request_without value other message same h = record {
   outside = record {
     object = same.object;
     client = subst (λ (r : Result Data FieldFault). ReadsClient r message.client) (sym same.client) h.outside.client;
-    states = some_without request.state_row _ _ message.states same.states h.outside.states;
+    states = some_without request.asked_state_row _ _ message.states same.states h.outside.states;
     threats = some_without request.asked_threat_row _ _ message.threats same.threats h.outside.threats;
     platforms = some_without request.asked_platform_row _ _ message.platforms same.platforms h.outside.platforms;
     entries = some_without request.asked_entry_row _ _ message.entries same.entries h.outside.entries;

@@ -112,12 +112,12 @@ prefixes_again law m h = list_again (ReadsAs row.prefix_row) prefix_written IsPr
 
 -- ---- the whole
 
-state_again : AreReadAgain → (state : List ℕ) → IsBytes state → row.state_row (state_written state) ≡ Ok (Some state)
+state_again : AreReadAgain → (state : List ℕ) → IsBytes state → row.asked_state_row (state_written state) ≡ Ok (Some state)
 state_again law state h = ap (λ (r : Result (List ℕ) FieldFault). r >>= λ bytes. Ok (Some bytes)) (law.items.bytes field.ClientStates state h)
 
-states_again : AreReadAgain → (m : AskedHashes) → All IsBytes m.states → ReadsSome (ReadsAs row.state_row) (row.states_row (find_request_written m)) m.states
+states_again : AreReadAgain → (m : AskedHashes) → All IsBytes m.states → ReadsSome (ReadsAs row.asked_state_row) (row.states_row (find_request_written m)) m.states
 states_again law m h =
-    somes_again (ReadsAs row.state_row) state_written IsBytes (state_again law) m.states h _
+    somes_again (ReadsAs row.asked_state_row) state_written IsBytes (state_again law) m.states h _
     (law.defaults.lists field.ClientStates (request_parts m) (map state_written m.states) refl)
 
 outside_again : AreReadAgain → (m : AskedHashes) → IsFindRequestInRange m → ReadsOutsideItems (find_request_written m) m

@@ -13,10 +13,10 @@ IsWithoutNothing row items others = others ≡ (items >>= λ all. Ok (without_no
 
 -- The other value has the same client and prefixes; of the states all but those that are null, and of the types all but those that
 -- are no names of the tables, in their order.
-pub record IsWithoutOthers (value other : Data) : Type 0 where
+pub record IsFindWithoutOthers (value other : Data) : Type 0 where
   pub object : root_row other ≡ Ok other
   pub client : client_row other ≡ client_row value
-  pub states : IsWithoutNothing request.state_row (request.states_row value) (request.states_row other)
+  pub states : IsWithoutNothing request.asked_state_row (request.states_row value) (request.states_row other)
   pub threats : IsWithoutNothing request.asked_threat_row (request.in_info request.threats_row value) (request.in_info request.threats_row other)
   pub platforms : IsWithoutNothing request.asked_platform_row (request.in_info request.platforms_row value) (request.in_info request.platforms_row other)
   pub entries : IsWithoutNothing request.asked_entry_row (request.in_info request.entries_row value) (request.in_info request.entries_row other)

@@ -12,6 +12,7 @@ use Rattle.hash_messages.specs.RequestRows as request
 use Rattle.hash_messages.specs.ResponseRows as response
 use Rattle.hash_messages.specs.declared.response.Match.{Match}
 use Rattle.hash_messages.specs.declared.response.FindResponse.{FindResponse}
+use Rattle.update_messages.specs.ResponseRows.{wait_row}
 
 -- what a row reads a value as
 abbrev pub ReadsAs : {A : Type 0} → (Data → Result A FieldFault) → Data → A → Type 0
@@ -31,7 +32,7 @@ ReadsSomeBy row items values = ReadsSome (ReadsAs row) items values
 pub record ReadsOutsideItems (value : Data) (message : AskedHashes) : Type 0 where
   pub object : root_row value ≡ Ok value
   pub client : ReadsClient (client_row value) message.client
-  pub states : ReadsSomeBy request.state_row (request.states_row value) message.states
+  pub states : ReadsSomeBy request.asked_state_row (request.states_row value) message.states
   pub threats : ReadsSomeBy request.asked_threat_row (request.in_info request.threats_row value) message.threats
   pub platforms : ReadsSomeBy request.asked_platform_row (request.in_info request.platforms_row value) message.platforms
   pub entries : ReadsSomeBy request.asked_entry_row (request.in_info request.entries_row value) message.entries
@@ -54,5 +55,5 @@ pub record ReadsMatch (value : Data) (found : Match) : Type 0 where
 pub record ReadsFindResponse (value : Data) (message : FindResponse) : Type 0 where
   pub object : root_row value ≡ Ok value
   pub matches : ReadsList ReadsMatch (response.matches_row value) message.matches
-  pub wait : response.wait_row value ≡ Ok message.wait
+  pub wait : wait_row value ≡ Ok message.wait
   pub negative : response.negative_row value ≡ Ok message.negative

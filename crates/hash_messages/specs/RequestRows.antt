@@ -18,8 +18,8 @@ abbrev pub states_row : Data → Result Items FieldFault
 states_row message = items_or_none field.ClientStates message
 
 -- one of them: bytes, or nothing where it is null
-abbrev pub state_row : Data → Result (Option (List ℕ)) FieldFault
-state_row state = or_absent None (λ value. bytes_in field.ClientStates value >>= λ bytes. Ok (Some bytes)) (if_there state)
+abbrev pub asked_state_row : Data → Result (Option (List ℕ)) FieldFault
+asked_state_row state = or_absent None (λ value. bytes_in field.ClientStates value >>= λ bytes. Ok (Some bytes)) (if_there state)
 
 -- `threatInfo`: an object
 abbrev pub info_row : Data → Result Data FieldFault

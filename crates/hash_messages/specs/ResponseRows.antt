@@ -29,10 +29,6 @@ hash_row found = object_of field.Threat found >>= bytes_of field.ThreatHash >>= 
 abbrev pub cache_row : Data → Result ℕ FieldFault
 cache_row found = duration_or_zero field.CacheDuration found
 
--- `minimumWaitDuration`, after the items, likewise
-abbrev pub wait_row : Data → Result ℕ FieldFault
-wait_row message = duration_or_zero field.MinimumWaitDuration message
-
 -- `negativeCacheDuration`, likewise
 abbrev pub negative_row : Data → Result ℕ FieldFault
 negative_row message = duration_or_zero field.NegativeCacheDuration message

@@ -8,7 +8,7 @@ ghost use Rattle.sb_model.specs.Prefixes.{IsRising};
 ghost use Rattle.sb_model.specs.declared.names.ListName.{ListName};
 ghost use Rattle.hash_messages.specs.Matches.{lists_asked, hashes_asked, matches_of, IsMatchOf};
 ghost use Rattle.hash_messages.specs.Messages.{AskedHashes};
-ghost use Rattle.hash_messages.specs.Others.{IsWithoutOthers};
+ghost use Rattle.hash_messages.specs.Others.{IsFindWithoutOthers};
 ghost use Rattle.hash_messages.specs.Reading.{ReadsFindRequest, ReadsFindResponse};
 ghost use Rattle.hash_messages.specs.Faults.{fault_of_find_request, fault_of_find_response};
 ghost use Rattle.hash_messages.specs.Writing.{spelling_of_find_request, spelling_of_find_response};
@@ -39,7 +39,7 @@ pub fn find_values_read_or_have_a_fault()
 /// the same one.
 pub fn unknown_types_change_nothing()
     ensures { (value other : Data) (message : AskedHashes)
-        → IsWithoutOthers value other → ReadsFindRequest value message → ReadsFindRequest other message }
+        → IsFindWithoutOthers value other → ReadsFindRequest value message → ReadsFindRequest other message }
 {}
 
 /// A server's answer goes through lists in the order of names, and through the full hashes of each

@@ -20,9 +20,9 @@ const MOST_PREFIXES: usize = 1_024;
 
 /// A state; `None` where it is null.
 fn asked_state(alloc: Global, item: &Value) -> Result<Option<Bytes>, FieldFault>
-    ensures ok { IfOk result (λ state. row.state_row (view item.now) ≡ Ok state) }
+    ensures ok { IfOk result (λ state. row.asked_state_row (view item.now) ≡ Ok state) }
     ensures err { IfErr result (λ fault. (fault ≡ FieldFault.OutOfMemory)
-        ⊎ (row.state_row (view item.now) ≡ Err fault)) }
+        ⊎ (row.asked_state_row (view item.now) ≡ Err fault)) }
 {
     if item.is_null() {
         return Ok(None);
@@ -36,9 +36,9 @@ pub(crate) struct States;
 impl ReadSome for States {
     type Found = Bytes;
 
-    ghost Reads = { ReadsAs row.state_row };
+    ghost Reads = { ReadsAs row.asked_state_row };
 
-    ghost fault = { fault_by row.state_row };
+    ghost fault = { fault_by row.asked_state_row };
 
     fn read_some(alloc: Global, item: &Value) -> Result<Option<Bytes>, FieldFault> {
         asked_state(alloc, item)

@@ -9,7 +9,7 @@ use Rattle.httparse.specs.Ascii.{crlf_bytes}
 use Rattle.httparse.specs.Grammar.{ChunkLine, print_chunk_line, ReadsChunkLine, chunk_size, Field, print_section}
 use Rattle.httparse.proofs.ChunkLemmas.{chunk_line_unique}
 use Rattle.httparse.proofs.GrammarLemmas.{section_unique}
-use Rattle.http_edge.specs.Chunks.{ChunkOfData, print_chunk, IsChunk, data_size, data_of, BeginsWith, SaysSize, HasBadLine, HasOpenLine, HasBadEnd, HasOpenEnd, HasTrailer, HasBadTrailer, HasOpenTrailer, IsWholeBody, HasBadChunk, PassesLimit, IsOpenBody}
+use Rattle.http_edge.specs.Chunks.{ChunkOfData, print_chunk, IsChunk, data_size, data_of, BeginsWithChunks, SaysSize, HasBadLine, HasOpenLine, HasBadEnd, HasOpenEnd, HasTrailer, HasBadTrailer, HasOpenTrailer, IsWholeBody, HasBadChunk, PassesLimit, IsOpenBody}
 
 -- what stands at the front of a text stands at the front of so much of it as has room for that
 pub in_front : (n : ℕ) (text front rest : List ℕ) → text ≡ front ++ rest → length front ≤ n → take n text ≡ front ++ take (n - length front) rest
@@ -153,7 +153,7 @@ Standing = ℕ → ℕ → List ℕ → Type 0
 
 record StopsWith (stands : Standing) (body : List ℕ) (chunks : List ChunkOfData) : Type 0 where
   at : List ℕ
-  before : BeginsWith body chunks at
+  before : BeginsWithChunks body chunks at
   stops : Stops (length chunks) (data_size chunks) at
   is : stands (length chunks) (data_size chunks) at
 
@@ -302,7 +302,7 @@ bad_stop body number is = of is.wrong
     chunks : List ChunkOfData
     chunks = is.chunks
 
-    of : ((rest : List ℕ) × BeginsWith body chunks rest × ((length chunks ≡ 1048576) ⊎ HasBadLine rest))
+    of : ((rest : List ℕ) × BeginsWithChunks body chunks rest × ((length chunks ≡ 1048576) ⊎ HasBadLine rest))
         ⊎ ((size : ℕ) × (rest : List ℕ) × SaysSize body chunks size rest × (0 < size) × (data_size chunks + size ≤ 201326592)
         × (size ≤ length rest) × HasBadEnd (drop size rest))
         ⊎ ((rest : List ℕ) × SaysSize body chunks 0 rest × HasBadTrailer rest)
@@ -340,7 +340,7 @@ open_stop body is = of is.inside
     chunks : List ChunkOfData
     chunks = is.chunks
 
-    of : ((rest : List ℕ) × BeginsWith body chunks rest × (length chunks < 1048576) × HasOpenLine rest)
+    of : ((rest : List ℕ) × BeginsWithChunks body chunks rest × (length chunks < 1048576) × HasOpenLine rest)
         ⊎ ((size : ℕ) × (rest : List ℕ) × SaysSize body chunks size rest × (0 < size) × (data_size chunks + size ≤ 201326592)
         × ((length rest < size) ⊎ ((size ≤ length rest) × HasOpenEnd (drop size rest))))
         ⊎ ((rest : List ℕ) × SaysSize body chunks 0 rest × HasOpenTrailer rest)

@@ -5,7 +5,7 @@ use Rattle.std.proofs.lemmas.Bool.{cases_lt}
 use Rattle.std.proofs.lemmas.List.{take-append-le, take_all, append-nil, length-drop}
 use Rattle.httparse.specs.Grammar.{RequestHead, NeverHasRequest, HasNoRequest, MayBecomeRequest}
 use Rattle.http_edge.specs.Heads.{IsRefusedRequest, IsOpenRequest}
-use Rattle.http_edge.specs.Requests.{HasRequest, ReadsAs, NeedsMore, RequestOutcome}
+use Rattle.http_edge.specs.Requests.{HasRequest, ReadsAsRequest, NeedsMore, RequestOutcome}
 use Rattle.http_edge.specs.Deciding.{IsDecided, LacksSome, HasHead, IsStage, KeepsHead, StandsFor, Watching}
 use Rattle.http_edge.specs.declared.deciding.Stage.{Stage}
 use Rattle.http_edge.specs.declared.deciding.Stage.TheVariants.{Head, Body, Decided}
@@ -45,7 +45,7 @@ open_append bytes more long unread =
       may_be = subst MayBecomeRequest (sym front) unread.may_be;
     }
 
-whole_append : (bytes more : List ℕ) (request : HttpRequest) → ReadsAs bytes request → ReadsAs (bytes ++ more) request
+whole_append : (bytes more : List ℕ) (request : HttpRequest) → ReadsAsRequest bytes request → ReadsAsRequest (bytes ++ more) request
 whole_append bytes more request reads = record {
   head = reads.head;
   rest = reads.rest ++ more;

@@ -9,7 +9,7 @@ use Rattle.http_edge.specs.Heads.{BeginsRequest, IsRefusedRequest, IsOpenRequest
 use Rattle.std.specs.Prelude.{Result, IfOk}
 use Rattle.sb_model.specs.declared.memory.OutOfMemory.{OutOfMemory}
 use Rattle.http_edge.specs.declared.messages.HttpRequest.{HttpRequest}
-use Rattle.http_edge.specs.Requests.{HasRequest, ReadsAs, LacksBody}
+use Rattle.http_edge.specs.Requests.{HasRequest, ReadsAsRequest, LacksBody}
 use Rattle.http_edge.specs.Receiving.{IsPartsOf, IsRequestStep}
 use Rattle.http_edge.specs.declared.requests.RequestParts.{RequestParts}
 use Rattle.http_edge.specs.declared.requests.RequestStep.{RequestStep}
@@ -62,7 +62,7 @@ result_of_front text front (Err refused) is some says = tt
 -- the body is whole
 pub request_whole : (text given : List ℕ) (parts : RequestParts) (n : ℕ) (request : HttpRequest) → IsPartsOf text parts → parts.length ≡ Some n → n ≤ 1048576
     → n ≤ length (drop parts.start text ++ given) → request.method ≡ parts.method → request.target ≡ parts.target
-    → request.body ≡ take n (drop parts.start text ++ given) → ReadsAs (text ++ given) request
+    → request.body ≡ take n (drop parts.start text ++ given) → ReadsAsRequest (text ++ given) request
 request_whole text given parts n request is known allowed whole method target body = record {
   head = is.head;
   rest = drop parts.start text ++ given;

@@ -23,7 +23,7 @@ use Rattle.sha2.proofs.Facts256.{length-sha256}
 use Rattle.httparse.specs.Ascii.{crlf_bytes}
 use Rattle.httparse.specs.Grammar.{crlf, is_token_byte, is_value_byte, is_ows, skip_ows, trim_ows, Field, IsField, print_field, ResponseHead, IsResponseHead, print_response}
 use Rattle.httparse.proofs.GrammarLemmas.{print_response-append}
-use Rattle.http_edge.specs.Fields.{capped, is_number, number_said, length_in, length_said, encodings_said, values_of}
+use Rattle.http_edge.specs.Fields.{capped, is_number, number_said, length_in, length_said, encodings_said, field_values_of}
 use Rattle.http_edge.specs.Digests.{members_in, digest_members, IsNoDigest, IsDigestGiven}
 use Rattle.http_edge.specs.Responses.{line, digest_text, response_text}
 use Rattle.http_edge.specs.Outcomes.{framing_in, framing_of, HasBody, BytesOutcome}
@@ -302,7 +302,7 @@ head_long number digest few short =
 
 said_length : (n : ℕ) (digest : List ℕ) → n < 2 ^ 64 → length_said (fields_of (decimal n) digest) ≡ Said n
 said_length n digest small =
-    let values : values_of (codes "content-length") (fields_of (decimal n) digest) ≡ trim_ows (32 ∷ decimal n) ∷ [] = refl in
+    let values : field_values_of (codes "content-length") (fields_of (decimal n) digest) ≡ trim_ows (32 ∷ decimal n) ∷ [] = refl in
     ap length_in (values ∙ ap (λ (t : List ℕ). t ∷ []) (trim_spaced (decimal n) (decimal_plain n small))) ∙ number_said_decimal n small
 
 framed : (n : ℕ) (digest : List ℕ) → n < 2 ^ 64 → framing_of (fields_of (decimal n) digest) ≡ ByLength n
@@ -312,7 +312,7 @@ framed n digest small =
 
 members_are : (number digest : List ℕ) → All IsPlain digest → digest_members (fields_of number digest) ≡ digest ∷ []
 members_are number digest plain =
-    let values : values_of (codes "content-digest") (fields_of number digest) ≡ trim_ows (32 ∷ digest) ∷ [] = refl in
+    let values : field_values_of (codes "content-digest") (fields_of number digest) ≡ trim_ows (32 ∷ digest) ∷ [] = refl in
     ap (flat_map members_in) (values ∙ ap (λ (t : List ℕ). t ∷ []) (trim_spaced digest plain))
     ∙ append-nil (members_in digest) ∙ members_plain digest plain
 

@@ -3,7 +3,7 @@ use Rattle.std.specs.Prelude.{◌≡◌, ℕ, ◌+◌, ◌<◌, ◌≤◌, ◌�
 use Rattle.httparse.specs.Ascii.{crlf_bytes}
 use Rattle.httparse.specs.Grammar.{ChunkLine, print_chunk_line, ReadsChunkLine, chunk_size, Field}
 use Rattle.http_edge.specs.Fields.{capped}
-use Rattle.http_edge.specs.Chunks.{ChunkOfData, data_of, BeginsWith, HasBadLine, HasOpenLine, HasBadEnd, HasOpenEnd, HasTrailer, HasBadTrailer, IsWholeBody, HasBadChunk, PassesLimit, IsOpenBody}
+use Rattle.http_edge.specs.Chunks.{ChunkOfData, data_of, BeginsWithChunks, HasBadLine, HasOpenLine, HasBadEnd, HasOpenEnd, HasTrailer, HasBadTrailer, IsWholeBody, HasBadChunk, PassesLimit, IsOpenBody}
 use Rattle.http_edge.specs.declared.chunks.ChunkPlace.{ChunkPlace}
 use Rattle.http_edge.specs.declared.chunks.ChunkStep.{ChunkStep}
 use Rattle.http_edge.specs.declared.chunks.ChunkStep.TheVariants as chunk
@@ -65,7 +65,7 @@ pub record HasChunk (bytes : List ℕ) (start size : ℕ) : Type 0 where
 -- stands there from a place on.
 pub record IsReadTo (body text : List ℕ) (place : ChunkPlace) : Type 0 where
   pub chunks : List ChunkOfData
-  pub before : BeginsWith body chunks (drop place.at text)
+  pub before : BeginsWithChunks body chunks (drop place.at text)
   pub taken : take place.end text ≡ data_of chunks
   pub counted : place.count ≡ length chunks
   pub order : place.end ≤ place.at

@@ -28,7 +28,7 @@ abbrev pub data_of : List ChunkOfData → List ℕ
 data_of chunks = flat_map (λ chunk. chunk.content) chunks
 
 -- Whole chunks stand at the front of a body, and these bytes follow them.
-pub record BeginsWith (body : List ℕ) (chunks : List ChunkOfData) (rest : List ℕ) : Type 0 where
+pub record BeginsWithChunks (body : List ℕ) (chunks : List ChunkOfData) (rest : List ℕ) : Type 0 where
   pub parts : body ≡ flat_map print_chunk chunks ++ rest
   pub each : All IsChunk chunks
   pub count : length chunks ≤ 1048576
@@ -38,7 +38,7 @@ pub record BeginsWith (body : List ℕ) (chunks : List ChunkOfData) (rest : List
 pub record SaysSize (body : List ℕ) (chunks : List ChunkOfData) (size : ℕ) (rest : List ℕ) : Type 0 where
   pub line : ChunkLine
   pub at : List ℕ
-  pub before : BeginsWith body chunks at
+  pub before : BeginsWithChunks body chunks at
   pub more : length chunks < 1048576
   pub reads : ReadsChunkLine at line rest
   pub short : length (print_chunk_line line) ≤ 1024
@@ -91,7 +91,7 @@ pub record HasBadChunk (bytes : List ℕ) (number : ℕ) : Type 0 where
   pub chunks : List ChunkOfData
   pub counted : number ≡ length chunks + 1
   pub wrong :
-      ((rest : List ℕ) × BeginsWith bytes chunks rest × ((length chunks ≡ 1048576) ⊎ HasBadLine rest))
+      ((rest : List ℕ) × BeginsWithChunks bytes chunks rest × ((length chunks ≡ 1048576) ⊎ HasBadLine rest))
       ⊎ ((size : ℕ) × (rest : List ℕ) × SaysSize bytes chunks size rest × (0 < size) × (data_size chunks + size ≤ 201326592)
       × (size ≤ length rest) × HasBadEnd (drop size rest))
       ⊎ ((rest : List ℕ) × SaysSize bytes chunks 0 rest × HasBadTrailer rest)
@@ -109,7 +109,7 @@ pub record PassesLimit (bytes : List ℕ) (total : ℕ) : Type 0 where
 pub record IsOpenBody (bytes : List ℕ) : Type 0 where
   pub chunks : List ChunkOfData
   pub inside :
-      ((rest : List ℕ) × BeginsWith bytes chunks rest × (length chunks < 1048576) × HasOpenLine rest)
+      ((rest : List ℕ) × BeginsWithChunks bytes chunks rest × (length chunks < 1048576) × HasOpenLine rest)
       ⊎ ((size : ℕ) × (rest : List ℕ) × SaysSize bytes chunks size rest × (0 < size) × (data_size chunks + size ≤ 201326592)
       × ((length rest < size) ⊎ ((size ≤ length rest) × HasOpenEnd (drop size rest))))
       ⊎ ((rest : List ℕ) × SaysSize bytes chunks 0 rest × HasOpenTrailer rest)

@@ -7,7 +7,7 @@ use Rattle.httparse.specs.Grammar.{Field, trim_ows}
 use Rattle.std.specs.Option.{option_to_list}
 use Rattle.httparse.specs.Spans.{header_bytes}
 use Rattle.httparse.specs.declared.spans.HeaderSpan.{HeaderSpan}
-use Rattle.http_edge.specs.Fields.{values_of, value_if_named}
+use Rattle.http_edge.specs.Fields.{field_values_of, value_if_named}
 use Rattle.http_edge.specs.Responses.{digest_text}
 
 -- the members of a value: its parts between commas, without the white space around them
@@ -16,7 +16,7 @@ members_in value = map trim_ows (slice_split (λ byte. byte == 44) value)
 
 -- the members of all fields, in order
 abbrev pub digest_members : List Field → List (List ℕ)
-digest_members fields = flat_map members_in (values_of (codes "content-digest") fields)
+digest_members fields = flat_map members_in (field_values_of (codes "content-digest") fields)
 
 -- A member is the text of this digest, which has the 32 bytes of a SHA-256.
 pub record IsDigestMember (member digest : List ℕ) : Type 0 where

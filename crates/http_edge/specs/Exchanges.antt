@@ -13,8 +13,8 @@ use Rattle.http_edge.specs.declared.messages.Target.{Target}
 use Rattle.http_edge.specs.Responses.{line}
 
 -- A text that stands in one line of a head: no character is a CR or an LF.
-abbrev pub IsOneLine : List ℕ → Type 0
-IsOneLine text = All (λ char. (char ≢ 13) × (char ≢ 10)) text
+abbrev pub StandsInOneLine : List ℕ → Type 0
+StandsInOneLine text = All (λ char. (char ≢ 13) × (char ≢ 10)) text
 
 -- the test of one character
 abbrev pub is_in_line : ℕ → Bool
@@ -22,12 +22,12 @@ is_in_line char = not (char == 13) && not (char == 10)
 
 -- Neither the host nor the key begins a further line of the head in which it stands.
 pub record IsTarget (target : Target) : Type 0 where
-  pub host : IsOneLine target.host
-  pub key : IsOneLine target.key
+  pub host : StandsInOneLine target.host
+  pub key : StandsInOneLine target.key
 
-abbrev pub path_of : Kind → List ℕ
-path_of Update = codes "/v4/threatListUpdates:fetch"
-path_of Find = codes "/v4/fullHashes:find"
+abbrev pub path_of_kind : Kind → List ℕ
+path_of_kind Update = codes "/v4/threatListUpdates:fetch"
+path_of_kind Find = codes "/v4/fullHashes:find"
 
 -- an empty key means that there is none
 abbrev pub query_of : List ℕ → List ℕ
@@ -36,7 +36,7 @@ query_of (first ∷ key) = codes "?key=" ++ encode_utf8_all (first ∷ key)
 
 abbrev pub request_head : Target → Kind → List ℕ → List ℕ
 request_head target kind body =
-    line (codes "POST " ++ (path_of kind ++ query_of target.key ++ codes " HTTP/1.1"))
+    line (codes "POST " ++ (path_of_kind kind ++ query_of target.key ++ codes " HTTP/1.1"))
     ++ line (codes "Host: " ++ encode_utf8_all target.host)
     ++ line (codes "Content-Type: application/json")
     ++ line (codes "Content-Length: " ++ decimal (length body))

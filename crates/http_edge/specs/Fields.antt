@@ -20,8 +20,8 @@ abbrev pub values_in : List ℕ → List (List ℕ × List ℕ) → List (List �
 values_in name fields = filter_map (value_if_named name) fields
 
 -- the values of the fields of that name, in their order, without the white space around them
-abbrev pub values_of : List ℕ → List Field → List (List ℕ)
-values_of name fields = values_in name (map name_and_value fields)
+abbrev pub field_values_of : List ℕ → List Field → List (List ℕ)
+field_values_of name fields = values_in name (map name_and_value fields)
 
 -- a number that is past the greatest u64 counts as that one
 abbrev pub capped : ℕ → ℕ
@@ -41,10 +41,10 @@ length_in (value ∷ []) = number_said value
 length_in (value ∷ next ∷ values) = Malformed
 
 abbrev pub length_said : List Field → BodyLength
-length_said fields = length_in (values_of (codes "content-length") fields)
+length_said fields = length_in (field_values_of (codes "content-length") fields)
 
 abbrev pub encodings_said : List Field → List (List ℕ)
-encodings_said fields = values_of (codes "transfer-encoding") fields
+encodings_said fields = field_values_of (codes "transfer-encoding") fields
 
 -- the values under a name, of fields that lie at these places of a buffer
 abbrev pub values_at : List ℕ → List HeaderSpan → List ℕ → List (List ℕ)

@@ -98,8 +98,8 @@ IsAt ValueCr text = WithCr HasValue text
 IsAt Asked text = IsOpenRequest text
 
 -- from a place to the next, with this byte
-abbrev pub GoesOn : HeadPlace → ℕ → HeadPlace → Type 0
-GoesOn place byte next = (before : List ℕ) → IsAt place before → IsAt next (before ++ byte ∷ [])
+abbrev pub GoesOnTo : HeadPlace → ℕ → HeadPlace → Type 0
+GoesOnTo place byte next = (before : List ℕ) → IsAt place before → IsAt next (before ++ byte ∷ [])
 
 -- the same where the text is known that ends with the byte
 abbrev pub GoesTo : HeadPlace → ℕ → List ℕ → HeadPlace → Type 0

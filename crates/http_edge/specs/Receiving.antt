@@ -22,7 +22,7 @@ pub record IsFound (buffer : List ℕ) (fields : List HeaderSpan) (spans : Reque
   pub path : span_bytes buffer spans.path ≡ head.target
   pub fields_are : map (header_bytes buffer) fields ≡ map name_and_value head.fields
 
-pub record IsPlaced (buffer : List ℕ) (fields : List HeaderSpan) (spans : RequestSpans) : Type 0 where
+pub record HasSpansWithin (buffer : List ℕ) (fields : List HeaderSpan) (spans : RequestSpans) : Type 0 where
   pub method : IsWithin (length buffer) spans.method
   pub path : IsWithin (length buffer) spans.path
   pub fields_fit : All (IsHeaderWithin (length buffer)) fields

@@ -42,7 +42,7 @@ pub record HasRequest (bytes : List ℕ) (head : RequestHead) (rest : List ℕ) 
   pub length : request_length head ≡ body_length
 
 -- The bytes have a whole request. What follows its body is not looked at.
-pub record ReadsAs (bytes : List ℕ) (request : HttpRequest) : Type 0 where
+pub record ReadsAsRequest (bytes : List ℕ) (request : HttpRequest) : Type 0 where
   pub head : RequestHead
   pub rest : List ℕ
   pub body_length : ℕ
@@ -79,7 +79,7 @@ IsRefusal bytes ended OutOfMemory = ⊤
 
 -- what the bytes come to
 abbrev pub RequestOutcome : List ℕ → Bool → Result HttpRequest RequestFault → Type 0
-RequestOutcome bytes ended (Ok request) = ReadsAs bytes request
+RequestOutcome bytes ended (Ok request) = ReadsAsRequest bytes request
 RequestOutcome bytes ended (Err fault) = IsRefusal bytes ended fault
 
 -- Bytes were read no further than to what decides them. Those before the last read need more, and one read gives at most

@@ -1,7 +1,7 @@
 ghost use Rattle.std.specs.Prelude.{◌≡◌, ℕ, ◌+◌, ◌*◌, ◌<◌, ◌≤◌, List, [], ◌∷◌, ◌++◌, length, IfOk, IsTrue, IsFalse};
 ghost use Rattle.httparse.specs.Grammar.{RequestHead};
 ghost use Rattle.http_edge.specs.Requests.{NeedsMore};
-ghost use Rattle.http_edge.specs.Receiving.{IsFound, IsPlaced};
+ghost use Rattle.http_edge.specs.Receiving.{IsFound, HasSpansWithin};
 ghost use Rattle.http_edge.specs.Places.{IsAt};
 ghost use Rattle.http_edge.specs.Deciding.{IsDecided, IsStage, HasHead, IsHeadStep, StandsFor};
 
@@ -61,7 +61,7 @@ impl Model for RequestWatch {
 /// What a whole head says.
 fn judge_whole(buffer: &[u8], fields: &[HeaderSpan], spans: RequestSpans) -> HeadStep
     requires found { (head : RequestHead) × IsFound buffer.now fields.now spans head }
-    requires placed { IsPlaced buffer.now fields.now spans }
+    requires placed { HasSpansWithin buffer.now fields.now spans }
     requires short { length buffer.now ≤ HEAD_LIMIT }
     ensures { IsHeadStep buffer.now result }
 {

@@ -6,7 +6,7 @@ ghost use Rattle.sb_outside.specs.declared.links.Session.{Session};
 ghost use Rattle.sb_outside.specs.declared.links.Kind.{Kind};
 ghost use Rattle.http_edge.specs.declared.messages.Target.{Target};
 ghost use Rattle.http_edge.specs.Responses.{line};
-ghost use Rattle.http_edge.specs.Exchanges.{CountsLinkFault, CountsSendFault, path_of, query_of, request_head, IsTarget, HoldsSession, HoldsPart, IsConversation, IsPartOfConversation, IsOpenExchange};
+ghost use Rattle.http_edge.specs.Exchanges.{CountsLinkFault, CountsSendFault, path_of_kind, query_of, request_head, IsTarget, HoldsSession, HoldsPart, IsConversation, IsPartOfConversation, IsOpenExchange};
 ghost use Rattle.http_edge.specs.SessionBytes.{Turns, Receives, ReadsWhile, IsOpenHead, IsResponsePartsOf, IsDigestCompared, IsReceived, IsPartReceived, SendsFront};
 
 use crate::heads::{PIECE, buffer_of};
@@ -197,7 +197,7 @@ fn push_query(page: &mut Bytes, key: &Text) -> Result<(), OutOfMemory>
 
 /// What follows the method in a request line.
 fn rest_of_line(alloc: Global, target: &Target, kind: Kind) -> Result<Bytes, OutOfMemory>
-    ensures { IfOk result (λ text. text ≡ path_of kind ++ query_of target.now.key ++ codes " HTTP/1.1") }
+    ensures { IfOk result (λ text. text ≡ path_of_kind kind ++ query_of target.now.key ++ codes " HTTP/1.1") }
 {
     let mut text = Bytes::from_slice(alloc, path_of(kind).as_bytes())?;
     push_query(&mut text, &target.key)?;

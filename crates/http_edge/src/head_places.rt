@@ -1,5 +1,5 @@
 ghost use Rattle.std.specs.Prelude.{◌<◌, length, IfSome};
-ghost use Rattle.http_edge.specs.Places.{GoesOn, GoesTo};
+ghost use Rattle.http_edge.specs.Places.{GoesOnTo, GoesTo};
 
 use httparse::{is_header_name_token, is_header_value_token, is_method_token, is_uri_token};
 
@@ -38,7 +38,7 @@ pub(crate) enum HeadPlace {
 }
 
 fn after_blank(byte: u8) -> Option<HeadPlace>
-    ensures { IfSome result (GoesOn HeadPlace.Blank byte) }
+    ensures { IfSome result (GoesOnTo HeadPlace.Blank byte) }
 {
     if byte == b'\r' {
         return Some(HeadPlace::BlankCr);
@@ -83,7 +83,7 @@ fn in_target(text: &[u8], start: usize, byte: u8) -> Option<HeadPlace>
 }
 
 fn in_version(known: usize, byte: u8) -> Option<HeadPlace>
-    ensures { IfSome result (GoesOn (HeadPlace.Version known) byte) }
+    ensures { IfSome result (GoesOnTo (HeadPlace.Version known) byte) }
 {
     if known < VERSION.len() && byte == VERSION[known] {
         return Some(HeadPlace::Version(known + 1));
@@ -95,7 +95,7 @@ fn in_version(known: usize, byte: u8) -> Option<HeadPlace>
 }
 
 fn after_version(byte: u8) -> Option<HeadPlace>
-    ensures { IfSome result (GoesOn HeadPlace.Minor byte) }
+    ensures { IfSome result (GoesOnTo HeadPlace.Minor byte) }
 {
     if byte == b'\r' {
         return Some(HeadPlace::LineCr);
@@ -108,7 +108,7 @@ fn after_version(byte: u8) -> Option<HeadPlace>
 
 /// The LF that makes a head whole leads to no place.
 fn at_line(byte: u8) -> Option<HeadPlace>
-    ensures { IfSome result (GoesOn HeadPlace.Line byte) }
+    ensures { IfSome result (GoesOnTo HeadPlace.Line byte) }
 {
     if byte == b'\r' {
         return Some(HeadPlace::LastCr);
@@ -120,7 +120,7 @@ fn at_line(byte: u8) -> Option<HeadPlace>
 }
 
 fn in_name(byte: u8) -> Option<HeadPlace>
-    ensures { IfSome result (GoesOn HeadPlace.Name byte) }
+    ensures { IfSome result (GoesOnTo HeadPlace.Name byte) }
 {
     if byte == b':' {
         return Some(HeadPlace::Value);
@@ -132,7 +132,7 @@ fn in_name(byte: u8) -> Option<HeadPlace>
 }
 
 fn in_value(byte: u8) -> Option<HeadPlace>
-    ensures { IfSome result (GoesOn HeadPlace.Value byte) }
+    ensures { IfSome result (GoesOnTo HeadPlace.Value byte) }
 {
     if byte == b'\r' {
         return Some(HeadPlace::ValueCr);

@@ -1,6 +1,6 @@
 ghost use Rattle.std.specs.Prelude.{◌≡◌, ◌↔◌, IsTrue};
 ghost use Rattle.http_edge.specs.Responses.{status_code};
-ghost use Rattle.http_edge.specs.Exchanges.{is_in_line, IsOneLine, IsTarget};
+ghost use Rattle.http_edge.specs.Exchanges.{is_in_line, StandsInOneLine, IsTarget};
 
 use sb_model::{Bytes, Text};
 
@@ -31,7 +31,7 @@ fn is_in_line(char: char) -> bool
 
 /// Whether a text has no CR and no LF.
 fn is_one_line(text: &Text) -> bool
-    ensures { IsTrue result ↔ IsOneLine text.now }
+    ensures { IsTrue result ↔ StandsInOneLine text.now }
 {
     text.as_str().chars().all(|char| is_in_line(char))
 }

@@ -1,5 +1,5 @@
 ghost use Rattle.std.specs.Prelude.{◌≡◌, ◌++◌, length, take, decimal, OnOk, OnErr};
-ghost use Rattle.http_edge.specs.Printed.{cause_text};
+ghost use Rattle.http_edge.specs.Printed.{exchange_cause_text};
 
 use crate::ExchangeFault;
 use hash_prefixes::append_hex;
@@ -16,7 +16,7 @@ fn push_counted(page: &mut Bytes, word: &str, number: u64) -> Result<(), OutOfMe
 
 // Appends both digests.
 fn push_digests(page: &mut Bytes, got: &[u8], given: &[u8]) -> Result<(), OutOfMemory>
-    ensures ok { OnOk result (page.new ≡ page.old ++ cause_text (ExchangeFault.Digest got.now given.now)) }
+    ensures ok { OnOk result (page.new ≡ page.old ++ exchange_cause_text (ExchangeFault.Digest got.now given.now)) }
     ensures front { OnErr result (take (length page.old) page.new ≡ page.old) }
 {
     page.append(b"digest ")?;
@@ -27,7 +27,7 @@ fn push_digests(page: &mut Bytes, got: &[u8], given: &[u8]) -> Result<(), OutOfM
 
 /// Appends the cause of a failed exchange as it is printed. After an `Err` the page begins as it was.
 pub fn push_exchange_cause(page: &mut Bytes, fault: &ExchangeFault) -> Result<(), OutOfMemory>
-    ensures ok { OnOk result (page.new ≡ page.old ++ cause_text fault.now) }
+    ensures ok { OnOk result (page.new ≡ page.old ++ exchange_cause_text fault.now) }
     ensures front { OnErr result (take (length page.old) page.new ≡ page.old) }
 {
     match fault {

@@ -6,7 +6,7 @@ ghost use Rattle.httparse.specs.Spans.{IsHeaderWithin};
 ghost use Rattle.http_edge.specs.Fields.{values_at, length_in};
 ghost use Rattle.http_edge.specs.Requests.{Gives, NeedsMore, IsRefusal, RequestOutcome, ReadsToRequest, goes_without_body, length_by, length_unless};
 ghost use Rattle.http_edge.specs.SessionBytes.{ReadsWhile};
-ghost use Rattle.http_edge.specs.Receiving.{IsFound, IsPlaced, IsPartsOf, IsRequestStep};
+ghost use Rattle.http_edge.specs.Receiving.{IsFound, HasSpansWithin, IsPartsOf, IsRequestStep};
 
 use crate::fields::{BodyLength, first_value, length_said};
 use crate::heads::{FIELD_LIMIT, HEAD_LIMIT, PIECE, buffer_of, front_of, room_for_head};
@@ -83,7 +83,7 @@ fn take_parts(
     spans: RequestSpans,
 ) -> Result<RequestStep, OutOfMemory>
     requires found { (head : RequestHead) × IsFound buffer.now fields.now spans head }
-    requires placed { IsPlaced buffer.now fields.now spans }
+    requires placed { HasSpansWithin buffer.now fields.now spans }
     requires short { length buffer.now ≤ HEAD_LIMIT }
     ensures step { IfOk result (λ step. IsRequestStep buffer.now step) }
     ensures decided { result ≢ Ok RequestStep.Open }

@@ -3,7 +3,7 @@ use Rattle.std.proofs.Common.{◌≡◌, ◌≢◌, ◌↔◌, ℕ, Bool, List, 
 use Rattle.std.proofs.lemmas.List.{append-nil}
 use Rattle.sha2.specs.Sha256.{sha256}
 use Rattle.sb_outside.specs.Outside.{next_piece, appended}
-use Rattle.http_edge.specs.Requests.{Gives, ReadsAs, RequestOutcome}
+use Rattle.http_edge.specs.Requests.{Gives, ReadsAsRequest, RequestOutcome}
 use Rattle.http_edge.specs.Responses.{allow_line, digest_text, line, response_text, status_text}
 use Rattle.http_edge.specs.declared.faults.RequestFault.{RequestFault}
 use Rattle.http_edge.specs.declared.faults.RequestFault.TheVariants as fault
@@ -111,7 +111,7 @@ fault_of_stop received end.OutOfMemory stop = (λ e. absurd (cc), λ e. absurd (
 
 -- the first bytes of a whole request, or more, are answered as the request is
 response_after : (Right : HttpRequest → Status → Allow → (body cause : List ℕ) → Type 0) (bytes whole : List ℕ) (ended : Bool) (received : Result HttpRequest RequestFault) (status : Status) (allow : Allow) (body cause : List ℕ) (request : HttpRequest)
-    → ReadsAs whole request → IsFrontOf bytes whole ended → RequestOutcome bytes ended received → IsAnswerAfter Right received status allow body cause
+    → ReadsAsRequest whole request → IsFrontOf bytes whole ended → RequestOutcome bytes ended received → IsAnswerAfter Right received status allow body cause
     → Right request status allow body cause
 response_after Right bytes whole ended (Ok heard) status allow body cause request reads front read response =
     subst (λ (r : HttpRequest). Right r status allow body cause) (same_request bytes whole ended heard request read reads front) response

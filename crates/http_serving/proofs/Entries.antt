@@ -14,7 +14,7 @@ use Rattle.http_edge.specs.declared.messages.HttpRequest.{HttpRequest}
 use Rattle.http_edge.specs.declared.messages.Status.{Status}
 use Rattle.http_serving.specs.Hearing.{Hears, IsHeard}
 use Rattle.http_serving.specs.Returning.{IsFresh, IsReturned}
-use Rattle.http_serving.specs.Serving.{unavailable_text, HasWritten, IsComplete, IsServed, IsUntouched, IsWholeOrFault, Serves}
+use Rattle.http_serving.specs.Serving.{unavailable_text, HasWritten, IsComplete, IsServed, IsConnectionUntouched, IsWholeOrFault, Serves}
 use Rattle.http_serving.specs.declared.ends.ConnectionEnd.{ConnectionEnd}
 use Rattle.http_serving.specs.declared.ends.ConnectionEnd.TheVariants as end
 
@@ -223,7 +223,7 @@ no_end : (pieces rest : List (List ℕ)) → rest ≡ pieces → HasEnded pieces
 no_end pieces rest same (n, some, few, is) = omega (arith, ap length same, ap length is, length-drop n pieces, some, few)
 
 pub entry_untouched : (entry : Connection) (pieces : List (List ℕ)) (start left : Option (List (List ℕ))) (contents : Option (List ℕ)) (reads writes : ℕ)
-    → IsFresh pieces start left contents reads writes → IsEntryOf entry start left contents reads writes → IsUntouched entry
+    → IsFresh pieces start left contents reads writes → IsEntryOf entry start left contents reads writes → IsConnectionUntouched entry
 entry_untouched entry pieces start left contents reads writes fresh is =
     let pieces_are : is.pieces ≡ pieces = told_is start _ _ is.started fresh.started in
     let rest_are : is.rest ≡ pieces = told_is left _ _ is.remains fresh.remains in

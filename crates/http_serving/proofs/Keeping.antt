@@ -7,7 +7,7 @@ use Rattle.std.proofs.lemmas.List.Quantifiers.{position-Some}
 use Rattle.std.proofs.lemmas.Option.{get_or_from_slice_get, slice_get_within}
 use Rattle.std.proofs.lemmas.Slice.Eq.{bytes_eq-Decides}
 use Rattle.http_edge.specs.Responses.{response_text}
-use Rattle.http_serving.specs.Kept.{after_asking, after_first, after_meaning, after_other, first_text, has_meaning, is_for_first, place_by_body, place_by_meaning, text_at, is_kept_in, AreKept, Comes, FindsByBody, FindsByMeaning, HasKept, HasKeptIn, KeepsSent, KeptLists, KeptPart, StaysAsked, StaysKept}
+use Rattle.http_serving.specs.Kept.{after_asking, after_asking_first, after_meaning, after_other, first_text, has_meaning, is_for_first, place_by_body, place_by_meaning, text_at, is_kept_in, HoldsOfAnswers, Comes, FindsByBody, FindsByMeaning, HasKept, HasKeptIn, KeepsSent, KeptLists, KeptPart, StaysAsked, StaysKept}
 use Rattle.http_serving.specs.declared.kept.KeptAnswer.{KeptAnswer}
 use Rattle.http_serving.specs.declared.responses.Answer.{Answer}
 use Rattle.http_serving.specs.declared.responses.Answer.TheVariants as answer
@@ -82,11 +82,11 @@ module _ {K : Type 0} (P : KeptAnswer K → Type 0) where
       All-append P (take place kept) (drop 1 (drop place kept) ++ take 1 (drop place kept)) (All-take P place kept all)
       (All-append P (drop 1 (drop place kept)) (take 1 (drop place kept)) (All-drop P 1 (drop place kept) rest) (All-take P 1 (drop place kept) rest))
 
-  in_part : (kept : KeptLists K) (is_first : Bool) (a b : Option ℕ) → AreKept P kept → AreKept P (if is_first then after_first a kept else after_other b kept)
+  in_part : (kept : KeptLists K) (is_first : Bool) (a b : Option ℕ) → HoldsOfAnswers P kept → HoldsOfAnswers P (if is_first then after_asking_first a kept else after_other b kept)
   in_part kept true a b are = record { first = asked_for kept.first.answers a are.first; others = are.others }
   in_part kept false a b are = record { first = are.first; others = asked_for kept.others.answers b are.others }
 
-  by_meaning : (same : K → K → Bool) (first : K → Bool) (kept : KeptLists K) (meaning : Option K) → AreKept P kept → AreKept P (after_meaning same first meaning kept)
+  by_meaning : (same : K → K → Bool) (first : K → Bool) (kept : KeptLists K) (meaning : Option K) → HoldsOfAnswers P kept → HoldsOfAnswers P (after_meaning same first meaning kept)
   by_meaning same first kept None are = are
   by_meaning same first kept (Some meaning) are =
       in_part kept (first meaning) (place_by_meaning same meaning kept.first.answers) (place_by_meaning same meaning kept.others.answers) are
@@ -108,7 +108,7 @@ module _ {K : Type 0} (P : KeptAnswer K → Type 0) where
           subst (All P) (sym comes.answers) (All-push P (drop comes.gone before.answers) answer (All-drop P comes.gone before.answers are) is)
       go false same = subst (λ (part : KeptPart K). All P part.answers) (sym same) are
 
-  one_more_kept : (answer : KeptAnswer K) (is_first : Bool) (before after : KeptLists K) → AreKept P before → P answer → HasKeptIn answer is_first before after → AreKept P after
+  one_more_kept : (answer : KeptAnswer K) (is_first : Bool) (before after : KeptLists K) → HoldsOfAnswers P before → P answer → HasKeptIn answer is_first before after → HoldsOfAnswers P after
   one_more_kept answer true before after are is has = record {
     first = one_part answer before.first after.first are.first is has.0;
     others = subst (λ (part : KeptPart K). All P part.answers) (sym has.1) are.others;
@@ -118,11 +118,11 @@ module _ {K : Type 0} (P : KeptAnswer K → Type 0) where
     others = one_part answer before.others after.others are.others is has.0;
   }
 
-  more_kept : (first : K → Bool) (asked : List ℕ) (meaning : Option K) (response : Response) (sent : Answer) (before after : KeptLists K) → AreKept P before
+  more_kept : (first : K → Bool) (asked : List ℕ) (meaning : Option K) (response : Response) (sent : Answer) (before after : KeptLists K) → HoldsOfAnswers P before
       → P (record { asked = asked; meaning = meaning; text = response_text response.status response.allow response.body })
-      → KeepsSent first asked meaning response sent before after → AreKept P after
-  more_kept first asked meaning response (answer.Made made) before after are is same = subst (AreKept P) (sym same) are
-  more_kept first asked meaning response (answer.Written written) before after are is same = subst (AreKept P) (sym same) are
+      → KeepsSent first asked meaning response sent before after → HoldsOfAnswers P after
+  more_kept first asked meaning response (answer.Made made) before after are is same = subst (HoldsOfAnswers P) (sym same) are
+  more_kept first asked meaning response (answer.Written written) before after are is same = subst (HoldsOfAnswers P) (sym same) are
   more_kept first asked meaning response (answer.Shared shared) before after are is has =
       one_more_kept (record { asked = asked; meaning = meaning; text = response_text response.status response.allow response.body }) (is_for_first first meaning) before after are is has
 

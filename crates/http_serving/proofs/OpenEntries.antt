@@ -6,7 +6,7 @@ use Rattle.std.proofs.lemmas.List.Folds.{list_any-append}
 use Rattle.sb_outside.specs.Outside.{IfTold}
 use Rattle.sb_outside.specs.Connections.{open_connection}
 use Rattle.sb_outside.specs.declared.doors.Connection.{Connection}
-use Rattle.http_serving.specs.OpenEntries.{is_open, without, HasOpen, IsOpenLog, OpensOne, ClosesOne, SaysAll}
+use Rattle.http_serving.specs.OpenEntries.{is_entry_open, without_entry, HasOpen, IsOpenLog, OpensOne, ClosesOne, SaysAll}
 
 -- ---- which are open
 
@@ -18,34 +18,34 @@ or_true : (b : Bool) → (b || true) ≡ true
 or_true true = refl
 or_true false = refl
 
-open_more : (number last : ℕ) (opens : List ℕ) → is_open number (opens ++ last ∷ []) ≡ (is_open number opens || (last == number))
-open_more number last opens = list_any-append (λ other. other == number) opens (last ∷ []) ∙ ap (λ b. is_open number opens || b) (or_false (last == number))
+open_more : (number last : ℕ) (opens : List ℕ) → is_entry_open number (opens ++ last ∷ []) ≡ (is_entry_open number opens || (last == number))
+open_more number last opens = list_any-append (λ other. other == number) opens (last ∷ []) ∙ ap (λ b. is_entry_open number opens || b) (or_false (last == number))
 
 -- the number that was taken away is not open
-not_open_at : (number other : ℕ) (opens : List ℕ) → is_open number (without number opens) ≡ false → (other ≡ number) ⊎ (other ≡ number → ⊥)
-    → is_open number (without number (other ∷ opens)) ≡ false
+not_open_at : (number other : ℕ) (opens : List ℕ) → is_entry_open number (without_entry number opens) ≡ false → (other ≡ number) ⊎ (other ≡ number → ⊥)
+    → is_entry_open number (without_entry number (other ∷ opens)) ≡ false
 not_open_at number other opens rest (inl same) =
-    ap (is_open number) (cond-false (not (other == number)) (other ∷ without number opens) (without number opens) (not_from_true (other == number) (eq-eqb other number same)))
+    ap (is_entry_open number) (cond-false (not (other == number)) (other ∷ without_entry number opens) (without_entry number opens) (not_from_true (other == number) (eq-eqb other number same)))
     ∙ rest
 not_open_at number other opens rest (inr differ) =
-    ap (is_open number) (cond-true (not (other == number)) (other ∷ without number opens) (without number opens) (not_from_false (other == number) (ne_eqb other number differ)))
-    ∙ ap (λ b. b || is_open number (without number opens)) (ne_eqb other number differ) ∙ rest
+    ap (is_entry_open number) (cond-true (not (other == number)) (other ∷ without_entry number opens) (without_entry number opens) (not_from_false (other == number) (ne_eqb other number differ)))
+    ∙ ap (λ b. b || is_entry_open number (without_entry number opens)) (ne_eqb other number differ) ∙ rest
 
-not_open : (number : ℕ) (opens : List ℕ) → is_open number (without number opens) ≡ false
+not_open : (number : ℕ) (opens : List ℕ) → is_entry_open number (without_entry number opens) ≡ false
 not_open number [] = refl
 not_open number (other ∷ opens) = not_open_at number other opens (not_open number opens) (cases_eq other number)
 
 -- others are as open as before
-open_still_at : (number gone other : ℕ) (opens : List ℕ) → (gone ≡ number → ⊥) → is_open number (without gone opens) ≡ is_open number opens
-    → (other ≡ gone) ⊎ (other ≡ gone → ⊥) → is_open number (without gone (other ∷ opens)) ≡ is_open number (other ∷ opens)
+open_still_at : (number gone other : ℕ) (opens : List ℕ) → (gone ≡ number → ⊥) → is_entry_open number (without_entry gone opens) ≡ is_entry_open number opens
+    → (other ≡ gone) ⊎ (other ≡ gone → ⊥) → is_entry_open number (without_entry gone (other ∷ opens)) ≡ is_entry_open number (other ∷ opens)
 open_still_at number gone other opens differ rest (inl same) =
-    ap (is_open number) (cond-false (not (other == gone)) (other ∷ without gone opens) (without gone opens) (not_from_true (other == gone) (eq-eqb other gone same)))
-    ∙ rest ∙ sym (ap (λ b. b || is_open number opens) (ne_eqb other number (λ e. differ (sym same ∙ e))))
+    ap (is_entry_open number) (cond-false (not (other == gone)) (other ∷ without_entry gone opens) (without_entry gone opens) (not_from_true (other == gone) (eq-eqb other gone same)))
+    ∙ rest ∙ sym (ap (λ b. b || is_entry_open number opens) (ne_eqb other number (λ e. differ (sym same ∙ e))))
 open_still_at number gone other opens differ rest (inr apart) =
-    ap (is_open number) (cond-true (not (other == gone)) (other ∷ without gone opens) (without gone opens) (not_from_false (other == gone) (ne_eqb other gone apart)))
+    ap (is_entry_open number) (cond-true (not (other == gone)) (other ∷ without_entry gone opens) (without_entry gone opens) (not_from_false (other == gone) (ne_eqb other gone apart)))
     ∙ ap (λ b. (other == number) || b) rest
 
-open_still : (number gone : ℕ) (opens : List ℕ) → (gone ≡ number → ⊥) → is_open number (without gone opens) ≡ is_open number opens
+open_still : (number gone : ℕ) (opens : List ℕ) → (gone ≡ number → ⊥) → is_entry_open number (without_entry gone opens) ≡ is_entry_open number opens
 open_still number gone [] differ = refl
 open_still number gone (other ∷ opens) differ = open_still_at number gone other opens differ (open_still number gone opens differ) (cases_eq other gone)
 
@@ -81,21 +81,21 @@ get_other (first ∷ entries) entry (suc number) (suc other) apart = get_other e
 -- ---- one more is open
 
 opened_more : (Says : ℕ → Connection → Type 0) (opens : List ℕ) (entries : List Connection) (number : ℕ) → HasOpen Says opens entries
-    → (length entries ≡ number) ⊎ (length entries ≡ number → ⊥) → is_open number (opens ++ length entries ∷ []) ≡ true
+    → (length entries ≡ number) ⊎ (length entries ≡ number → ⊥) → is_entry_open number (opens ++ length entries ∷ []) ≡ true
     → slice_get (entries ++ open_connection ∷ []) number ≡ Some open_connection
 opened_more Says opens entries number has (inl last) is = subst (λ (k : ℕ). slice_get (entries ++ open_connection ∷ []) k ≡ Some open_connection) last (get_last entries open_connection)
 opened_more Says opens entries number has (inr apart) is =
     get_front entries open_connection open_connection number (has.opened number
-    (sym (or_false (is_open number opens)) ∙ ap (λ b. is_open number opens || b) (sym (ne_eqb (length entries) number apart)) ∙ sym (open_more number (length entries) opens) ∙ is))
+    (sym (or_false (is_entry_open number opens)) ∙ ap (λ b. is_entry_open number opens || b) (sym (ne_eqb (length entries) number apart)) ∙ sym (open_more number (length entries) opens) ∙ is))
 
 closed_more : (Says : ℕ → Connection → Type 0) (opens : List ℕ) (entries : List Connection) (number : ℕ) (entry : Connection) → HasOpen Says opens entries
-    → (length entries ≡ number) ⊎ (length entries ≡ number → ⊥) → is_open number (opens ++ length entries ∷ []) ≡ false
+    → (length entries ≡ number) ⊎ (length entries ≡ number → ⊥) → is_entry_open number (opens ++ length entries ∷ []) ≡ false
     → slice_get (entries ++ open_connection ∷ []) number ≡ Some entry → Says number entry
 closed_more Says opens entries number entry has (inl last) is found =
-    absurd (true≢false (sym (or_true (is_open number opens)) ∙ ap (λ b. is_open number opens || b) (sym (eq-eqb (length entries) number last)) ∙ sym (open_more number (length entries) opens) ∙ is))
+    absurd (true≢false (sym (or_true (is_entry_open number opens)) ∙ ap (λ b. is_entry_open number opens || b) (sym (eq-eqb (length entries) number last)) ∙ sym (open_more number (length entries) opens) ∙ is))
 closed_more Says opens entries number entry has (inr apart) is found =
     has.closed number entry
-    (sym (or_false (is_open number opens)) ∙ ap (λ b. is_open number opens || b) (sym (ne_eqb (length entries) number apart)) ∙ sym (open_more number (length entries) opens) ∙ is)
+    (sym (or_false (is_entry_open number opens)) ∙ ap (λ b. is_entry_open number opens || b) (sym (ne_eqb (length entries) number apart)) ∙ sym (open_more number (length entries) opens) ∙ is)
     (get_back entries open_connection entry number apart found)
 
 has_more : (Says : ℕ → Connection → Type 0) (opens : List ℕ) (entries : List Connection) → HasOpen Says opens entries → HasOpen Says (opens ++ length entries ∷ []) (entries ++ open_connection ∷ [])
@@ -115,14 +115,14 @@ opens_one Says opens number (Some entries) (Some entries') has numbered told =
 -- ---- one is filled
 
 opened_less : (Says : ℕ → Connection → Type 0) (opens : List ℕ) (entries : List Connection) (gone : ℕ) (entry : Connection) (number : ℕ) → HasOpen Says opens entries
-    → (gone ≡ number) ⊎ (gone ≡ number → ⊥) → is_open number (without gone opens) ≡ true → slice_get (slice_set entries gone entry) number ≡ Some open_connection
+    → (gone ≡ number) ⊎ (gone ≡ number → ⊥) → is_entry_open number (without_entry gone opens) ≡ true → slice_get (slice_set entries gone entry) number ≡ Some open_connection
 opened_less Says opens entries gone entry number has (inl same) is =
-    absurd (true≢false (sym is ∙ subst (λ (k : ℕ). is_open number (without k opens) ≡ false) (sym same) (not_open number opens)))
+    absurd (true≢false (sym is ∙ subst (λ (k : ℕ). is_entry_open number (without_entry k opens) ≡ false) (sym same) (not_open number opens)))
 opened_less Says opens entries gone entry number has (inr apart) is =
     get_other entries entry gone number apart ∙ has.opened number (sym (open_still number gone opens apart) ∙ is)
 
 closed_less : (Says : ℕ → Connection → Type 0) (opens : List ℕ) (entries : List Connection) (gone : ℕ) (entry : Connection) (number : ℕ) (found : Connection) → HasOpen Says opens entries
-    → Says gone entry → (gone ≡ number) ⊎ (gone ≡ number → ⊥) → is_open number (without gone opens) ≡ false → slice_get (slice_set entries gone entry) number ≡ Some found → Says number found
+    → Says gone entry → (gone ≡ number) ⊎ (gone ≡ number → ⊥) → is_entry_open number (without_entry gone opens) ≡ false → slice_get (slice_set entries gone entry) number ≡ Some found → Says number found
 closed_less Says opens entries gone entry number found has says (inl same) is at =
     subst (λ (k : ℕ). Says k found) same
     (subst (Says gone) (get_set entries entry found gone (subst (λ (k : ℕ). slice_get (slice_set entries gone entry) k ≡ Some found) (sym same) at)) says)
@@ -130,19 +130,19 @@ closed_less Says opens entries gone entry number found has says (inr apart) is a
     has.closed number found (sym (open_still number gone opens apart) ∙ is) (sym (get_other entries entry gone number apart) ∙ at)
 
 has_less : (Says : ℕ → Connection → Type 0) (opens : List ℕ) (entries : List Connection) (gone : ℕ) (entry : Connection) → HasOpen Says opens entries → Says gone entry
-    → HasOpen Says (without gone opens) (slice_set entries gone entry)
+    → HasOpen Says (without_entry gone opens) (slice_set entries gone entry)
 has_less Says opens entries gone entry has says = record {
   opened = λ number is. opened_less Says opens entries gone entry number has (cases_eq gone number) is;
   closed = λ number found is at. closed_less Says opens entries gone entry number found has says (cases_eq gone number) is at;
 }
 
 filled : (Says : ℕ → Connection → Type 0) (opens : List ℕ) (number : ℕ) (log log' : Option (List Connection)) (entry : Connection) → IsOpenLog Says opens log
-    → IfTold log' (option_map (λ entries. slice_set entries number entry) log) → IfSome log' (λ _. Says number entry) → IsOpenLog Says (without number opens) log'
+    → IfTold log' (option_map (λ entries. slice_set entries number entry) log) → IfSome log' (λ _. Says number entry) → IsOpenLog Says (without_entry number opens) log'
 filled Says opens number log None entry has told says = tt
 filled Says opens number None (Some entries') entry has told says = absurd (cc)
 filled Says opens number (Some entries) (Some entries') entry has told says =
     let set : slice_set entries number entry ≡ entries' = cc in
-    subst (λ (l : List Connection). HasOpen Says (without number opens) l) set (has_less Says opens entries number entry has says)
+    subst (λ (l : List Connection). HasOpen Says (without_entry number opens) l) set (has_less Says opens entries number entry has says)
 
 pub closes_one : (Says : ℕ → Connection → Type 0) → ClosesOne Says
 closes_one Says opens number log log' has returned = filled Says opens number log log' returned.entry has returned.logged returned.says

@@ -5,7 +5,7 @@ use Rattle.httparse.specs.Grammar.{Field, RequestHead, print_request, ReadsReque
 use Rattle.httparse.proofs.GrammarLemmas.{request_prefix_free}
 use Rattle.sb_outside.specs.Outside.{next_piece, bytes_left, prepended}
 use Rattle.http_edge.specs.Heads.{BeginsRequest, HasGoodFields, HasBadFields, IsRefusedRequest, IsOpenRequest}
-use Rattle.http_edge.specs.Requests.{Gives, request_length, HasRequest, ReadsAs, LacksBody, IsRefusal}
+use Rattle.http_edge.specs.Requests.{Gives, request_length, HasRequest, ReadsAsRequest, LacksBody, IsRefusal}
 use Rattle.http_edge.specs.declared.faults.RequestFault.{RequestFault}
 use Rattle.http_edge.specs.declared.faults.RequestFault.TheVariants as fault
 use Rattle.http_edge.specs.declared.messages.HttpRequest.{HttpRequest}
@@ -43,7 +43,7 @@ bad_fields : (fields : List Field) → HasGoodFields fields → HasBadFields fie
 bad_fields fields good (inl many) = omega (arith, good.few, many)
 bad_fields fields good (inr malformed) = good.length malformed
 
-not_refused : (bytes whole : List ℕ) (ended : Bool) (request : HttpRequest) → ReadsAs whole request → IsFrontOf bytes whole ended → IsRefusedRequest bytes → ⊥
+not_refused : (bytes whole : List ℕ) (ended : Bool) (request : HttpRequest) → ReadsAsRequest whole request → IsFrontOf bytes whole ended → IsRefusedRequest bytes → ⊥
 not_refused bytes whole ended request reads front (inl never) =
     let is : take 16384 bytes ++ (drop 16384 bytes ++ front.lost) ≡ whole =
     sym (append_assoc (take 16384 bytes) (drop 16384 bytes) front.lost) ∙ ap (λ l. l ++ front.lost) (take-append-drop 16384 bytes) ∙ front.parts in
@@ -60,20 +60,20 @@ head_within bytes lost whole p rest parts is short few =
     take-take (length p) 16384 bytes few ∙ sym (take-append-le (length p) bytes lost short) ∙ ap (take (length p)) (parts ∙ is) ∙ take_at p rest (length p) refl in
     sym (take-append-drop (length p) (take 16384 bytes)) ∙ ap (λ l. l ++ drop (length p) (take 16384 bytes)) front
 
-not_open : (bytes whole : List ℕ) (ended : Bool) (request : HttpRequest) (reads : ReadsAs whole request) → IsFrontOf bytes whole ended
+not_open : (bytes whole : List ℕ) (ended : Bool) (request : HttpRequest) (reads : ReadsAsRequest whole request) → IsFrontOf bytes whole ended
     → length (print_request reads.head) ≤ length bytes → IsOpenRequest bytes → ⊥
 not_open bytes whole ended request reads front short open_yet =
     let begins = reads.has.begins in
     open_yet.not_whole reads.head (drop (length (print_request reads.head)) (take 16384 bytes))
     (begins.reads.0, head_within bytes front.lost whole (print_request reads.head) reads.rest front.parts begins.reads.1 short begins.within)
 
-same_size : (bytes whole : List ℕ) (ended : Bool) (request : HttpRequest) (reads : ReadsAs whole request) → IsFrontOf bytes whole ended
+same_size : (bytes whole : List ℕ) (ended : Bool) (request : HttpRequest) (reads : ReadsAsRequest whole request) → IsFrontOf bytes whole ended
     → (head : RequestHead) (rest : List ℕ) (size : Option ℕ) → HasRequest bytes head rest size → size ≡ Some reads.body_length
 same_size bytes whole ended request reads front head rest size has =
     let same = same_head bytes front.lost whole head reads.head rest reads.rest front.parts has.begins reads.has.begins in
     sym has.length ∙ ap request_length same.0 ∙ reads.has.length
 
-same_rest : (bytes whole : List ℕ) (ended : Bool) (request : HttpRequest) (reads : ReadsAs whole request) (front : IsFrontOf bytes whole ended)
+same_rest : (bytes whole : List ℕ) (ended : Bool) (request : HttpRequest) (reads : ReadsAsRequest whole request) (front : IsFrontOf bytes whole ended)
     → (head : RequestHead) (rest : List ℕ) (size : Option ℕ) → HasRequest bytes head rest size → rest ++ front.lost ≡ reads.rest
 same_rest bytes whole ended request reads front head rest size has =
     (same_head bytes front.lost whole head reads.head rest reads.rest front.parts has.begins reads.has.begins).1
@@ -81,14 +81,14 @@ same_rest bytes whole ended request reads front head rest size has =
 some_size : (m n : ℕ) → let known : Option ℕ = Some m in known ≡ Some n → m ≡ n
 some_size m n is = cc
 
-not_cut_body : (bytes whole : List ℕ) (ended : Bool) (request : HttpRequest) → ReadsAs whole request → IsFrontOf bytes whole ended → IsTrue ended → LacksBody bytes → ⊥
+not_cut_body : (bytes whole : List ℕ) (ended : Bool) (request : HttpRequest) → ReadsAsRequest whole request → IsFrontOf bytes whole ended → IsTrue ended → LacksBody bytes → ⊥
 not_cut_body bytes whole ended request reads front over lacks =
     let size : lacks.body_length ≡ reads.body_length = some_size _ _ (same_size bytes whole ended request reads front lacks.head lacks.rest (Some lacks.body_length) lacks.has) in
     let rest : lacks.rest ++ front.lost ≡ reads.rest = same_rest bytes whole ended request reads front lacks.head lacks.rest (Some lacks.body_length) lacks.has in
     let all : length front.lost ≡ 0 = ap length (front.all over) in
     omega (arith, size, all, ap length rest, length-append lacks.rest front.lost, lacks.short, reads.whole)
 
-not_cut : (bytes whole : List ℕ) (ended : Bool) (request : HttpRequest) → ReadsAs whole request → IsFrontOf bytes whole ended → IsRefusal bytes ended fault.Cut → ⊥
+not_cut : (bytes whole : List ℕ) (ended : Bool) (request : HttpRequest) → ReadsAsRequest whole request → IsFrontOf bytes whole ended → IsRefusal bytes ended fault.Cut → ⊥
 not_cut bytes whole ended request reads front (over, inl (short, open_yet)) =
     let is = reads.has.begins.reads.1 in
     let all : length front.lost ≡ 0 = ap length (front.all over) in
@@ -97,7 +97,7 @@ not_cut bytes whole ended request reads front (over, inl (short, open_yet)) =
 not_cut bytes whole ended request reads front (over, inr lacks) = not_cut_body bytes whole ended request reads front over lacks
 
 pub no_status : (bytes whole : List ℕ) (ended : Bool) (request : HttpRequest) (refusal : RequestFault) (status : Status)
-    → ReadsAs whole request → IsFrontOf bytes whole ended → IsRefusal bytes ended refusal → refusal_status refusal ≡ Some status → ⊥
+    → ReadsAsRequest whole request → IsFrontOf bytes whole ended → IsRefusal bytes ended refusal → refusal_status refusal ≡ Some status → ⊥
 no_status bytes whole ended request fault.ReadFault status reads front is told = cc
 no_status bytes whole ended request fault.Head status reads front is told = not_refused bytes whole ended request reads front is
 no_status bytes whole ended request fault.HeadLimit status reads front is told =
@@ -115,7 +115,7 @@ no_status bytes whole ended request fault.OutOfMemory status reads front is told
 same_body : (front lost rest : List ℕ) (m n : ℕ) → front ++ lost ≡ rest → m ≡ n → m ≤ length front → take m front ≡ take n rest
 same_body front lost rest m n parts same few = sym (take-append-le m front lost few) ∙ ap (take m) parts ∙ ap (λ k. take k rest) same
 
-pub same_request : (bytes whole : List ℕ) (ended : Bool) (received request : HttpRequest) → ReadsAs bytes received → ReadsAs whole request → IsFrontOf bytes whole ended
+pub same_request : (bytes whole : List ℕ) (ended : Bool) (received request : HttpRequest) → ReadsAsRequest bytes received → ReadsAsRequest whole request → IsFrontOf bytes whole ended
     → received ≡ request
 same_request bytes whole ended received request first second front =
     let same = same_head bytes front.lost whole first.head second.head first.rest second.rest front.parts first.has.begins second.has.begins in

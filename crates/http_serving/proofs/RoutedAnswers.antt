@@ -7,15 +7,15 @@ use Rattle.http_edge.specs.declared.messages.HttpRequest.{HttpRequest}
 use Rattle.http_edge.specs.declared.messages.Status.{Status}
 use Rattle.http_edge.specs.declared.messages.Status.TheVariants.{NotFound}
 use Rattle.http_serving.specs.Law.{HasOneAnswer}
-use Rattle.http_serving.specs.Routes.{Route, IsAt, AsksAt, HasOtherMethod, HasNoRoute, RoutedAnswer}
+use Rattle.http_serving.specs.Routes.{Route, IsRouteAt, AsksAt, HasOtherMethod, HasNoRoute, RoutedAnswer}
 
 some_of : {A : Type 0} (a b : A) → Some a ≡ Some b → a ≡ b
 some_of a b e = cc
 
-one_place : (routes : List Route) (request : HttpRequest) (p q : ℕ) (r s : Route) → IsAt routes request p r → IsAt routes request q s → p ≡ q
+one_place : (routes : List Route) (request : HttpRequest) (p q : ℕ) (r s : Route) → IsRouteAt routes request p r → IsRouteAt routes request q s → p ≡ q
 one_place routes request p q r s first second = some_of p q (sym first.first ∙ second.first)
 
-one_route : (routes : List Route) (request : HttpRequest) (p q : ℕ) (r s : Route) → IsAt routes request p r → IsAt routes request q s → r ≡ s
+one_route : (routes : List Route) (request : HttpRequest) (p q : ℕ) (r s : Route) → IsRouteAt routes request p r → IsRouteAt routes request q s → r ≡ s
 one_route routes request p q r s first second =
     some_of r s (sym first.stands ∙ ap (slice_get routes) (one_place routes request p q r s first second) ∙ second.stands)
 
@@ -23,7 +23,7 @@ by_its_method : (routes : List Route) (request : HttpRequest) (place : ℕ) (all
 by_its_method routes request place allow asks other =
     other.method (asks.method ∙ ap (λ (r : Route). method_text r.allow) (one_route routes request place other.place asks.route other.route asks.at other.at))
 
-no_route : (routes : List Route) (request : HttpRequest) (place : ℕ) (route : Route) → IsAt routes request place route → HasNoRoute routes request → ⊥
+no_route : (routes : List Route) (request : HttpRequest) (place : ℕ) (route : Route) → IsRouteAt routes request place route → HasNoRoute routes request → ⊥
 no_route routes request place route at none = let e : Some place ≡ None = sym at.first ∙ none in absurd (cc)
 
 same_allow : (routes : List Route) (request : HttpRequest) (a b : Allow) → HasOtherMethod routes request a → HasOtherMethod routes request b → a ≡ b

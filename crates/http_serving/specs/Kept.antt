@@ -45,7 +45,7 @@ abbrev pub emptied : {K : Type 0} → KeptLists K → KeptLists K
 emptied kept = record { first = record kept.first { answers = [] }; others = record kept.others { answers = [] } }
 
 -- Each answer is such a one.
-pub record AreKept {K : Type 0} (P : KeptAnswer K → Type 0) (kept : KeptLists K) : Type 0 where
+pub record HoldsOfAnswers {K : Type 0} (P : KeptAnswer K → Type 0) (kept : KeptLists K) : Type 0 where
   pub first : All P kept.first.answers
   pub others : All P kept.others.answers
 
@@ -79,8 +79,8 @@ after_asking kept None = kept
 after_asking kept (Some place) = take place kept ++ (drop 1 (drop place kept) ++ take 1 (drop place kept))
 
 -- the same of the first part, and of the other
-abbrev pub after_first : {K : Type 0} → Option ℕ → KeptLists K → KeptLists K
-after_first place kept = record kept { first = record kept.first { answers = after_asking kept.first.answers place } }
+abbrev pub after_asking_first : {K : Type 0} → Option ℕ → KeptLists K → KeptLists K
+after_asking_first place kept = record kept { first = record kept.first { answers = after_asking kept.first.answers place } }
 
 abbrev pub after_other : {K : Type 0} → Option ℕ → KeptLists K → KeptLists K
 after_other place kept = record kept { others = record kept.others { answers = after_asking kept.others.answers place } }
@@ -98,7 +98,7 @@ text_by_body asked kept =
 abbrev pub after_body : {K : Type 0} → List ℕ → KeptLists K → KeptLists K
 after_body asked kept =
     if is_some (place_by_body asked kept.first.answers)
-    then after_first (place_by_body asked kept.first.answers) kept
+    then after_asking_first (place_by_body asked kept.first.answers) kept
     else after_other (place_by_body asked kept.others.answers) kept
 
 -- the same of a meaning, which is looked for in its part alone
@@ -113,7 +113,7 @@ abbrev pub after_meaning : {K : Type 0} → (K → K → Bool) → (K → Bool) 
 after_meaning same first None kept = kept
 after_meaning same first (Some meaning) kept =
     if first meaning
-    then after_first (place_by_meaning same meaning kept.first.answers) kept
+    then after_asking_first (place_by_meaning same meaning kept.first.answers) kept
     else after_other (place_by_meaning same meaning kept.others.answers) kept
 
 -- ---- what is kept anew
@@ -172,23 +172,23 @@ KeepsSent first asked meaning response (answer.Written written) before after = a
 -- A text that is found by a body is that of such an answer to this body.
 abbrev pub FindsByBody : {K : Type 0} → (KeptAnswer K → Type 0) → Type 0
 FindsByBody {K} P =
-    (kept : KeptLists K) (asked text : List ℕ) → AreKept P kept → text_by_body asked kept ≡ Some text
+    (kept : KeptLists K) (asked text : List ℕ) → HoldsOfAnswers P kept → text_by_body asked kept ≡ Some text
     → (answer : KeptAnswer K) × P answer × (answer.asked ≡ asked) × (answer.text ≡ text)
 
 -- A text that is found by a meaning is that of such an answer with the same meaning.
 abbrev pub FindsByMeaning : {K : Type 0} → (K → K → Bool) → (K → Bool) → (KeptAnswer K → Type 0) → Type 0
 FindsByMeaning {K} same first P =
-    (kept : KeptLists K) (meaning : K) (text : List ℕ) → AreKept P kept → text_by_meaning same first (Some meaning) kept ≡ Some text
+    (kept : KeptLists K) (meaning : K) (text : List ℕ) → HoldsOfAnswers P kept → text_by_meaning same first (Some meaning) kept ≡ Some text
     → (answer : KeptAnswer K) × (other : K) × P answer × (answer.meaning ≡ Some other) × (same other meaning ≡ true) × (answer.text ≡ text)
 
 -- What was asked for again stays such.
 pub record StaysAsked {K : Type 0} (same : K → K → Bool) (first : K → Bool) (P : KeptAnswer K → Type 0) : Type 0 where
-  pub by_body : (kept : KeptLists K) (asked : List ℕ) → AreKept P kept → AreKept P (after_body asked kept)
-  pub by_meaning : (kept : KeptLists K) (meaning : Option K) → AreKept P kept → AreKept P (after_meaning same first meaning kept)
+  pub by_body : (kept : KeptLists K) (asked : List ℕ) → HoldsOfAnswers P kept → HoldsOfAnswers P (after_body asked kept)
+  pub by_meaning : (kept : KeptLists K) (meaning : Option K) → HoldsOfAnswers P kept → HoldsOfAnswers P (after_meaning same first meaning kept)
 
 -- So does what is kept with one answer more that is such, and what is kept of nothing.
 pub record StaysKept {K : Type 0} (first : K → Bool) (P : KeptAnswer K → Type 0) : Type 0 where
-  pub more : (asked : List ℕ) (meaning : Option K) (response : Response) (sent : Answer) (before after : KeptLists K) → AreKept P before
+  pub more : (asked : List ℕ) (meaning : Option K) (response : Response) (sent : Answer) (before after : KeptLists K) → HoldsOfAnswers P before
       → P (record { asked = asked; meaning = meaning; text = response_text response.status response.allow response.body })
-      → KeepsSent first asked meaning response sent before after → AreKept P after
-  pub none : (kept : KeptLists K) → AreKept P (emptied kept)
+      → KeepsSent first asked meaning response sent before after → HoldsOfAnswers P after
+  pub none : (kept : KeptLists K) → HoldsOfAnswers P (emptied kept)

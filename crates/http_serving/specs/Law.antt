@@ -1,6 +1,6 @@
 -- What is right is right alone.
 use Rattle.std.specs.Prelude.{◌≡◌, ℕ, Bool, List, Result}
-use Rattle.http_edge.specs.Requests.{ReadsAs, RequestOutcome}
+use Rattle.http_edge.specs.Requests.{ReadsAsRequest, RequestOutcome}
 use Rattle.http_edge.specs.Responses.{allow_line}
 use Rattle.http_edge.specs.declared.faults.RequestFault.{RequestFault}
 use Rattle.http_edge.specs.declared.messages.Allow.{Allow}
@@ -18,7 +18,7 @@ HasOneAnswer Right request =
 -- Bytes that begin with a whole request are answered as that request is, and never as a refusal.
 abbrev pub IsAnsweredAsRead : (HttpRequest → Status → Allow → (body cause : List ℕ) → Type 0) → List ℕ → HttpRequest → Type 0
 IsAnsweredAsRead Right bytes request =
-    ReadsAs bytes request
+    ReadsAsRequest bytes request
     → (ended : Bool) (received : Result HttpRequest RequestFault) (status : Status) (allow : Allow) (body cause : List ℕ)
     → RequestOutcome bytes ended received → IsAnswerAfter Right received status allow body cause
     → Right request status allow body cause

@@ -10,12 +10,12 @@ cause_part [] = []
 cause_part (first ∷ rest) = codes " " ++ (first ∷ rest)
 
 -- how a connection ended
-abbrev pub end_text : ConnectionEnd → List ℕ
-end_text (end.Answered status cause) = codes "answered " ++ decimal (status_code status) ++ cause_part cause
-end_text end.ReadFault = codes "read-fault"
-end_text end.WriteFault = codes "write-fault"
-end_text end.OutOfMemory = codes "out-of-memory"
+abbrev pub connection_end_text : ConnectionEnd → List ℕ
+connection_end_text (end.Answered status cause) = codes "answered " ++ decimal (status_code status) ++ cause_part cause
+connection_end_text end.ReadFault = codes "read-fault"
+connection_end_text end.WriteFault = codes "write-fault"
+connection_end_text end.OutOfMemory = codes "out-of-memory"
 
 -- the line of a connection, by its number
 abbrev pub connection_line : ℕ → ConnectionEnd → List ℕ
-connection_line number how = codes "connection " ++ decimal number ++ codes " " ++ end_text how ++ codes "\n"
+connection_line number how = codes "connection " ++ decimal number ++ codes " " ++ connection_end_text how ++ codes "\n"

@@ -20,21 +20,21 @@ abbrev pub place_for : List Route → HttpRequest → Option ℕ
 place_for routes request = position (λ route. bytes_eq route.path (path_in request.target)) routes
 
 -- The first route that has the path of a request is this one, at this place.
-pub record IsAt (routes : List Route) (request : HttpRequest) (place : ℕ) (route : Route) : Type 0 where
+pub record IsRouteAt (routes : List Route) (request : HttpRequest) (place : ℕ) (route : Route) : Type 0 where
   pub first : place_for routes request ≡ Some place
   pub stands : slice_get routes place ≡ Some route
 
 -- A request asks for the route at a place: by the path of the route, and by its method.
 pub record AsksAt (routes : List Route) (request : HttpRequest) (place : ℕ) : Type 0 where
   pub route : Route
-  pub at : IsAt routes request place route
+  pub at : IsRouteAt routes request place route
   pub method : request.method ≡ method_text route.allow
 
 -- A request has the path of a route that takes this method, and has another one.
 pub record HasOtherMethod (routes : List Route) (request : HttpRequest) (allow : Allow) : Type 0 where
   pub place : ℕ
   pub route : Route
-  pub at : IsAt routes request place route
+  pub at : IsRouteAt routes request place route
   pub method : request.method ≢ method_text route.allow
   pub allowed : allow ≡ route.allow
 

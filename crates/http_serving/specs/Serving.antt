@@ -6,7 +6,7 @@ use Rattle.std.specs.Prelude.{◌≡◌, ◌≢◌, ◌↔◌, ◌⊎◌, ℕ, B
 use Rattle.sb_outside.specs.Outside.{Rose, appended, next_piece}
 use Rattle.sb_outside.specs.Writing.{HasFront}
 use Rattle.sb_outside.specs.declared.doors.Connection.{Connection}
-use Rattle.http_edge.specs.Requests.{Gives, ReadsAs, ReadsToRequest, RequestOutcome}
+use Rattle.http_edge.specs.Requests.{Gives, ReadsAsRequest, ReadsToRequest, RequestOutcome}
 use Rattle.http_edge.specs.Responses.{response_text}
 use Rattle.http_edge.specs.declared.faults.RequestFault.{RequestFault}
 use Rattle.http_edge.specs.declared.faults.RequestFault.TheVariants as fault
@@ -97,7 +97,7 @@ pub record Serves (Right : HttpRequest → Status → Allow → (body cause : Li
 pub record HasAnswer (Right : HttpRequest → Status → Allow → (body cause : List ℕ) → Type 0) (bytes : List ℕ) (status : Status) (allow : Allow)
     (body cause : List ℕ) : Type 0 where
   pub request : HttpRequest
-  pub reads : ReadsAs bytes request
+  pub reads : ReadsAsRequest bytes request
   pub right : Right request status allow body cause
 
 -- Where the connection was answered, this response was written and this cause is told. It is not answered where a read or a
@@ -129,7 +129,7 @@ pub record IsServed (Right : HttpRequest → Status → Allow → (body cause : 
   pub unavailable : how ≡ end.OutOfMemory → ¬ IsTrue entry.write_fault → entry.written ≡ unavailable_text
 
 -- Nothing was read of a connection, and nothing was written to it, nor was it tried.
-pub record IsUntouched (entry : Connection) : Type 0 where
+pub record IsConnectionUntouched (entry : Connection) : Type 0 where
   pub given : entry.given ≡ []
   pub ended : ¬ IsTrue entry.ended
   pub written : entry.written ≡ []

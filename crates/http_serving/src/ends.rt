@@ -1,7 +1,7 @@
 ghost use Rattle.std.specs.Prelude.{◌≡◌, ◌≢◌, ◌++◌, Err, IfOk, OnOk, OnErr, IsErrOf, codes, decimal};
 ghost use Rattle.sb_outside.specs.Outside.{Rose, appended};
 ghost use Rattle.sb_outside.specs.Writing.{HasFront};
-ghost use Rattle.http_serving.specs.Printed.{cause_part, connection_line, end_text};
+ghost use Rattle.http_serving.specs.Printed.{cause_part, connection_line, connection_end_text};
 
 use http_edge::{ResponseFault, Status};
 use itoa::Buffer;
@@ -37,7 +37,7 @@ fn push_cause(line: &mut Bytes, cause: &[u8]) -> Result<(), OutOfMemory>
 
 /// Appends the status of a response that was written, and its cause.
 fn push_answered(line: &mut Bytes, status: Status, cause: &[u8]) -> Result<(), OutOfMemory>
-    ensures { OnOk result (line.new ≡ line.old ++ end_text (ConnectionEnd.Answered status cause.now)) }
+    ensures { OnOk result (line.new ≡ line.old ++ connection_end_text (ConnectionEnd.Answered status cause.now)) }
 {
     line.append(b"answered ")?;
     line.append_decimal(u64::from(status.code()))?;
@@ -46,7 +46,7 @@ fn push_answered(line: &mut Bytes, status: Status, cause: &[u8]) -> Result<(), O
 
 /// Appends how a connection ended.
 fn push_end(line: &mut Bytes, end: &ConnectionEnd) -> Result<(), OutOfMemory>
-    ensures { OnOk result (line.new ≡ line.old ++ end_text end.now) }
+    ensures { OnOk result (line.new ≡ line.old ++ connection_end_text end.now) }
 {
     match end {
         ConnectionEnd::Answered(status, cause) => push_answered(line, *status, cause.as_slice()),

@@ -1,6 +1,6 @@
 ghost use Rattle.std.specs.Prelude.{◌≡◌, ◌+◌, ◌^◌, ◌≤◌, ◌<◌, ℕ, Bool, List, [], true, false, drop, length, if◌then◌else◌, sum_by, IfOk, OnOk, OnErr, Some};
 ghost use Rattle.http_edge.specs.Responses.{response_text};
-ghost use Rattle.http_serving.specs.Kept.{after_asking, after_body, after_first, after_meaning, after_other, emptied, has_meaning, is_for_first, kept_size, place_by_body, place_by_meaning, text_at, text_by_body, text_by_meaning, is_kept_in, AreFew, AreLeft, FitIn, HasKept, HasKeptIn, HaveRoom, IsSentAs, KeepsSent};
+ghost use Rattle.http_serving.specs.Kept.{after_asking, after_body, after_asking_first, after_meaning, after_other, emptied, has_meaning, is_for_first, kept_size, place_by_body, place_by_meaning, text_at, text_by_body, text_by_meaning, is_kept_in, AreFew, AreLeft, FitIn, HasKept, HasKeptIn, HaveRoom, IsSentAs, KeepsSent};
 
 use crate::responses::{Answer, Response, SharedResponse, write_out};
 use sb_model::{Bytes, OutOfMemory};

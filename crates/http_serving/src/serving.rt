@@ -7,7 +7,7 @@ ghost use Rattle.http_serving.specs.Hearing.{Hears, IsHeard};
 ghost use Rattle.http_serving.specs.Law.{HasOneAnswer};
 ghost use Rattle.http_serving.specs.Returning.{IsFresh, IsReturned};
 ghost use Rattle.http_serving.specs.Routes.{AsksAt, IsRouted, Route, RoutedAnswer};
-ghost use Rattle.http_serving.specs.Serving.{unavailable_text, IsAnswerAfter, IsComplete, IsServed, IsUntouched, IsWholeOrFault, Serves};
+ghost use Rattle.http_serving.specs.Serving.{unavailable_text, IsAnswerAfter, IsComplete, IsServed, IsConnectionUntouched, IsWholeOrFault, Serves};
 ghost use Rattle.http_serving.specs.Steps.{IsStopAfter};
 ghost use Rattle.http_serving.specs.Written.{IsRightAnswer};
 
@@ -305,7 +305,7 @@ pub fn answer_wire<A: Answers, D: Door>(
 pub fn give_back<D: Door>(door: &mut D, wire: D::Wire)
     ensures untouched { (pieces : List (List ℕ))
         → IsFresh pieces (D.Wire.start wire) (D.Wire.left wire) (D.Wire.contents wire) (D.Wire.Source.faults wire) (D.Wire.Sink.faults wire)
-        → IsReturned IsUntouched (D.Wire.number wire) (D.log door.old) (D.log door.new) }
+        → IsReturned IsConnectionUntouched (D.Wire.number wire) (D.log door.old) (D.log door.new) }
     ensures kept { D.faults door.new ≡ D.faults door.old }
     ensures coming { D.coming door.new ≡ D.coming door.old }
 {

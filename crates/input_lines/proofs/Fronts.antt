@@ -3,7 +3,7 @@ use Rattle.std.proofs.Common.{◌≡◌, ℕ, ◌≤◌, List, [], ◌∷◌, �
 use Rattle.std.specs.List.{onto_first}
 use Rattle.sb_outside.specs.Outside.{next_piece, bytes_left, prepended}
 use Rattle.input_lines.specs.Input.{GivesPast}
-use Rattle.input_lines.specs.Lines.{is_newline, lines_of, IsWithinLimits}
+use Rattle.input_lines.specs.Lines.{is_newline, lines_of, IsInputWithinLimits}
 use Rattle.input_lines.proofs.LineCuts.{lines-newline, lines-other, onto_some}
 
 -- a longer text has no fewer lines
@@ -21,15 +21,15 @@ lines_of_front [] more = omega arith
 lines_of_front (b ∷ bs) more = front_by b bs more _ refl (lines_of_front bs more)
 
 -- a front of a text within the limits is within them
-pub front_within : (front more : List ℕ) → IsWithinLimits (front ++ more) → IsWithinLimits front
+pub front_within : (front more : List ℕ) → IsInputWithinLimits (front ++ more) → IsInputWithinLimits front
 front_within front more h = record { bytes = omega (arith, h.bytes, length-append front more); lines = omega (arith, h.lines, lines_of_front front more) }
 
 -- an input within the limits is not past them
-known_past : (pieces : List (List ℕ)) (after : Option (List (List ℕ))) (given : List ℕ) → Some (next_piece pieces) ≡ prepended given (bytes_left after) → IsWithinLimits (next_piece pieces) → IsWithinLimits given
+known_past : (pieces : List (List ℕ)) (after : Option (List (List ℕ))) (given : List ℕ) → Some (next_piece pieces) ≡ prepended given (bytes_left after) → IsInputWithinLimits (next_piece pieces) → IsInputWithinLimits given
 known_past pieces None given e h = absurd (cc)
 known_past pieces (Some left) given e h =
     let whole : next_piece pieces ≡ given ++ next_piece left = cc in
-    front_within given (next_piece left) (subst IsWithinLimits whole h)
+    front_within given (next_piece left) (subst IsInputWithinLimits whole h)
 
-pub not_past : (before after : Option (List (List ℕ))) (pieces : List (List ℕ)) → before ≡ Some pieces → IsWithinLimits (next_piece pieces) → GivesPast before after → ⊥
+pub not_past : (before after : Option (List (List ℕ))) (pieces : List (List ℕ)) → before ≡ Some pieces → IsInputWithinLimits (next_piece pieces) → GivesPast before after → ⊥
 not_past before after pieces e h past = past.past (known_past pieces after past.given (ap bytes_left (sym e) ∙ past.gives.front) h)

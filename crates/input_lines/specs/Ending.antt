@@ -7,19 +7,19 @@ use Rattle.input_lines.specs.declared.stop.Stop.{Stop}
 use Rattle.input_lines.specs.declared.stop.Stop.TheVariants.{ReadFault, WriteFault, PastLimits, OutOfMemory}
 
 -- It came to its end, and told of a refusal or of none, or it stopped before.
-abbrev pub Ending : Type 0
-Ending = Result Bool Stop
+abbrev pub InputEnding : Type 0
+InputEnding = Result Bool Stop
 
 -- where an input is not read to its end
-abbrev pub stop_of_input : InputFault → Stop
-stop_of_input input.Failed = ReadFault
-stop_of_input input.PastLimit = PastLimits
-stop_of_input input.OutOfMemory = OutOfMemory
+abbrev pub stop_of_input_fault : InputFault → Stop
+stop_of_input_fault input.Failed = ReadFault
+stop_of_input_fault input.PastLimit = PastLimits
+stop_of_input_fault input.OutOfMemory = OutOfMemory
 
 -- What it did by its end: `Whole` says that the text was written whole, and tells of a refusal or of none, and `Part` that
 -- the input was read whole and a front of the text was written, of which something is missing. Before the input is
 -- read whole nothing is written.
-abbrev pub EndsReading : (Whole : Bool → Type 0) (Part : Type 0) → Ending → (left left' : Option (List (List ℕ)))
+abbrev pub EndsReading : (Whole : Bool → Type 0) (Part : Type 0) → InputEnding → (left left' : Option (List (List ℕ)))
     → (held held' : Option (List ℕ)) → Type 0
 EndsReading Whole Part (Ok refused) left left' held held' = Whole refused
 EndsReading Whole Part (Err ReadFault) left left' held held' = GivesWithin left left' × (held' ≡ held)

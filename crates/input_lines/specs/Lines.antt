@@ -24,7 +24,7 @@ abbrev pub numbered : ℕ → List ℕ → List ℕ
 numbered number text = decimal number ++ codes " " ++ text ++ newline ∷ []
 
 -- the most bytes and the most lines of an input
-pub record IsWithinLimits (input : List ℕ) : Type 0 where
+pub record IsInputWithinLimits (input : List ℕ) : Type 0 where
   pub bytes : length input ≤ 201326592
   pub lines : length (lines_of input) ≤ 65536
 

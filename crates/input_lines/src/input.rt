@@ -1,6 +1,6 @@
 ghost use Rattle.std.specs.Prelude.{◌≡◌, ◌≢◌, ◌<◌, ◌≤◌, [], ◌∷◌, length, count_by, position, vec_len, IfOk, OnOk, OnErr, IsErrOf};
 ghost use Rattle.sb_outside.specs.Outside.{Rose};
-ghost use Rattle.input_lines.specs.Lines.{is_newline, lines_of, IsWithinLimits};
+ghost use Rattle.input_lines.specs.Lines.{is_newline, lines_of, IsInputWithinLimits};
 ghost use Rattle.sb_outside.specs.Reading.{ReadsToEnd};
 ghost use Rattle.input_lines.specs.Input.{GivesWithin, GivesPast};
 
@@ -54,7 +54,7 @@ fn buffer_of(alloc: Global) -> Result<Vec<u8>, AllocError>
 /// `Failed` where the source failed, `PastLimit` where it gave more before it came to an end, and `OutOfMemory`.
 pub fn read_input<S: Source>(alloc: Global, input: &mut S) -> Result<Bytes, InputFault>
     ensures whole { IfOk result (λ text. ReadsToEnd text (S.left input.old) (S.left input.new)) }
-    ensures within { IfOk result IsWithinLimits }
+    ensures within { IfOk result IsInputWithinLimits }
     ensures failed { IsErrOf result InputFault.Failed → Rose (S.faults input.old) (S.faults input.new)
         × GivesWithin (S.left input.old) (S.left input.new) }
     ensures past { IsErrOf result InputFault.PastLimit → GivesPast (S.left input.old) (S.left input.new) }

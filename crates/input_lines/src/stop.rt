@@ -1,6 +1,6 @@
 ghost use Rattle.std.specs.Prelude.{◌≡◌};
 ghost use Rattle.input_lines.specs.declared.stop.Stop.TheVariants.{WriteFault};
-ghost use Rattle.input_lines.specs.Ending.{stop_of_input};
+ghost use Rattle.input_lines.specs.Ending.{stop_of_input_fault};
 
 use sb_outside::{Failed, InputFault};
 
@@ -27,7 +27,7 @@ impl From<Failed> for Stop {
 
 /// Why an input is not read to its end.
 impl From<InputFault> for Stop {
-    ghost from_gives = { λ fault stop. stop ≡ stop_of_input fault };
+    ghost from_gives = { λ fault stop. stop ≡ stop_of_input_fault fault };
 
     fn from(fault: InputFault) -> Stop {
         match fault {

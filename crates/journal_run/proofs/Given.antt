@@ -10,11 +10,11 @@ use Rattle.sb_model.specs.declared.names.ListName.{ListName}
 use Rattle.sb_model.specs.History.{IsPrefixSize}
 use Rattle.sb_model.specs.Names.{name_of}
 use Rattle.sb_words.specs.CommandLine.{Given, Text, given_of, value_among}
-use Rattle.sb_words.specs.Values.{different, few_names_of, has_each_once, is_numeral, lists_of, names_of, number_of, within}
+use Rattle.sb_words.specs.Values.{different, few_names_of, has_each_once, is_numeral, lists_named, names_of, number_of, within}
 use Rattle.journal_run.specs.declared.command.Call.{Call}
 use Rattle.journal_run.specs.declared.command.Command.{Command}
 use Rattle.journal_run.specs.declared.command.Command.TheVariants.{New, Change, Check, Compact, Tell}
-use Rattle.journal_run.specs.Command.{call_behind, call_named, call_of, change_given, change_shape, command_of, has_given, has_shape, list_given, new_given, new_shape, plain_call, plain_shape, size_given, size_of, sync_given, sync_shape, asks_of_maker}
+use Rattle.journal_run.specs.Command.{call_behind, call_named, call_of, change_given, change_shape, command_of, has_given, has_shape, list_given, new_given, new_shape, plain_call, plain_shape, size_given, size_if_given, sync_given, sync_shape, asks_of_maker}
 
 -- ---- what may be there
 
@@ -59,7 +59,7 @@ number_is text = some_if IsPrefixSize (is_numeral text) (within 4 32 (digits_val
 abbrev IsSizeOrNone : Option ℕ → Type 0
 IsSizeOrNone size = IfSome size IsPrefixSize
 
-size_is : (text : Option Text) → IfSome (size_of text) IsSizeOrNone
+size_is : (text : Option Text) → IfSome (size_if_given text) IsSizeOrNone
 size_is None = tt
 size_is (Some text) = some_mapped IsPrefixSize IsSizeOrNone Some (number_of 4 32 text) (number_is text) (λ n h. h)
 
@@ -91,8 +91,8 @@ few_are texts =
 abbrev AreFewAndOnce : List ListName → Type 0
 AreFewAndOnce names = AreFew names × (has_each_once names ≡ true)
 
-lists_are : (texts : List Text) → IfSome (lists_of texts) AreFewAndOnce
-unfolding lists_of
+lists_are : (texts : List Text) → IfSome (lists_named texts) AreFewAndOnce
+unfolding lists_named
 lists_are texts =
     some_after AreFew AreFewAndOnce different (few_names_of texts) (few_are texts) (λ names few.
     some_if AreFewAndOnce (has_each_once names) (Some names) None (λ e. (few, e)) tt)
@@ -111,9 +111,9 @@ IsGivenCall call = HasGiven call.command
 new_is : (given : Given) → IfSome (new_given given) IsGivenCall
 new_is given =
     some_after IsSizeOrNone IsGivenCall
-    (λ size. option_map (λ lists. plain_call (New (record { size = unwrap_or size 4; lists = lists }))) (lists_of given.positionals)) (size_given given.named)
+    (λ size. option_map (λ lists. plain_call (New (record { size = unwrap_or size 4; lists = lists }))) (lists_named given.positionals)) (size_given given.named)
     (size_is (value_among (codes "size") given.named)) (λ size s.
-    some_mapped AreFewAndOnce IsGivenCall (λ lists. plain_call (New (record { size = unwrap_or size 4; lists = lists }))) (lists_of given.positionals)
+    some_mapped AreFewAndOnce IsGivenCall (λ lists. plain_call (New (record { size = unwrap_or size 4; lists = lists }))) (lists_named given.positionals)
     (lists_are given.positionals) (λ lists l. (size_or_four size s, l)))
 
 change_is : (given : Given) → IfSome (change_given given) IsGivenCall

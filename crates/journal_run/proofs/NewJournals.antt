@@ -11,7 +11,7 @@ use Rattle.sb_model.specs.declared.names.ListName.{ListName}
 use Rattle.sb_model.specs.History.{IsPrefixSize, after_change}
 use Rattle.sb_model.specs.Names.{same_name}
 use Rattle.sb_words.specs.Values.{has_each_once}
-use Rattle.list_versions.specs.Limits.{IsWithin}
+use Rattle.list_versions.specs.Limits.{KeepsToLimits}
 use Rattle.list_versions.specs.Written.{AreApart, HasJournal, HasLines}
 use Rattle.journal_run.specs.declared.command.Command.TheVariants.{New}
 use Rattle.journal_run.specs.declared.command.NewLine.{NewLine}
@@ -43,7 +43,7 @@ apart size (name ∷ names) e = let h = others size name names (has_each_once na
 
 -- ---- what has no change
 
-none_within : IsWithin []
+none_within : KeepsToLimits []
 none_within = record { count = omega arith; uncrowded = λ head. omega arith; bytes = omega arith }
 
 -- A journal can tell such a history.
@@ -60,5 +60,5 @@ fresh_journal epoch line small given = record {
   few_lists = omega (arith, length-map {B = ListName × ℕ} line.lists (λ name. (name, line.size)), given.1.0);
   few_changes = omega arith;
   few_hashes = omega arith;
-  within = λ list version le. subst IsWithin (sym (ap (fold (after_change list) []) (take-nil version))) none_within;
+  within = λ list version le. subst KeepsToLimits (sym (ap (fold (after_change list) []) (take-nil version))) none_within;
 }

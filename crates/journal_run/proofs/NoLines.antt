@@ -12,15 +12,15 @@ use Rattle.hex.specs.Hex.{decode_of}
 use Rattle.hex.specs.declared.FromHexError.{FromHexError}
 use Rattle.hex.proofs.HexLemmas.{decode_of-ok}
 use Rattle.sb_model.specs.declared.history.Change.{Change}
-use Rattle.list_versions.specs.Lines.{is_space, words_of, bytes_of, hash_of, head_of, head_of_words, added_of, added_of_words, removed_of}
+use Rattle.list_versions.specs.Lines.{is_space, words_in_line, bytes_in_digits, hash_of, head_of, head_of_words, added_in_line, added_of_words, removed_of}
 use Rattle.journal_run.proofs.Joined.{joined, all_joined, length-joined, has_parts, slice_split-append}
 use Rattle.journal_run.proofs.BeginningLines.{beginning_line, beginning_words, further_words}
 
 -- ---- words
 
 -- the words of a text and then the line
-words_before : (text : List ℕ) (change : Change) → words_of (text ++ beginning_line change) ≡ all_joined (slice_split is_space text) (codes "change" ∷ further_words change)
-unfolding words_of
+words_before : (text : List ℕ) (change : Change) → words_in_line (text ++ beginning_line change) ≡ all_joined (slice_split is_space text) (codes "change" ∷ further_words change)
+unfolding words_in_line
 words_before text change =
     slice_split-append is_space text (beginning_line change) ∙ ap (all_joined (slice_split is_space text)) (beginning_words change)
 
@@ -28,7 +28,7 @@ length-all_joined : (parts others : List (List ℕ)) → 0 < length parts → 0 
 length-all_joined [] others h k = absurd (omega arith)
 length-all_joined (part ∷ parts) others h k = let e = length-joined part parts others k in omega (arith, e)
 
-four_words : (text : List ℕ) (change : Change) → 4 ≤ length (words_of (text ++ beginning_line change))
+four_words : (text : List ℕ) (change : Change) → 4 ≤ length (words_in_line (text ++ beginning_line change))
 four_words text change =
     let e = length-all_joined (slice_split is_space text) (codes "change" ∷ further_words change) (has_parts is_space text) (omega arith) in
     let some = has_parts is_space text in
@@ -91,10 +91,10 @@ unsigned : {A : Type 0} (b : Bool) (text : List ℕ) (read : List ℕ → Option
 unsigned true text read h = h
 unsigned false text read h = refl
 
-pub no_add : (text : List ℕ) (sized : Bool) (declared : ℕ) (change : Change) → added_of sized declared (text ++ beginning_line change) ≡ None
+pub no_add : (text : List ℕ) (sized : Bool) (declared : ℕ) (change : Change) → added_in_line sized declared (text ++ beginning_line change) ≡ None
 no_add [] sized declared change = refl
 no_add (sign ∷ text) sized declared change =
-    unsigned (sign == 43) (text ++ beginning_line change) (λ rest. added_of_words sized declared (words_of rest))
+    unsigned (sign == 43) (text ++ beginning_line change) (λ rest. added_of_words sized declared (words_in_line rest))
     (three_words sized declared _ (let four = four_words text change in omega (arith, four)))
 
 not_decoded : (r : Result (List ℕ) FromHexError) → ((bytes : List ℕ) → r ≢ Ok bytes) → result_ok r ≡ None
@@ -115,7 +115,7 @@ no_digits text change bytes e =
     absurd (cc)
 
 pub no_remove : (text : List ℕ) (change : Change) → removed_of (text ++ beginning_line change) ≡ None
-unfolding bytes_of
+unfolding bytes_in_digits
 no_remove [] change = refl
 no_remove (sign ∷ text) change =
     unsigned (sign == 45) (text ++ beginning_line change) hash_of

@@ -1,12 +1,12 @@
 -- What ended a run, by its exit status.
 use Rattle.std.proofs.Common.{◌≡◌, inl, inr, ℕ, refl, sym, ap, ◌∙◌}
 use Rattle.std.specs.Prelude.{◌==◌, if◌then◌else◌, Result, Ok}
-use Rattle.journal_run.specs.Runs.{IsStatus}
-use Rattle.journal_run.specs.Stops.{status_of}
+use Rattle.journal_run.specs.Runs.{IsJournalRunStatus}
+use Rattle.journal_run.specs.Stops.{journal_run_status}
 use Rattle.journal_run.specs.declared.stop.Stop.{Stop}
 use Rattle.journal_run.specs.declared.stop.Stop.TheVariants as stop
 
-pub is_status : (s : Stop) → IsStatus (status_of s)
+pub is_status : (s : Stop) → IsJournalRunStatus (journal_run_status s)
 is_status stop.Done = inl refl
 is_status stop.NoCommand = inr (inl refl)
 is_status stop.ReadFault = inr (inr (inl refl))
@@ -30,7 +30,7 @@ stop_of n =
     else if n == 20 then stop.Listed
     else stop.Refused
 
-back : (s : Stop) → stop_of (status_of s) ≡ s
+back : (s : Stop) → stop_of (journal_run_status s) ≡ s
 back stop.Done = refl
 back stop.NoCommand = refl
 back stop.ReadFault = refl
@@ -42,7 +42,7 @@ back stop.Listed = refl
 back stop.Refused = refl
 
 -- two that have one status are one
-pub one_stop : (s wanted : Stop) → status_of s ≡ status_of wanted → s ≡ wanted
+pub one_stop : (s wanted : Stop) → journal_run_status s ≡ journal_run_status wanted → s ≡ wanted
 one_stop s wanted e = sym (back s) ∙ ap stop_of e ∙ back wanted
 
 -- the one in an answer

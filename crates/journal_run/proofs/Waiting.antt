@@ -12,9 +12,9 @@ use Rattle.list_versions.specs.declared.fault.JournalFault.{JournalFault}
 use Rattle.list_versions.specs.declared.fault.JournalFault.TheVariants as fault
 use Rattle.list_versions.specs.declared.heads.Head.{Head}
 use Rattle.list_versions.specs.declared.heads.Head.TheVariants as head
-use Rattle.list_versions.specs.Journal.{Kept, Begun, Reading, ◌>>=◌, after_line, after_line_of, after_part, after_parts, after_head, after_list, after_change_line, settled, completed, counted, with_add, with_remove, if_within_limits, if_short, declared_size_of, with_bytes, adds_next, is_complete, with_change, change_of, next_line, next_hash_line, line_fault, lines_begun, most_line, at_record, with_list, read_on}
-use Rattle.list_versions.specs.Limits.{limit_fault, most_changes, most_lists, most_hash_lines, hash_lines}
-use Rattle.list_versions.specs.Lines.{newline, is_newline, head_of, added_of, removed_of}
+use Rattle.list_versions.specs.Journal.{Kept, Begun, LineReading, ◌>>=◌, after_line, after_line_of, after_part, after_parts, after_head, after_list, after_change_line, settled, completed, counted, with_add, with_remove, if_within_limits, if_short, declared_size_of, with_bytes, adds_next, is_complete, with_change, change_of, next_line, next_hash_line, line_fault, lines_begun, most_line, at_record, with_list, read_on}
+use Rattle.list_versions.specs.Limits.{limit_fault_at, most_changes, most_declared_lists, most_hash_lines, hash_lines}
+use Rattle.list_versions.specs.Lines.{newline, is_newline, head_of, added_in_line, removed_of}
 use Rattle.list_versions.specs.Written.{add_line, change_line, change_text, remove_line}
 use Rattle.journal_run.proofs.Joined.{joined, all_joined, has_parts, slice_split-append}
 use Rattle.journal_run.proofs.BeginningLines.{beginning_line, beginning_is_line}
@@ -26,11 +26,11 @@ abbrev IsClear : Option Begun → List ℕ → Type 0
 IsClear None rest = rest ≡ []
 IsClear (Some begun) rest = ⊤
 
-abbrev LeavesClear : Result Reading JournalFault → Type 0
+abbrev LeavesClear : Result LineReading JournalFault → Type 0
 LeavesClear (Ok reading) = IsClear reading.begun reading.kept.rest
 LeavesClear (Err f) = ⊤
 
-clear_if : (b : Bool) (x y : Result Reading JournalFault) → LeavesClear x → LeavesClear y → LeavesClear (if b then x else y)
+clear_if : (b : Bool) (x y : Result LineReading JournalFault) → LeavesClear x → LeavesClear y → LeavesClear (if b then x else y)
 clear_if true x y h k = h
 clear_if false x y h k = k
 
@@ -38,15 +38,15 @@ clear_change : (kept : Kept) (name : ListName) (to_add to_remove : ℕ) (size : 
 clear_change kept name to_add to_remove None = tt
 clear_change kept name to_add to_remove (Some size) =
     let begun : Begun = record { list = name; declared_size = size; to_add = to_add; to_remove = to_remove; adds = []; removes = [] } in
-    let next : Reading = record { kept = kept; begun = Some begun } in
+    let next : LineReading = record { kept = kept; begun = Some begun } in
     clear_if (nat_le most_changes (length kept.versions.changes)) (Err (fault.TooMany (next_line kept.versions))) (Ok next) tt tt
 
 clear_list : (kept : Kept) (name : ListName) (size : ℕ) → LeavesClear (after_list kept name size)
 clear_list kept name size =
-    let next : Reading = at_record (record kept { versions = record kept.versions { declared = with_list name size kept.versions.declared } }) in
-    let many : Result Reading JournalFault = if nat_le most_lists (length kept.versions.declared) then Err (fault.TooMany (next_line kept.versions)) else Ok next in
+    let next : LineReading = at_record (record kept { versions = record kept.versions { declared = with_list name size kept.versions.declared } }) in
+    let many : Result LineReading JournalFault = if nat_le most_declared_lists (length kept.versions.declared) then Err (fault.TooMany (next_line kept.versions)) else Ok next in
     clear_if (declares kept.versions name) (Err (fault.ListTwice (next_line kept.versions))) many tt
-    (clear_if (nat_le most_lists (length kept.versions.declared)) (Err (fault.TooMany (next_line kept.versions))) (Ok next) tt refl)
+    (clear_if (nat_le most_declared_lists (length kept.versions.declared)) (Err (fault.TooMany (next_line kept.versions))) (Ok next) tt refl)
 
 clear_head : (kept : Kept) (head : Option Head) → LeavesClear (after_head kept head)
 clear_head kept None = tt
@@ -60,9 +60,9 @@ clear_limits kept (Some f) = tt
 clear_settled : (kept : Kept) (begun : Begun) → LeavesClear (settled kept begun)
 clear_settled kept begun =
     let versions = with_change (change_of begun) kept.versions in
-    let next : Reading = record { kept = kept; begun = Some begun } in
+    let next : LineReading = record { kept = kept; begun = Some begun } in
     clear_if (is_complete begun) (completed kept begun) (Ok next)
-    (clear_limits (record kept { versions = versions }) (limit_fault (next_line kept.versions + lines_begun begun) (sizes_at versions begun.list (version_count versions)))) tt
+    (clear_limits (record kept { versions = versions }) (limit_fault_at (next_line kept.versions + lines_begun begun) (sizes_at versions begun.list (version_count versions)))) tt
 
 clear_counted : (kept : Kept) (begun : Begun) → LeavesClear (counted kept begun)
 clear_counted kept begun =
@@ -80,11 +80,11 @@ clear_remove kept begun (Some hash) = clear_counted kept (record begun { removes
 clear_line_of : (kept : Kept) (begun : Option Begun) (line : List ℕ) → LeavesClear (after_line_of kept begun line)
 clear_line_of kept None line = clear_head kept (if_short line (head_of line))
 clear_line_of kept (Some begun) line =
-    let add = if_short line (added_of kept.sized begun.declared_size line) in
+    let add = if_short line (added_in_line kept.sized begun.declared_size line) in
     let remove = if_short line (removed_of line) in
     clear_if (adds_next begun) (with_add kept begun add) (with_remove kept begun remove) (clear_add kept begun add) (clear_remove kept begun remove)
 
-clear_line : (reading : Reading) (line : List ℕ) → LeavesClear (after_line reading line)
+clear_line : (reading : LineReading) (line : List ℕ) → LeavesClear (after_line reading line)
 unfolding after_line
 clear_line reading line = clear_line_of (with_bytes (line ++ newline ∷ []) reading.kept) reading.begun line
 
@@ -112,11 +112,11 @@ refused_line_of kept (Some begun) front change clear some bytes =
     let long = nat_lt most_line (length line) in
     let next = with_bytes bytes kept in
     let bad = fault.Line (next_hash_line kept.versions begun) in
-    refused_if (adds_next begun) (with_add next begun (if_short line (added_of kept.sized begun.declared_size line))) (with_remove next begun (if_short line (removed_of line)))
-    (bad, ap (with_add next begun) (not_short long (added_of kept.sized begun.declared_size line) (no_add front kept.sized begun.declared_size change)))
+    refused_if (adds_next begun) (with_add next begun (if_short line (added_in_line kept.sized begun.declared_size line))) (with_remove next begun (if_short line (removed_of line)))
+    (bad, ap (with_add next begun) (not_short long (added_in_line kept.sized begun.declared_size line) (no_add front kept.sized begun.declared_size change)))
     (bad, ap (with_remove next begun) (not_short long (removed_of line) (no_remove front change)))
 
-refused_line : (reading : Reading) (front : List ℕ) (change : Change) → IsClear reading.begun reading.kept.rest → reading.kept.rest ++ front ≢ []
+refused_line : (reading : LineReading) (front : List ℕ) (change : Change) → IsClear reading.begun reading.kept.rest → reading.kept.rest ++ front ≢ []
     → IsRefused (after_line reading (front ++ beginning_line change))
 unfolding after_line
 refused_line reading front change clear some = refused_line_of reading.kept reading.begun front change clear some ((front ++ beginning_line change) ++ newline ∷ [])
@@ -137,19 +137,19 @@ not_taken (Ok a) go b h e = let no = h.1 in absurd (cc)
 not_taken (Err f) go b h e = absurd (cc)
 
 -- the first of several lines, and then the others
-parts_then : (parts : List (List ℕ)) (part next line last : List ℕ) (more : List (List ℕ)) (reading : Reading)
+parts_then : (parts : List (List ℕ)) (part next line last : List ℕ) (more : List (List ℕ)) (reading : LineReading)
     → after_part (joined next parts (line ∷ last ∷ more)) part reading ≡ (after_line reading part >>= λ read. after_parts read (joined next parts (line ∷ last ∷ more)))
 parts_then [] part next line last more reading = refl
 parts_then (other ∷ parts) part next line last more reading = refl
 
 -- a line that both texts have
-refused_then : (r : Result Reading JournalFault) (go on : Reading → Result Kept JournalFault) (kept after : Kept) → LeavesClear r
-    → ((read : Reading) → IsClear read.begun read.kept.rest → go read ≡ Ok kept → on read ≢ Ok after) → (r >>= go) ≡ Ok kept → (r >>= on) ≢ Ok after
+refused_then : (r : Result LineReading JournalFault) (go on : LineReading → Result Kept JournalFault) (kept after : Kept) → LeavesClear r
+    → ((read : LineReading) → IsClear read.begun read.kept.rest → go read ≡ Ok kept → on read ≢ Ok after) → (r >>= go) ≡ Ok kept → (r >>= on) ≢ Ok after
 refused_then (Ok read) go on kept after clear later front e = later read clear front e
 refused_then (Err f) go on kept after clear later front e = absurd (cc)
 
 -- the lines that both texts have, and then the line that begins the change behind what stands after the last newline
-refused_parts : (parts : List (List ℕ)) (part : List ℕ) (reading : Reading) (change : Change) (last : List ℕ) (more : List (List ℕ)) (kept after : Kept)
+refused_parts : (parts : List (List ℕ)) (part : List ℕ) (reading : LineReading) (change : Change) (last : List ℕ) (more : List (List ℕ)) (kept after : Kept)
     → IsClear reading.begun reading.kept.rest → after_part parts part reading ≡ Ok kept → kept.rest ≢ []
     → after_parts reading (joined part parts (beginning_line change ∷ last ∷ more)) ≢ Ok after
 refused_parts [] part reading change last more kept after clear front some e =
@@ -161,7 +161,7 @@ refused_parts (next ∷ parts) part reading change last more kept after clear fr
     (clear_line reading part) (λ read now later. refused_parts parts next read change last more kept after now later some) front
     (sym (parts_then parts part next (beginning_line change) last more reading) ∙ e)
 
-refused_all : (parts ends : List (List ℕ)) (reading : Reading) (change : Change) (kept after : Kept) → 0 < length parts → 0 < length ends
+refused_all : (parts ends : List (List ℕ)) (reading : LineReading) (change : Change) (kept after : Kept) → 0 < length parts → 0 < length ends
     → IsClear reading.begun reading.kept.rest → after_parts reading parts ≡ Ok kept → kept.rest ≢ []
     → after_parts reading (all_joined parts (beginning_line change ∷ ends)) ≢ Ok after
 refused_all [] ends reading change kept after h k clear front some e = absurd (omega arith)

@@ -11,8 +11,8 @@ use Rattle.journal_run.specs.Written.{Reply}
 
 -- The records of an input: of several lines of one hash the last counts, at its place. With a size each line that puts in
 -- names it, and without one none does.
-abbrev pub change_text : ChangeLine → List ℕ → List ℕ
-change_text line input =
+abbrev pub changed_records_text : ChangeLine → List ℕ → List ℕ
+changed_records_text line input =
     records_text (is_some line.size) (records_of line.list (last_lines (edits_in (unwrap_or line.size 4) input)))
 
 -- the records, or a line for each URL that is refused, unless these are skipped
@@ -20,7 +20,7 @@ abbrev pub change_reply : ChangeLine → List ℕ → Reply
 change_reply line input =
     if has_refused (refused_edits_in input) && not line.skip
     then refused_with (refusals (refused_edits_in input))
-    else done_with (change_text line input)
+    else done_with (changed_records_text line input)
 
 -- what these records say behind a journal in which the list has this declared size: a line that puts in without a size has that
 abbrev pub changed_with : ChangeLine → ℕ → List ℕ → List Change

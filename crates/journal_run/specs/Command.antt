@@ -7,7 +7,7 @@ use Rattle.sb_model.specs.declared.names.ListName.{ListName}
 use Rattle.sb_model.specs.Names.{name_of}
 use Rattle.sb_words.specs.declared.shape.OptionKind.TheVariants.{Needed, Optional, Flag}
 use Rattle.sb_words.specs.CommandLine.{Text, CommandOption, CommandShape, Given, given_of, value_among}
-use Rattle.sb_words.specs.Values.{lists_of, number_of}
+use Rattle.sb_words.specs.Values.{lists_named, number_of}
 use Rattle.sb_words.specs.About.{about_of}
 use Rattle.sb_words.specs.declared.asking.About.{About}
 use Rattle.journal_run.specs.declared.command.Call.{Call}
@@ -50,12 +50,12 @@ abbrev pub call_with_journal : Text → Command → Call
 call_with_journal path command = record { command = command; journal = Some (chars path) }
 
 -- a size of prefixes in bytes, which may be left out
-abbrev pub size_of : Option Text → Option (Option ℕ)
-size_of None = Some None
-size_of (Some text) = option_map Some (number_of 4 32 text)
+abbrev pub size_if_given : Option Text → Option (Option ℕ)
+size_if_given None = Some None
+size_if_given (Some text) = option_map Some (number_of 4 32 text)
 
 abbrev pub size_given : List (Text × Text) → Option (Option ℕ)
-size_given named = size_of (value_among (codes "size") named)
+size_given named = size_if_given (value_among (codes "size") named)
 
 abbrev pub has_flag : Text → List (Text × Text) → Bool
 has_flag name named = is_some (value_among name named)
@@ -70,7 +70,7 @@ abbrev pub new_given : Given → Option Call
 new_given given =
     option_and_then (λ size. option_map
     (λ lists. plain_call (New (record { size = unwrap_or size 4; lists = lists })))
-    (lists_of given.positionals)) (size_given given.named)
+    (lists_named given.positionals)) (size_given given.named)
 
 -- `sync LIST --journal PATH [--skip] [--empty]`
 abbrev pub sync_given : Given → Option Call

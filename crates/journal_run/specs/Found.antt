@@ -17,13 +17,13 @@ use Rattle.journal_run.specs.Printed.{unknown_list}
 use Rattle.journal_run.specs.Written.{Reply}
 
 -- whether a list has the full hash of an expression now
-abbrev pub is_listed : History → ListName → List ℕ → Bool
-is_listed history list expression =
+abbrev pub is_expression_listed : History → ListName → List ℕ → Bool
+is_expression_listed history list expression =
     list_any (bytes_eq (sha256 expression)) (full_hashes_at history list (version_count history))
 
 -- the expressions of a URL that a list has, in the order of the expressions
 abbrev pub listed_in : History → ListName → Url → List (List ℕ)
-listed_in history list url = filter (is_listed history list) (expressions_of url)
+listed_in history list url = filter (is_expression_listed history list) (expressions_of url)
 
 -- texts, each after a space
 abbrev pub spaced : List (List ℕ) → List ℕ
@@ -35,12 +35,12 @@ listed_text [] = codes "not-listed"
 listed_text (expression ∷ expressions) = codes "listed" ++ spaced (expression ∷ expressions)
 
 -- what is said of a line: an empty one is a URL too, and none begins a comment
-abbrev pub verdict_of : History → ListName → Result Url UrlFault → List ℕ
-verdict_of history list (Ok url) = listed_text (listed_in history list url)
-verdict_of history list (Err fault) = refusal fault
+abbrev pub verdict_of_url : History → ListName → Result Url UrlFault → List ℕ
+verdict_of_url history list (Ok url) = listed_text (listed_in history list url)
+verdict_of_url history list (Err fault) = refusal fault
 
 abbrev pub line_verdict : History → ListName → ℕ × List ℕ → List ℕ
-line_verdict history list line = numbered line.0 (verdict_of history list (canonical_of line.1))
+line_verdict history list line = numbered line.0 (verdict_of_url history list (canonical_of line.1))
 
 -- a line for each line of the input
 unfoldable pub verdicts : History → ListName → List ℕ → List ℕ
@@ -54,15 +54,15 @@ abbrev pub is_hit : History → ListName → Result Url UrlFault → Bool
 is_hit history list (Ok url) = is_some_listed (listed_in history list url)
 is_hit history list (Err fault) = false
 
-abbrev pub is_refused : Result Url UrlFault → Bool
-is_refused (Ok url) = false
-is_refused (Err fault) = true
+abbrev pub is_url_refused : Result Url UrlFault → Bool
+is_url_refused (Ok url) = false
+is_url_refused (Err fault) = true
 
 -- 20 if some URL is listed, else 21 if some is refused, else 0
 abbrev pub status_of_lines : History → ListName → List (List ℕ) → ℕ
 status_of_lines history list urls =
     if list_any (λ url. is_hit history list (canonical_of url)) urls then 20
-    else if list_any (λ url. is_refused (canonical_of url)) urls then 21
+    else if list_any (λ url. is_url_refused (canonical_of url)) urls then 21
     else 0
 
 abbrev pub has_reply : ListName → List ℕ → Kept → Reply

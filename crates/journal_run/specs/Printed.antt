@@ -2,7 +2,7 @@
 use Rattle.std.specs.Prelude.{ℕ, List, [], ◌∷◌, ◌++◌, codes}
 use Rattle.list_versions.specs.Lines.{newline}
 use Rattle.list_versions.specs.declared.fault.JournalFault.{JournalFault}
-use Rattle.list_versions.specs.Printed.{cause_text}
+use Rattle.list_versions.specs.Printed.{journal_cause_text}
 use Rattle.journal_run.specs.Written.{Reply}
 
 abbrev pub journal_line : List ℕ → List ℕ
@@ -13,7 +13,7 @@ journal_reply cause = record { text = journal_line cause; status = 7 }
 
 -- why a journal is refused
 abbrev pub refusal_of : JournalFault → Reply
-refusal_of fault = journal_reply (cause_text fault)
+refusal_of fault = journal_reply (journal_cause_text fault)
 
 -- the journal does not declare the list
 abbrev pub unknown_list : Reply

@@ -12,8 +12,8 @@ use Rattle.journal_run.specs.Written.{Reply, IsSilent, IsWritten}
 use Rattle.journal_run.specs.Printed.{refusal_of}
 
 -- each exit status that a run can have
-abbrev pub IsStatus : ℕ → Type 0
-IsStatus status =
+abbrev pub IsJournalRunStatus : ℕ → Type 0
+IsJournalRunStatus status =
     (status ≡ 0) ⊎ (status ≡ 1) ⊎ (status ≡ 2) ⊎ (status ≡ 3) ⊎ (status ≡ 6) ⊎ (status ≡ 7) ⊎ (status ≡ 8) ⊎ (status ≡ 20)
     ⊎ (status ≡ 21)
 

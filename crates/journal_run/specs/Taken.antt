@@ -27,5 +27,5 @@ abbrev pub AreTaken : List Change → Kept → Type 0
 AreTaken changes kept = read_on kept (records_text kept.sized changes) ≡ Ok (with_changes changes kept)
 
 -- The text of this history is read as this history, with nothing behind it.
-abbrev pub IsTold : History → Type 0
-IsTold history = kept_of (journal_text true history) ≡ Ok (wholly true history)
+abbrev pub IsHistoryTold : History → Type 0
+IsHistoryTold history = kept_of (journal_text true history) ≡ Ok (wholly true history)

@@ -2,7 +2,7 @@ ghost use Rattle.std.specs.Prelude.{◌≡◌, ◌≢◌, ◌⊎◌, ◌++◌, �
 ghost use Rattle.std.specs.List.{flat_map};
 ghost use Rattle.hex.specs.Hex.{IsBytes};
 ghost use Rattle.sb_outside.specs.Outside.{Rose};
-ghost use Rattle.list_versions.specs.Written.{HasText, journal_text, list_line};
+ghost use Rattle.list_versions.specs.Written.{HasText, journal_text, declaration_line};
 ghost use Rattle.sb_journal.specs.Compacted.{all_puts, compacted, newest_entries, puts_of};
 ghost use Rattle.sb_journal.specs.Texts.{records_text};
 ghost use Rattle.journal_run.specs.Compacting.{IsCompactReply};
@@ -56,7 +56,7 @@ fn push_each_newest(
 
 /// Appends the lines that declare lists.
 fn push_lists(page: &mut Bytes, lists: &[(ListName, u8)]) -> Result<(), OutOfMemory>
-    ensures { OnOk result (page.new ≡ page.old ++ flat_map list_line lists.now) }
+    ensures { OnOk result (page.new ≡ page.old ++ flat_map declaration_line lists.now) }
 {
     for list in lists {
         push_list(page, list.0, list.1)?;

@@ -2,8 +2,8 @@ ghost use Rattle.std.specs.Prelude.{◌≡◌, ◌++◌, ◌∷◌, ◌||◌, �
 ghost use Rattle.std.specs.List.{list_any};
 ghost use Rattle.std.specs.Str.Lines.{lines};
 ghost use Rattle.url_canon.specs.Canonical.{canonical_of};
-ghost use Rattle.journal_run.specs.Found.{has_reply, is_hit, is_listed, is_refused, is_some_listed, line_verdict, listed_in, listed_text, spaced, verdict_of, verdicts};
-ghost use Rattle.journal_run.specs.Stops.{is_answered, status_of};
+ghost use Rattle.journal_run.specs.Found.{has_reply, is_hit, is_expression_listed, is_url_refused, is_some_listed, line_verdict, listed_in, listed_text, spaced, verdict_of_url, verdicts};
+ghost use Rattle.journal_run.specs.Stops.{is_end_of_reply, journal_run_status};
 
 use crate::reply::Reply;
 use crate::stop::Stop;
@@ -25,7 +25,7 @@ struct Verdicts {
 
 /// Whether a list has the full hash of an expression now.
 fn is_listed(history: &History, list: ListName, expression: &[u8]) -> bool
-    ensures { result ≡ is_listed history.now.versions list expression.now }
+    ensures { result ≡ is_expression_listed history.now.versions list expression.now }
 {
     history.holds(list, &full_hash(expression))
 }
@@ -38,8 +38,8 @@ fn push_if_listed(
     expression: &[u8],
 ) -> Result<bool, OutOfMemory>
     ensures page { OnOk result (page.new
-        ≡ page.old ++ spaced (filter (is_listed history.now.versions list) (expression.now ∷ []))) }
-    ensures any { IfOk result (λ any. any ≡ is_listed history.now.versions list expression.now) }
+        ≡ page.old ++ spaced (filter (is_expression_listed history.now.versions list) (expression.now ∷ []))) }
+    ensures any { IfOk result (λ any. any ≡ is_expression_listed history.now.versions list expression.now) }
 {
     if !is_listed(history, list, expression) {
         return Ok(false);
@@ -57,9 +57,9 @@ fn push_listed(
     expressions: &[Bytes],
 ) -> Result<bool, OutOfMemory>
     ensures page { OnOk result (page.new
-        ≡ page.old ++ spaced (filter (is_listed history.now.versions list) expressions.now)) }
+        ≡ page.old ++ spaced (filter (is_expression_listed history.now.versions list) expressions.now)) }
     ensures any { IfOk result (λ any. any
-        ≡ is_some_listed (filter (is_listed history.now.versions list) expressions.now)) }
+        ≡ is_some_listed (filter (is_expression_listed history.now.versions list) expressions.now)) }
 {
     let mut any = false;
     for expression in expressions {
@@ -114,11 +114,11 @@ impl Verdicts {
         line: &[u8],
     ) -> Result<(), OutOfMemory>
         ensures page { OnOk result (self.new.page
-            ≡ self.old.page ++ verdict_of history.now.versions list (canonical_of line.now)) }
+            ≡ self.old.page ++ verdict_of_url history.now.versions list (canonical_of line.now)) }
         ensures listed { OnOk result (self.new.has_listed
             ≡ (self.old.has_listed || is_hit history.now.versions list (canonical_of line.now))) }
         ensures refused { OnOk result (self.new.has_refused
-            ≡ (self.old.has_refused || is_refused (canonical_of line.now))) }
+            ≡ (self.old.has_refused || is_url_refused (canonical_of line.now))) }
     {
         match canonical(alloc, line) {
             Ok(url) => {
@@ -148,7 +148,7 @@ impl Verdicts {
         ensures listed { OnOk result (self.new.has_listed
             ≡ (self.old.has_listed || is_hit history.now.versions list (canonical_of line.now))) }
         ensures refused { OnOk result (self.new.has_refused
-            ≡ (self.old.has_refused || is_refused (canonical_of line.now))) }
+            ≡ (self.old.has_refused || is_url_refused (canonical_of line.now))) }
     {
         self.page.append_decimal(number)?;
         self.page.push(b' ')?;
@@ -158,8 +158,8 @@ impl Verdicts {
 
     /// What ends a run that had these lines.
     fn stop(&self) -> Stop
-        ensures status { status_of result ≡ (if self.now.has_listed then 20 else if self.now.has_refused then 21 else 0) }
-        ensures answered { is_answered result ≡ true }
+        ensures status { journal_run_status result ≡ (if self.now.has_listed then 20 else if self.now.has_refused then 21 else 0) }
+        ensures answered { is_end_of_reply result ≡ true }
     {
         if self.has_listed {
             return Stop::Listed;
@@ -184,7 +184,7 @@ fn verdicts_of(
     ensures listed { IfOk result (λ found. found.has_listed
         ≡ list_any (λ url. is_hit history.now.versions list (canonical_of url)) (lines input.now)) }
     ensures refused { IfOk result (λ found. found.has_refused
-        ≡ list_any (λ url. is_refused (canonical_of url)) (lines input.now)) }
+        ≡ list_any (λ url. is_url_refused (canonical_of url)) (lines input.now)) }
 {
     let mut verdicts = Verdicts::new(alloc);
     let mut number = 1;

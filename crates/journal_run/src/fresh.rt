@@ -1,9 +1,9 @@
 ghost use Rattle.std.specs.Prelude.{◌≡◌, ◌≢◌, ◌⊎◌, ◌++◌, ◌<◌, ◌^◌, true, Ok, map, IfOk, OnOk, OnErr};
 ghost use Rattle.std.specs.List.{flat_map};
 ghost use Rattle.sb_outside.specs.Outside.{Rose};
-ghost use Rattle.list_versions.specs.Written.{journal_text, list_line};
+ghost use Rattle.list_versions.specs.Written.{journal_text, declaration_line};
 ghost use Rattle.journal_run.specs.Fresh.{DrawsEpoch, fresh_history, IsNewRun};
-ghost use Rattle.journal_run.specs.Stops.{EndsCommand, status_of};
+ghost use Rattle.journal_run.specs.Stops.{EndsCommand, journal_run_status};
 
 use crate::command::NewLine;
 use crate::reply::Reply;
@@ -24,7 +24,7 @@ pub(crate) fn draw_epoch<D: Dice>(dice: &mut D) -> u64
 
 /// Appends the lines that declare lists with one size.
 fn push_lists(page: &mut Bytes, lists: &[ListName], size: u8) -> Result<(), OutOfMemory>
-    ensures { OnOk result (page.new ≡ page.old ++ flat_map list_line (map (λ name. (name, size)) lists.now)) }
+    ensures { OnOk result (page.new ≡ page.old ++ flat_map declaration_line (map (λ name. (name, size)) lists.now)) }
 {
     for list in lists {
         push_list(page, *list, size)?;
@@ -50,7 +50,7 @@ pub(crate) fn make_journal<O: Sink, D: Dice>(
     out: &mut O,
     dice: &mut D,
 ) -> Result<Stop, OutOfMemory>
-    ensures run { IfOk result (λ stop. IsNewRun line.now (status_of stop) (D.given dice.old) (D.given dice.new)
+    ensures run { IfOk result (λ stop. IsNewRun line.now (journal_run_status stop) (D.given dice.old) (D.given dice.new)
         (O.contents out.old) (O.contents out.new)) }
     ensures ends { IfOk result EndsCommand }
     ensures read { result ≢ Ok Stop.ReadFault }

@@ -6,10 +6,10 @@ ghost use Rattle.sb_words.specs.CommandLine.{Text};
 ghost use Rattle.journal_run.specs.declared.command.ChangeLine.{ChangeLine};
 ghost use Rattle.journal_run.specs.declared.command.Command.TheVariants.{Change, New};
 ghost use Rattle.journal_run.specs.declared.command.NewLine.{NewLine};
-ghost use Rattle.journal_run.specs.Changed.{change_text, changed_with};
+ghost use Rattle.journal_run.specs.Changed.{changed_records_text, changed_with};
 ghost use Rattle.journal_run.specs.Command.{command_of};
 ghost use Rattle.journal_run.specs.Fresh.{fresh_history};
-ghost use Rattle.journal_run.specs.Taken.{IsTold};
+ghost use Rattle.journal_run.specs.Taken.{IsHistoryTold};
 
 use list_versions::{journals_read_as_written, records_are_read_as_their_changes};
 use sb_journal::hash_lines_may_follow;
@@ -17,7 +17,7 @@ use sb_journal::hash_lines_may_follow;
 /// What `new` prints is read as the history that it tells: the lists of its words with their size, and no change.
 pub fn new_journals_are_told()
     ensures { (words : List Text) (line : NewLine) (epoch : ℕ) → command_of words ≡ Some (New line) → epoch < 2 ^ 64
-        → IsTold (fresh_history epoch line) }
+        → IsHistoryTold (fresh_history epoch line) }
 {
     journals_read_as_written();
 }
@@ -29,7 +29,7 @@ pub fn changed_records_are_read()
     ensures changes { (kept after : Kept) (line : ChangeLine) (input : List ℕ) (declared : ℕ)
         → declared_size_of kept.versions line.list ≡ Some declared → IsWellFormed kept.versions → kept.rest ≡ []
         → IfSome line.size IsPrefixSize → (is_some line.size ≡ true → kept.sized ≡ true)
-        → read_on kept (change_text line input) ≡ Ok after → after ≡ with_changes (changed_with line declared input) kept }
+        → read_on kept (changed_records_text line input) ≡ Ok after → after ≡ with_changes (changed_with line declared input) kept }
     ensures size { (words : List Text) (line : ChangeLine) → command_of words ≡ Some (Change line) → IfSome line.size IsPrefixSize }
 {
     records_are_read_as_their_changes();

@@ -1,7 +1,7 @@
 ghost use Rattle.std.specs.Prelude.{◌≡◌, ◌≢◌, ◌⊎◌, true, IfOk};
 ghost use Rattle.sb_outside.specs.Outside.{Rose};
 ghost use Rattle.journal_run.specs.Printed.{done_with, refusal_of, refused_with, unknown_list};
-ghost use Rattle.journal_run.specs.Stops.{is_answered, status_of};
+ghost use Rattle.journal_run.specs.Stops.{is_end_of_reply, journal_run_status};
 ghost use Rattle.journal_run.specs.Written.{IsWritten};
 
 use crate::stop::Stop;
@@ -20,14 +20,14 @@ pub(crate) struct Reply {
 
 impl Model for Reply {
     ghost use Rattle.std.specs.Prelude.{◌≡◌, true};
-    ghost use Rattle.journal_run.specs.Stops.{is_answered, status_of};
+    ghost use Rattle.journal_run.specs.Stops.{is_end_of_reply, journal_run_status};
     ghost use Rattle.journal_run.specs.Written.{Reply as Replied};
 
     ghost Value = { Replied };
 
-    ghost view = { λ r. record { text = r.text; status = status_of r.stop } };
+    ghost view = { λ r. record { text = r.text; status = journal_run_status r.stop } };
 
-    ghost invariant = { λ r. is_answered r.stop ≡ true };
+    ghost invariant = { λ r. is_end_of_reply r.stop ≡ true };
 }
 
 impl Reply {
@@ -78,8 +78,8 @@ impl Reply {
 
     /// Writes the reply, and answers what ends the run: what the reply says, or a fault of the output.
     pub(crate) fn print<O: Sink>(&self, out: &mut O) -> Stop
-        ensures written { IsWritten self.now (status_of result) (O.contents out.old) (O.contents out.new) }
-        ensures ends { (is_answered result ≡ true) ⊎ (result ≡ Stop.WriteFault) }
+        ensures written { IsWritten self.now (journal_run_status result) (O.contents out.old) (O.contents out.new) }
+        ensures ends { (is_end_of_reply result ≡ true) ⊎ (result ≡ Stop.WriteFault) }
         ensures failed { result ≡ Stop.WriteFault → Rose (O.faults out.old) (O.faults out.new) }
         ensures kept { result ≢ Stop.WriteFault → O.faults out.new ≡ O.faults out.old }
     {

@@ -7,8 +7,8 @@ ghost use Rattle.journal_run.specs.Compacting.{IsCompactRun};
 ghost use Rattle.journal_run.specs.Command.{command_of, draws_epoch, reads_input, reads_journal};
 ghost use Rattle.journal_run.specs.Found.{IsHasReply};
 ghost use Rattle.journal_run.specs.Fresh.{IsNewRun};
-ghost use Rattle.journal_run.specs.Runs.{AfterFault, AreCounted, IsFeedRun, IsInputRun, IsJournalRun, IsStatus};
-ghost use Rattle.journal_run.specs.Stops.{EndsCommand, status_of};
+ghost use Rattle.journal_run.specs.Runs.{AfterFault, AreCounted, IsFeedRun, IsInputRun, IsJournalRun, IsJournalRunStatus};
+ghost use Rattle.journal_run.specs.Stops.{EndsCommand, journal_run_status};
 ghost use Rattle.journal_run.specs.Synced.{IsSyncReply};
 ghost use Rattle.journal_run.specs.Printed.{done_with};
 ghost use Rattle.journal_run.specs.Written.{IsWritten, TellsUsage};
@@ -65,7 +65,7 @@ fn tell_usage<O: Sink>(out: &mut O) -> u8
 
 /// Prints what is asked about the program.
 fn tell<O: Sink>(alloc: Global, about: About, out: &mut O) -> Result<Stop, OutOfMemory>
-    ensures written { IfOk result (λ stop. IsWritten (done_with (about_text about (codes "sbjournal") USAGE.now)) (status_of stop)
+    ensures written { IfOk result (λ stop. IsWritten (done_with (about_text about (codes "sbjournal") USAGE.now)) (journal_run_status stop)
         (O.contents out.old) (O.contents out.new)) }
     ensures ends { IfOk result EndsCommand }
     ensures read { result ≢ Ok Stop.ReadFault }
@@ -80,7 +80,7 @@ fn tell<O: Sink>(alloc: Global, about: About, out: &mut O) -> Result<Stop, OutOf
 /// Says why a journal is no history.
 #[tactic(auto, using(crate::proofs::Faults::told))]
 fn tell_fault<O: Sink>(alloc: Global, fault: JournalFault, out: &mut O) -> Result<Stop, OutOfMemory>
-    ensures after { IfOk result (λ stop. AfterFault fault (status_of stop) (O.contents out.old) (O.contents out.new)) }
+    ensures after { IfOk result (λ stop. AfterFault fault (journal_run_status stop) (O.contents out.old) (O.contents out.new)) }
     ensures ends { IfOk result EndsCommand }
     ensures read { result ≡ Ok Stop.ReadFault → fault ≡ JournalFault.ReadFault }
     ensures read_kept { result ≢ Ok Stop.ReadFault → fault ≢ JournalFault.ReadFault }
@@ -100,7 +100,7 @@ fn tell_fault<O: Sink>(alloc: Global, fault: JournalFault, out: &mut O) -> Resul
 
 /// Reads a journal from the input, and says what it has.
 fn check<S: Source, O: Sink>(alloc: Global, input: &mut S, out: &mut O) -> Result<Stop, OutOfMemory>
-    ensures run { IfOk result (λ stop. IsJournalRun IsCheckReply (status_of stop) (S.left input.old) (S.left input.new)
+    ensures run { IfOk result (λ stop. IsJournalRun IsCheckReply (journal_run_status stop) (S.left input.old) (S.left input.new)
         (O.contents out.old) (O.contents out.new)) }
     ensures ends { IfOk result EndsCommand }
     ensures read { result ≡ Ok Stop.ReadFault → Rose (S.faults input.old) (S.faults input.new) }
@@ -125,7 +125,7 @@ fn compact<S: Source, O: Sink, D: Dice>(
     out: &mut O,
     dice: &mut D,
 ) -> Result<Stop, OutOfMemory>
-    ensures run { IfOk result (λ stop. IsCompactRun (status_of stop) (D.given dice.old) (D.given dice.new)
+    ensures run { IfOk result (λ stop. IsCompactRun (journal_run_status stop) (D.given dice.old) (D.given dice.new)
         (S.left input.old) (S.left input.new) (O.contents out.old) (O.contents out.new)) }
     ensures ends { IfOk result EndsCommand }
     ensures read { result ≡ Ok Stop.ReadFault → Rose (S.faults input.old) (S.faults input.new) }
@@ -151,7 +151,7 @@ fn change<S: Source, O: Sink>(
     input: &mut S,
     out: &mut O,
 ) -> Result<Stop, OutOfMemory>
-    ensures run { IfOk result (λ stop. IsInputRun (IsChangeReply line.now) (status_of stop) (S.left input.old) (S.left input.new)
+    ensures run { IfOk result (λ stop. IsInputRun (IsChangeReply line.now) (journal_run_status stop) (S.left input.old) (S.left input.new)
         (O.contents out.old) (O.contents out.new)) }
     ensures ends { IfOk result EndsCommand }
     ensures read { result ≡ Ok Stop.ReadFault → Rose (S.faults input.old) (S.faults input.new) }
@@ -180,7 +180,7 @@ fn sync_with<J: Source, O: Sink>(
     out: &mut O,
 ) -> Result<Stop, OutOfMemory>
     requires { length input.now < 2 ^ 32 }
-    ensures run { IfOk result (λ stop. IsJournalRun (IsSyncReply line.now input.now) (status_of stop)
+    ensures run { IfOk result (λ stop. IsJournalRun (IsSyncReply line.now input.now) (journal_run_status stop)
         (J.left journal.old) (J.left journal.new) (O.contents out.old) (O.contents out.new)) }
     ensures ends { IfOk result EndsCommand }
     ensures read { result ≡ Ok Stop.ReadFault → Rose (J.faults journal.old) (J.faults journal.new) }
@@ -206,7 +206,7 @@ fn sync<J: Source, S: Source, O: Sink>(
     input: &mut S,
     out: &mut O,
 ) -> Result<Stop, OutOfMemory>
-    ensures run { IfOk result (λ stop. IsFeedRun (IsSyncReply line.now) (status_of stop) (J.left journal.old) (J.left journal.new)
+    ensures run { IfOk result (λ stop. IsFeedRun (IsSyncReply line.now) (journal_run_status stop) (J.left journal.old) (J.left journal.new)
         (S.left input.old) (S.left input.new) (O.contents out.old) (O.contents out.new)) }
     ensures ends { IfOk result EndsCommand }
     ensures read { result ≡ Ok Stop.ReadFault →
@@ -235,7 +235,7 @@ fn has_with<J: Source, O: Sink>(
     out: &mut O,
 ) -> Result<Stop, OutOfMemory>
     requires { length input.now < 2 ^ 32 }
-    ensures run { IfOk result (λ stop. IsJournalRun (IsHasReply list input.now) (status_of stop)
+    ensures run { IfOk result (λ stop. IsJournalRun (IsHasReply list input.now) (journal_run_status stop)
         (J.left journal.old) (J.left journal.new) (O.contents out.old) (O.contents out.new)) }
     ensures ends { IfOk result EndsCommand }
     ensures read { result ≡ Ok Stop.ReadFault → Rose (J.faults journal.old) (J.faults journal.new) }
@@ -261,7 +261,7 @@ fn has<J: Source, S: Source, O: Sink>(
     input: &mut S,
     out: &mut O,
 ) -> Result<Stop, OutOfMemory>
-    ensures run { IfOk result (λ stop. IsFeedRun (IsHasReply list) (status_of stop) (J.left journal.old) (J.left journal.new)
+    ensures run { IfOk result (λ stop. IsFeedRun (IsHasReply list) (journal_run_status stop) (J.left journal.old) (J.left journal.new)
         (S.left input.old) (S.left input.new) (O.contents out.old) (O.contents out.new)) }
     ensures ends { IfOk result EndsCommand }
     ensures read { result ≡ Ok Stop.ReadFault →
@@ -292,22 +292,22 @@ fn run_command<J: Source, S: Source, O: Sink, D: Dice>(
 ) -> Result<Stop, OutOfMemory>
     ensures ends { IfOk result EndsCommand }
     ensures news { IfOk result (λ stop. (line : Making) → command.now ≡ Command.New line
-        → IsNewRun line (status_of stop) (D.given dice.old) (D.given dice.new) (O.contents out.old) (O.contents out.new)) }
+        → IsNewRun line (journal_run_status stop) (D.given dice.old) (D.given dice.new) (O.contents out.old) (O.contents out.new)) }
     ensures syncs { IfOk result (λ stop. (line : Syncing) → command.now ≡ Command.Sync line
-        → IsFeedRun (IsSyncReply line) (status_of stop) (J.left journal.old) (J.left journal.new)
+        → IsFeedRun (IsSyncReply line) (journal_run_status stop) (J.left journal.old) (J.left journal.new)
         (S.left input.old) (S.left input.new) (O.contents out.old) (O.contents out.new)) }
     ensures changes { IfOk result (λ stop. (line : Changing) → command.now ≡ Command.Change line
-        → IsInputRun (IsChangeReply line) (status_of stop) (S.left input.old) (S.left input.new) (O.contents out.old) (O.contents out.new)) }
+        → IsInputRun (IsChangeReply line) (journal_run_status stop) (S.left input.old) (S.left input.new) (O.contents out.old) (O.contents out.new)) }
     ensures checks { IfOk result (λ stop. command.now ≡ Command.Check
-        → IsJournalRun IsCheckReply (status_of stop) (S.left input.old) (S.left input.new) (O.contents out.old) (O.contents out.new)) }
+        → IsJournalRun IsCheckReply (journal_run_status stop) (S.left input.old) (S.left input.new) (O.contents out.old) (O.contents out.new)) }
     ensures finds { IfOk result (λ stop. (list : Name) → command.now ≡ Command.Has list
-        → IsFeedRun (IsHasReply list) (status_of stop) (J.left journal.old) (J.left journal.new)
+        → IsFeedRun (IsHasReply list) (journal_run_status stop) (J.left journal.old) (J.left journal.new)
         (S.left input.old) (S.left input.new) (O.contents out.old) (O.contents out.new)) }
     ensures compacts { IfOk result (λ stop. command.now ≡ Command.Compact
-        → IsCompactRun (status_of stop) (D.given dice.old) (D.given dice.new) (S.left input.old) (S.left input.new)
+        → IsCompactRun (journal_run_status stop) (D.given dice.old) (D.given dice.new) (S.left input.old) (S.left input.new)
         (O.contents out.old) (O.contents out.new)) }
     ensures tells { IfOk result (λ stop. (about : Asking) → command.now ≡ Command.Tell about
-        → IsWritten (done_with (about_text about (codes "sbjournal") USAGE.now)) (status_of stop) (O.contents out.old) (O.contents out.new)) }
+        → IsWritten (done_with (about_text about (codes "sbjournal") USAGE.now)) (journal_run_status stop) (O.contents out.old) (O.contents out.new)) }
     ensures no_journal { reads_journal command.now ≡ false → journal.new ≡ journal.old }
     ensures no_input { reads_input command.now ≡ false → input.new ≡ input.old }
     ensures no_draw { draws_epoch command.now ≡ false → dice.new ≡ dice.old }
@@ -363,7 +363,7 @@ pub fn run_journal<J: Source, S: Source, O: Sink, D: Dice>(
     out: &mut O,
     dice: &mut D,
 ) -> u8
-    ensures statuses { IsStatus result }
+    ensures statuses { IsJournalRunStatus result }
 
     // Words that are no command line: the usage text alone is written, and nothing is read.
     ensures words { result ≡ 1 → command_of (map string_bytes words.now) ≡ None }

@@ -1,5 +1,5 @@
 ghost use Rattle.std.specs.Prelude.{◌≡◌};
-ghost use Rattle.journal_run.specs.Stops.{status_of};
+ghost use Rattle.journal_run.specs.Stops.{journal_run_status};
 
 /// Why a run ended.
 #[derive(Clone, Copy, Debug, PartialEq, Eq)]
@@ -26,7 +26,7 @@ pub(crate) enum Stop {
 
 /// The exit status of a run that ended so.
 pub(crate) fn status_of(stop: Stop) -> u8
-    ensures { result ≡ status_of stop }
+    ensures { result ≡ journal_run_status stop }
 {
     match stop {
         Stop::Done => 0,

@@ -7,7 +7,7 @@ use Rattle.sb_outside.specs.declared.links.Session.{Session}
 use Rattle.update_client.specs.Held.{Held}
 use Rattle.wait_rules.specs.declared.waits.WaitState.{WaitState}
 use Rattle.timed_sessions.specs.Told.{Outside, outside, with_more}
-use Rattle.input_lines.specs.Lines.{IsWithinLimits, lines_of}
+use Rattle.input_lines.specs.Lines.{IsInputWithinLimits, lines_of}
 use Rattle.update_run.specs.Opening.{first_lists}
 use Rattle.update_run.specs.Run.{seen}
 use Rattle.update_run.specs.Saved.{Keeping, keeping}
@@ -21,7 +21,7 @@ use Rattle.judge_beside.specs.Run.{Ending, EndsBeside, EndsOpened, EndsUpdating,
 use Rattle.judge_beside.specs.declared.plan.BesidePlan.{BesidePlan}
 
 -- an input within the limits has not too many lines
-pub few_lines : (input : List ℕ) → IsWithinLimits input → length (lines_of input) < 2 ^ 32
+pub few_lines : (input : List ℕ) → IsInputWithinLimits input → length (lines_of input) < 2 ^ 32
 few_lines input within = omega (arith, within.lines)
 
 pub same_keeping : (handed handed' : Option (List (List ℕ))) (kept kept' : Option (Option (List ℕ))) → handed' ≡ handed → kept' ≡ kept → keeping handed' kept' ≡ keeping handed kept

@@ -7,7 +7,7 @@ use Rattle.snapshot_publish.specs.Publishing.{Seated}
 use Rattle.url_checker.specs.declared.findings.Checked.{Checked}
 use Rattle.url_checker.specs.declared.findings.Checked.TheVariants.{Found, Refused}
 use Rattle.parallel_checks.specs.Checks.{IsCheckOf, NeverFall, of_seat}
-use Rattle.parallel_checks.specs.Settled.{HasKept, AreSettled, IsSettledRun}
+use Rattle.parallel_checks.specs.Settled.{NamesKeptPublication, AreSettled, IsSettledRun}
 use Rattle.parallel_checks.specs.declared.running.CheckRun.{CheckRun}
 use Rattle.judge_beside.specs.Checked.{MayBeJudged, MayAllBeJudged, AreChecksOf, NumbersNeverFall}
 use Rattle.judge_beside.proofs.Places.{get_there, as_long}
@@ -16,7 +16,7 @@ use Rattle.judge_beside.proofs.Places.{get_there, as_long}
 line_at : (index seats : ℕ) → index ≡ index % seats + index / seats * seats
 line_at index seats = omega (arith, div-add-mod' index seats)
 
-may_be : (all : Publications) (line : List ℕ) (check : Checked) → IsCheckOf all line check → HasKept all check → MayBeJudged all check
+may_be : (all : Publications) (line : List ℕ) (check : Checked) → IsCheckOf all line check → NamesKeptPublication all check → MayBeJudged all check
 may_be all line (Found finding) is kept = (kept, is.askable)
 may_be all line (Refused fault) is kept = tt
 
@@ -28,7 +28,7 @@ module _ (all : Publications) (run settled : CheckRun) (lines : List (List ℕ))
       × AreSettled all seat (of_seat lines (length run.seats) place) (of_seat run.checks (length run.seats) place) (of_seat settled.checks (length run.seats) place)
   settled_at place within = let seat = seat_at place within in (seat.0, is.each place seat.0 seat.1)
 
-  each_check : (index : ℕ) (line : List ℕ) (check : Checked) → slice_get lines index ≡ Some line → slice_get settled.checks index ≡ Some check → IsCheckOf all line check × HasKept all check
+  each_check : (index : ℕ) (line : List ℕ) (check : Checked) → slice_get lines index ≡ Some line → slice_get settled.checks index ≡ Some check → IsCheckOf all line check × NamesKeptPublication all check
   each_check index line check l k =
       let w = length run.seats in
       let at = line_at index w in

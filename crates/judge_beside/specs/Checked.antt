@@ -1,7 +1,7 @@
 -- URLs that were checked before, each on some publication, and what becomes of them.
 use Rattle.std.specs.Prelude.{◌≡◌, ◌<◌, ◌⊎◌, ℕ, List, [], ◌∷◌, ◌++◌, length, map, slice_get, Some}
 use Rattle.timed_sessions.specs.Told.{Outside}
-use Rattle.snapshot_publish.specs.Publications.{Publications, IsKept}
+use Rattle.snapshot_publish.specs.Publications.{Publications, IsPublicationKept}
 use Rattle.url_checker.specs.Hits.{AreAskable}
 use Rattle.url_checker.specs.declared.findings.Checked.{Checked}
 use Rattle.url_checker.specs.declared.findings.Checked.TheVariants.{Found, Refused}
@@ -17,7 +17,7 @@ use Rattle.judge_run.specs.declared.report.Report.{Report}
 
 -- the publication of a finding is kept, and one request can ask for its hits
 abbrev pub MayBeJudged : Publications → Checked → Type 0
-MayBeJudged all (Found finding) = IsKept all finding.number × AreAskable finding.hits
+MayBeJudged all (Found finding) = IsPublicationKept all finding.number × AreAskable finding.hits
 MayBeJudged all (Refused fault) = Unit {0}
 
 abbrev pub MayAllBeJudged : Publications → List Checked → Type 0

@@ -1,7 +1,7 @@
 ghost use Rattle.std.specs.Prelude.{◌≡◌, ◌≤◌, ◌<◌, ◌^◌, ℕ, List, [], ◌∷◌, length, slice_index_or, IfOk, IfSome, OnOk, OnErr};
 ghost use Rattle.http_edge.specs.Exchanges.{IsTarget};
 ghost use Rattle.update_client.specs.Held.{tokens_of};
-ghost use Rattle.snapshot_publish.specs.Publications.{IsKept};
+ghost use Rattle.snapshot_publish.specs.Publications.{IsPublicationKept};
 ghost use Rattle.url_checker.specs.Hits.{AreAskable};
 ghost use Rattle.url_checker.specs.declared.findings.Checked.TheVariants.{Found};
 ghost use Rattle.verdict_report.specs.Printed.{AreCounts};
@@ -31,7 +31,7 @@ fn judge_found<N: Line>(
     waits: &mut WaitState,
     line: &mut N,
 ) -> Result<Judged, OutOfMemory>
-    requires kept { IsKept publisher.now.list finding.number }
+    requires kept { IsPublicationKept publisher.now.list finding.number }
     requires askable { AreAskable finding.hits }
     requires known { IfSome known.old (λ states. states.tokens
         ≡ tokens_of (slice_index_or publisher.now.list states.number [])) }

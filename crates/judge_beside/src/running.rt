@@ -5,7 +5,7 @@ ghost use Rattle.input_lines.specs.Lines.{lines_of};
 ghost use Rattle.update_client.specs.Held.{most_lists};
 ghost use Rattle.update_run.specs.Run.{seen};
 ghost use Rattle.update_run.specs.Saved.{keeping};
-ghost use Rattle.parallel_checks.specs.Checks.{AreChecks, AreOf};
+ghost use Rattle.parallel_checks.specs.Checks.{AreChecks, AreSeatsOf};
 ghost use Rattle.judge_run.specs.Judging.{first_finds, StopsJudging};
 ghost use Rattle.judge_run.specs.Run.{seen as judging};
 ghost use Rattle.judge_beside.specs.Checked.{HasReportedChecks};
@@ -59,7 +59,7 @@ fn judge_settled<N: Line>(
     line: &mut N,
 ) -> Result<Report, OutOfMemory>
     requires some { 0 < length run.seats }
-    requires ours { AreOf publisher.old.boxes run.seats }
+    requires ours { AreSeatsOf publisher.old.boxes run.seats }
     requires checks { AreChecks run.seats urls.now run.checks }
     requires few { length urls.now < 2 ^ 32 }
     requires target { IsTarget plan.now.target }
@@ -91,7 +91,7 @@ fn judge_checked<O: Sink, N: Line>(
     line: &mut N,
 ) -> Result<Judgement, JudgeStop>
     requires some { 0 < length run.seats }
-    requires ours { AreOf publisher.old.boxes run.seats }
+    requires ours { AreSeatsOf publisher.old.boxes run.seats }
     requires checks { AreChecks run.seats urls.now run.checks }
     requires few { length urls.now < 2 ^ 32 }
     requires target { IsTarget plan.now.target }
@@ -123,7 +123,7 @@ fn start_with<R: Wait>(
     requires { (1 ≤ workers) × (workers ≤ 16) }
     ensures list { IfOk result (λ made. made.0.list ≡ lists.now ∷ []) }
     ensures count { IfOk result (λ made. length made.1 ≡ workers) }
-    ensures ours { IfOk result (λ made. AreOf made.0.boxes made.1) }
+    ensures ours { IfOk result (λ made. AreSeatsOf made.0.boxes made.1) }
 {
     let copy = lists.copy(alloc)?;
     start(rt, alloc, copy, workers)

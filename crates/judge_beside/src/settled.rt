@@ -1,5 +1,5 @@
 ghost use Rattle.std.specs.Prelude.{◌≡◌, ◌<◌, length, IfOk};
-ghost use Rattle.parallel_checks.specs.Checks.{AreChecks, AreOf};
+ghost use Rattle.parallel_checks.specs.Checks.{AreChecks, AreSeatsOf};
 ghost use Rattle.judge_beside.specs.Checked.{AreChecksOf, MayAllBeJudged, NumbersNeverFall};
 
 use parallel_checks::{CheckRun, settle};
@@ -20,7 +20,7 @@ pub fn settle_checks(
     urls: &[Bytes],
 ) -> Result<Row<Checked>, OutOfMemory>
     requires some { 0 < length run.seats }
-    requires ours { AreOf publisher.old.boxes run.seats }
+    requires ours { AreSeatsOf publisher.old.boxes run.seats }
     requires checks { AreChecks run.seats urls.now run.checks }
     ensures publisher { publisher.new ≡ publisher.old }
     ensures checks { IfOk result (AreChecksOf publisher.old.list urls.now) }

@@ -1,6 +1,6 @@
 ghost use Rattle.std.specs.Prelude.{◌≡◌, [], slice_index_or, IfOk, IfSome};
 ghost use Rattle.update_client.specs.Held.{tokens_of};
-ghost use Rattle.snapshot_publish.specs.Publications.{IsKept};
+ghost use Rattle.snapshot_publish.specs.Publications.{IsPublicationKept};
 
 use sb_model::{Bytes, OutOfMemory, Row};
 use snapshot_publish::Publisher;
@@ -15,7 +15,7 @@ pub(crate) struct States {
 
 // The tokens of a publication that is kept.
 fn read_states(alloc: Global, publisher: &Publisher, number: u64) -> Result<States, OutOfMemory>
-    requires { IsKept publisher.now.list number }
+    requires { IsPublicationKept publisher.now.list number }
     ensures number { IfOk result (λ states. states.number ≡ number) }
     ensures tokens { IfOk result (λ states. states.tokens
         ≡ tokens_of (slice_index_or publisher.now.list number [])) }
@@ -36,7 +36,7 @@ pub(crate) fn states_of(
     number: u64,
     known: Option<States>,
 ) -> Result<States, OutOfMemory>
-    requires kept { IsKept publisher.now.list number }
+    requires kept { IsPublicationKept publisher.now.list number }
     requires known { IfSome known (λ states. states.tokens
         ≡ tokens_of (slice_index_or publisher.now.list states.number [])) }
     ensures number { IfOk result (λ states. states.number ≡ number) }

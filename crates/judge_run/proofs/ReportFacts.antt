@@ -7,7 +7,7 @@ use Rattle.std.proofs.lemmas.List.Recursion.{is_count_by}
 use Rattle.sb_outside.specs.Outside.{appended}
 use Rattle.sb_outside.specs.Writing.{HasFront}
 use Rattle.input_lines.specs.Ways.{appended-twice, drop_some, front_more}
-use Rattle.verdict_report.specs.Printed.{report_line, report_lines, summary_text, is_undecided, is_refused, is_unsafe, counts_of}
+use Rattle.verdict_report.specs.Printed.{report_line, report_lines, summary_text, is_undecided, is_judged_refused, is_judged_unsafe, counts_of}
 use Rattle.verdict_report.specs.declared.verdicts.Judged.{Judged}
 use Rattle.verdict_report.specs.declared.counts.Counts.{Counts}
 use Rattle.judge_run.specs.Printed.{is_open, report_text, judgement_of}
@@ -86,43 +86,43 @@ either false true false true = refl
 either false true false false = refl
 either false false c d = refl
 
-any_either : (all : List Judged) → list_any is_open all ≡ (list_any is_undecided all || list_any is_refused all)
+any_either : (all : List Judged) → list_any is_open all ≡ (list_any is_undecided all || list_any is_judged_refused all)
 any_either [] = refl
 any_either (one ∷ all) =
-    ap (λ rest. is_open one || rest) (any_either all) ∙ either (is_undecided one) (is_refused one) (list_any is_undecided all) (list_any is_refused all)
+    ap (λ rest. is_open one || rest) (any_either all) ∙ either (is_undecided one) (is_judged_refused one) (list_any is_undecided all) (list_any is_judged_refused all)
 
-said : (a b : Bool) (all : List Judged) → list_any is_unsafe all ≡ a → list_any is_open all ≡ b → judgement_of all ≡ cond a Unsafe (cond b Open Safe)
+said : (a b : Bool) (all : List Judged) → list_any is_judged_unsafe all ≡ a → list_any is_open all ≡ b → judgement_of all ≡ cond a Unsafe (cond b Open Safe)
 said a b all one other = ap (λ x. cond x Unsafe (cond (list_any is_open all) Open Safe)) one ∙ ap (λ x. cond a Unsafe (cond x Open Safe)) other
 
 module _ (counts : Counts) (all : List Judged) (same : counts ≡ counts_of all) where
-  found : count is_unsafe all ≡ counts.found_unsafe
-  found = counted is_unsafe all ∙ ap (λ (c : Counts). c.found_unsafe) (sym same)
+  found : count is_judged_unsafe all ≡ counts.found_unsafe
+  found = counted is_judged_unsafe all ∙ ap (λ (c : Counts). c.found_unsafe) (sym same)
 
   left_open : count is_undecided all ≡ counts.undecided
   left_open = counted is_undecided all ∙ ap (λ (c : Counts). c.undecided) (sym same)
 
-  turned_away : count is_refused all ≡ counts.refused
-  turned_away = counted is_refused all ∙ ap (λ (c : Counts). c.refused) (sym same)
+  turned_away : count is_judged_refused all ≡ counts.refused
+  turned_away = counted is_judged_refused all ∙ ap (λ (c : Counts). c.refused) (sym same)
 
-  none_found : counts.found_unsafe ≤ 0 → list_any is_unsafe all ≡ false
-  none_found h = none_of is_unsafe all (omega (arith, found, h))
+  none_found : counts.found_unsafe ≤ 0 → list_any is_judged_unsafe all ≡ false
+  none_found h = none_of is_judged_unsafe all (omega (arith, found, h))
 
   pub said_unsafe : 0 < counts.found_unsafe → Unsafe ≡ judgement_of all
-  said_unsafe h = sym (said true (list_any is_open all) all (some_of is_unsafe all (omega (arith, found, h))) refl)
+  said_unsafe h = sym (said true (list_any is_open all) all (some_of is_judged_unsafe all (omega (arith, found, h))) refl)
 
   pub said_undecided : counts.found_unsafe ≤ 0 → 0 < counts.undecided → Open ≡ judgement_of all
   said_undecided none h =
-      sym (said false true all (none_found none) (any_either all ∙ ap (λ b. b || list_any is_refused all) (some_of is_undecided all (omega (arith, left_open, h)))))
+      sym (said false true all (none_found none) (any_either all ∙ ap (λ b. b || list_any is_judged_refused all) (some_of is_undecided all (omega (arith, left_open, h)))))
 
   pub said_refused : counts.found_unsafe ≤ 0 → counts.undecided ≤ 0 → 0 < counts.refused → Open ≡ judgement_of all
   said_refused none decided h =
       sym (said false true all (none_found none)
-      (any_either all ∙ (ap (λ b. b || list_any is_refused all) (none_of is_undecided all (omega (arith, left_open, decided))) ∙ some_of is_refused all (omega (arith, turned_away, h)))))
+      (any_either all ∙ (ap (λ b. b || list_any is_judged_refused all) (none_of is_undecided all (omega (arith, left_open, decided))) ∙ some_of is_judged_refused all (omega (arith, turned_away, h)))))
 
   pub said_safe : counts.found_unsafe ≤ 0 → counts.undecided ≤ 0 → counts.refused ≤ 0 → Safe ≡ judgement_of all
   said_safe none decided taken =
       sym (said false false all (none_found none)
-      (any_either all ∙ (ap (λ b. b || list_any is_refused all) (none_of is_undecided all (omega (arith, left_open, decided))) ∙ none_of is_refused all (omega (arith, turned_away, taken)))))
+      (any_either all ∙ (ap (λ b. b || list_any is_judged_refused all) (none_of is_undecided all (omega (arith, left_open, decided))) ∙ none_of is_judged_refused all (omega (arith, turned_away, taken)))))
 
 -- ---- writing
 

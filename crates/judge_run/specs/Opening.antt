@@ -6,7 +6,7 @@ use Rattle.sb_outside.specs.Reading.{ReadsToEnd}
 use Rattle.wait_rules.specs.Waits.{first_state}
 use Rattle.wait_rules.specs.declared.waits.WaitState.{WaitState}
 use Rattle.timed_sessions.specs.Told.{Outside, Trace, Grows}
-use Rattle.input_lines.specs.Lines.{IsWithinLimits}
+use Rattle.input_lines.specs.Lines.{IsInputWithinLimits}
 use Rattle.input_lines.specs.Input.{GivesWithin, GivesPast}
 use Rattle.update_run.specs.Opening.{HasLoaded}
 use Rattle.judge_run.specs.declared.beginning.Begun.{Begun}
@@ -29,7 +29,7 @@ pub record OpensFinds (updates waits : WaitState) (before after : Outside) : Typ
 -- The source gave a text to its end, which is within the limits.
 pub record ReadsWhole (text : List ℕ) (left left' : Option (List (List ℕ))) : Type 0 where
   pub reads : ReadsToEnd text left left'
-  pub within : IsWithinLimits text
+  pub within : IsInputWithinLimits text
 
 -- A run has its input, its lists and the line that tells of them, and the waits of the first update and the first find.
 pub record Begins (names : List ListName) (begun : Begun) (left left' : Option (List (List ℕ))) (known : Option (Option (List ℕ))) (before after : Outside) : Type 0 where

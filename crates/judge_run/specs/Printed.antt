@@ -2,7 +2,7 @@
 use Rattle.std.specs.Prelude.{ℕ, Bool, ◌||◌, if◌then◌else◌, List, ◌++◌, Option}
 use Rattle.std.specs.List.{list_any}
 use Rattle.update_run.specs.Printed.{ignored_text}
-use Rattle.verdict_report.specs.Printed.{report_lines, summary_text, is_unsafe, is_undecided, is_refused}
+use Rattle.verdict_report.specs.Printed.{report_lines, summary_text, is_judged_unsafe, is_undecided, is_judged_refused}
 use Rattle.verdict_report.specs.declared.verdicts.Judged.{Judged}
 use Rattle.judge_run.specs.declared.judgement.Judgement.{Judgement}
 use Rattle.judge_run.specs.declared.judgement.Judgement.TheVariants.{Safe, Unsafe, Open}
@@ -17,8 +17,8 @@ judge_text kept all = ignored_text kept ++ report_text all
 
 -- whether nothing was found out of a URL
 abbrev pub is_open : Judged → Bool
-is_open one = is_undecided one || is_refused one
+is_open one = is_undecided one || is_judged_refused one
 
 -- One unsafe URL decides, and else an open one.
 abbrev pub judgement_of : List Judged → Judgement
-judgement_of all = if list_any is_unsafe all then Unsafe else if list_any is_open all then Open else Safe
+judgement_of all = if list_any is_judged_unsafe all then Unsafe else if list_any is_open all then Open else Safe

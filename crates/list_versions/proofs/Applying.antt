@@ -9,7 +9,7 @@ use Rattle.sb_model.specs.declared.names.ListName.{ListName}
 use Rattle.sb_model.specs.History.{after_change, with_added, without_hash}
 use Rattle.sb_model.specs.Names.{same_name}
 use Rattle.list_versions.specs.Draft.{declared_of}
-use Rattle.list_versions.specs.Limits.{IsUncrowded, limit_fault}
+use Rattle.list_versions.specs.Limits.{IsUncrowded, limit_fault_at}
 use Rattle.list_versions.specs.Live.{Holds}
 use Rattle.list_versions.specs.declared.draft.Listed.{Listed}
 use Rattle.list_versions.specs.declared.fault.JournalFault.{JournalFault}
@@ -79,15 +79,15 @@ own_change change entries = cond_true (same_name change.list change.list) _ entr
 
 pub limit_found : (change : Change) (sizes : ListName → List Added) (list : Listed) (line : ℕ) (adds : List Added) (answer : Option JournalFault) → list.name ≡ change.list → adds ≡ change.adds
     → IsApplied change sizes list → IsUncrowded (sizes change.list)
-    → ((before : List Added) (removes : List (List ℕ)) → IsUncrowded before → Holds list.live (fold with_added (fold without_hash before removes) adds) → answer ≡ limit_fault line (fold with_added (fold without_hash before removes) adds))
-    → answer ≡ limit_fault line (after_change change.list (sizes change.list) change)
+    → ((before : List Added) (removes : List (List ℕ)) → IsUncrowded before → Holds list.live (fold with_added (fold without_hash before removes) adds) → answer ≡ limit_fault_at line (fold with_added (fold without_hash before removes) adds))
+    → answer ≡ limit_fault_at line (after_change change.list (sizes change.list) change)
 limit_found change sizes list line adds answer name is holds few limit =
     let P : ListName → Type 0 = λ n. Holds list.live (after_change n (sizes n) change) in
     let held : Holds list.live (after_change change.list (sizes change.list) change) = subst P name holds in
     let entries : fold with_added (fold without_hash (sizes change.list) change.removes) adds ≡ after_change change.list (sizes change.list) change =
     ap (λ xs. fold with_added (fold without_hash (sizes change.list) change.removes) xs) is ∙ sym (own_change change (sizes change.list)) in
     let held' : Holds list.live (fold with_added (fold without_hash (sizes change.list) change.removes) adds) = subst (λ xs. Holds list.live xs) (sym entries) held in
-    limit (sizes change.list) change.removes few held' ∙ ap (limit_fault line) entries
+    limit (sizes change.list) change.removes few held' ∙ ap (limit_fault_at line) entries
 
 -- ---- declared lists
 

@@ -6,7 +6,7 @@ use Rattle.list_versions.specs.declared.fault.JournalFault.TheVariants as fault
 use Rattle.list_versions.specs.declared.heads.Header.{Header}
 use Rattle.list_versions.specs.Journal.{kept_of, after_first, after_header, after_bytes, if_short, most_line}
 use Rattle.list_versions.specs.Lines.{is_newline, header_of}
-use Rattle.list_versions.specs.Pieces.{reading_of}
+use Rattle.list_versions.specs.Pieces.{reading_after_header}
 use Rattle.list_versions.specs.Split.{IsLine, IsLong}
 use Rattle.list_versions.proofs.LineEnds.{parts_line, parts_long}
 use Rattle.list_versions.proofs.Parts.{parts_some}
@@ -35,7 +35,7 @@ kept_line text line rest more h =
     ap after_first (parts_line text line rest more h) ∙ first_parts line (slice_split is_newline (rest ++ more)) (parts_some is_newline (rest ++ more))
     ∙ ap (λ header. after_header header (slice_split is_newline (rest ++ more))) (choose_false (nat_lt most_line (length line)) None (header_of line) (short line h.short))
 
-pub kept_begun : (text line rest : List ℕ) (header : Header) → IsLine text line rest → Some header ≡ header_of line → (more : List ℕ) → kept_of (text ++ more) ≡ after_bytes (reading_of header) (rest ++ more)
+pub kept_begun : (text line rest : List ℕ) (header : Header) → IsLine text line rest → Some header ≡ header_of line → (more : List ℕ) → kept_of (text ++ more) ≡ after_bytes (reading_after_header header) (rest ++ more)
 kept_begun text line rest header h e more = kept_line text line rest more h ∙ ap (λ found. after_header found (slice_split is_newline (rest ++ more))) (sym e)
 
 pub kept_bad : (text line rest : List ℕ) → IsLine text line rest → None ≡ header_of line → (more : List ℕ) → kept_of (text ++ more) ≡ Err fault.Header

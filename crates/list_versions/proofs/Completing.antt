@@ -13,8 +13,8 @@ use Rattle.sb_model.specs.declared.names.ListName.{ListName}
 use Rattle.sb_model.specs.History.{History, after_change, sizes_at, version_count, declares, IsPrefixSize}
 use Rattle.sb_model.specs.Names.{same_name}
 use Rattle.list_versions.specs.Lines.{IsAdded}
-use Rattle.list_versions.specs.Limits.{IsWithin, WithinLimits, limit_fault, is_crowded, prefix_bytes, most_hashes, most_prefix_bytes, hash_lines, most_lists}
-use Rattle.list_versions.specs.Journal.{Reading, settled, is_complete, if_within_limits, with_change, change_of, next_line, lines_begun, after_list}
+use Rattle.list_versions.specs.Limits.{KeepsToLimits, WithinLimits, limit_fault_at, is_crowded, prefix_bytes, most_hashes, most_prefix_bytes, hash_lines, most_declared_lists}
+use Rattle.list_versions.specs.Journal.{LineReading, settled, is_complete, if_within_limits, with_change, change_of, next_line, lines_begun, after_list}
 use Rattle.list_versions.specs.Draft.{declared_of, history_of, kept_of_draft, IsDraft, begun_of}
 use Rattle.list_versions.specs.Ends.{adds_if, adds_of}
 use Rattle.list_versions.specs.Folding.{after_changes}
@@ -56,23 +56,23 @@ none_cases false false true x y h = absurd (cc)
 not_above : (m n : ℕ) → nat_lt m n ≡ false → n ≤ m
 not_above m n h = grind (arith, nat_tests)
 
-pub within_limits : (n : ℕ) (entries : List Added) → limit_fault n entries ≡ None → IsWithin entries
+pub within_limits : (n : ℕ) (entries : List Added) → limit_fault_at n entries ≡ None → KeepsToLimits entries
 within_limits n entries h =
     let none = none_cases (nat_lt most_hashes (length entries)) (is_crowded entries) (nat_lt most_prefix_bytes (prefix_bytes entries)) _ _ h in
     record { count = not_above most_hashes (length entries) none.0; uncrowded = uncrowded entries none.1; bytes = not_above most_prefix_bytes (prefix_bytes entries) none.2 }
 
 -- a list after a change, of which the own list is within the limits
-within_at : (change : Change) (list : ListName) (before : ListName → List Added) (b : Bool) → same_name change.list list ≡ b → IsWithin (before list) → IsWithin (after_change change.list (before change.list) change)
-    → IsWithin (after_change list (before list) change)
-within_at change list before true e old own = subst (λ (l : ListName). IsWithin (after_change l (before l) change)) (names_same change.list list e) own
+within_at : (change : Change) (list : ListName) (before : ListName → List Added) (b : Bool) → same_name change.list list ≡ b → KeepsToLimits (before list) → KeepsToLimits (after_change change.list (before change.list) change)
+    → KeepsToLimits (after_change list (before list) change)
+within_at change list before true e old own = subst (λ (l : ListName). KeepsToLimits (after_change l (before l) change)) (names_same change.list list e) own
 within_at change list before false e old own = rw e old
 
-pub within_new : (history : History) (change : Change) (n : ℕ) → WithinLimits history → limit_fault n (after_change change.list (sizes_at history change.list (length history.changes)) change) ≡ None → WithinLimits (with_change change history)
+pub within_new : (history : History) (change : Change) (n : ℕ) → WithinLimits history → limit_fault_at n (after_change change.list (sizes_at history change.list (length history.changes)) change) ≡ None → WithinLimits (with_change change history)
 within_new history change n within none list version h =
     let long = length-append history.changes (change ∷ []) in
     within_version (cases_lt version (length history.changes + 1))
   where
-    within_version : ((version < length history.changes + 1) ⊎ (length history.changes + 1 ≤ version)) → IsWithin (sizes_at (with_change change history) list version)
+    within_version : ((version < length history.changes + 1) ⊎ (length history.changes + 1 ≤ version)) → KeepsToLimits (sizes_at (with_change change history) list version)
     within_version (inl lt) = rw (sizes_old history change list version (omega arith)) (within list version (omega arith))
     within_version (inr ge) =
         let long = length-append history.changes (change ∷ []) in
@@ -101,7 +101,7 @@ hash_lines_more changes change = sum_by-append (λ (c : Change). length c.adds +
 pub draft_completed : (old new : Draft) (change : Change) (n : ℕ) → IsDraft old → new.epoch ≡ old.epoch → declared_of new.lists.items ≡ declared_of old.lists.items → new.changes.items ≡ old.changes.items ++ change ∷ []
     → new.hashes ≡ old.hashes + (length change.adds + length change.removes)
     → All (IsApplied change (λ name. sizes_at (history_of old) name (length old.changes.items))) new.lists.items
-    → limit_fault n (after_change change.list (sizes_at (history_of old) change.list (length old.changes.items)) change) ≡ None
+    → limit_fault_at n (after_change change.list (sizes_at (history_of old) change.list (length old.changes.items)) change) ≡ None
     → length old.changes.items < 65536 → old.hashes + (length change.adds + length change.removes) ≤ 2097152 → declares (history_of old) change.list ≡ true
     → All IsAdded change.adds → All (λ (hash : List ℕ). length hash ≡ 32) change.removes → All (λ (list : Listed). HasPlaced list.name (old.changes.items ++ change ∷ []) list.live) new.lists.items → IsDraft new
 draft_completed old new change n draft epoch declared changes hashes applied none few count named adds removes placed =
@@ -132,7 +132,7 @@ draft_completed old new change n draft epoch declared changes hashes applied non
 
 -- ---- what the last line does
 
-settled_done : (b : Bool) (done waiting : Result Reading JournalFault) → b ≡ true → (if b then done else waiting) ≡ done
+settled_done : (b : Bool) (done waiting : Result LineReading JournalFault) → b ≡ true → (if b then done else waiting) ≡ done
 settled_done true done waiting h = refl
 settled_done false done waiting h = absurd (cc)
 
@@ -141,7 +141,7 @@ complete_is begin adds removes a r = rw (eq-eqb _ _ a, eq-eqb _ _ r) refl
 
 pub at_the_end : (old : Draft) (begin : Begin) (adds : List Added) (removes : List (List ℕ)) (change : Change) (line : ℕ) (answer : Option JournalFault) → length adds ≡ begin.to_add → length removes ≡ begin.to_remove
     → change ≡ change_of (begun_of begin adds removes) → line ≡ next_line (history_of old) + lines_begun (begun_of begin adds removes)
-    → answer ≡ limit_fault line (after_change change.list (sizes_at (history_of old) change.list (length old.changes.items)) change)
+    → answer ≡ limit_fault_at line (after_change change.list (sizes_at (history_of old) change.list (length old.changes.items)) change)
     → (seen : List ℕ) → settled (kept_of_draft old seen) (begun_of begin adds removes) ≡ if_within_limits (record (kept_of_draft old seen) { versions = with_change change (history_of old) }) answer
 at_the_end old begin adds removes change line answer a r c l h seen =
     let begun = begun_of begin adds removes in
@@ -149,9 +149,9 @@ at_the_end old begin adds removes change line answer a r c l h seen =
     let long = length-append old.changes.items (change ∷ []) in
     let sizes = sizes_new (history_of old) change change.list (version_count versions) (omega (arith, long)) in
     settled_done (is_complete begun) _ _ (complete_is begin adds removes a r)
-    ∙ ap (λ (c' : Change). if_within_limits (record (kept_of_draft old seen) { versions = with_change c' (history_of old) }) (limit_fault (next_line (history_of old) + lines_begun begun) (sizes_at (with_change c' (history_of old)) c'.list (version_count (with_change c' (history_of old)))))) (sym c)
-    ∙ ap (λ m. if_within_limits (record (kept_of_draft old seen) { versions = versions }) (limit_fault m (sizes_at versions change.list (version_count versions)))) (sym l)
-    ∙ ap (λ es. if_within_limits (record (kept_of_draft old seen) { versions = versions }) (limit_fault line es)) sizes
+    ∙ ap (λ (c' : Change). if_within_limits (record (kept_of_draft old seen) { versions = with_change c' (history_of old) }) (limit_fault_at (next_line (history_of old) + lines_begun begun) (sizes_at (with_change c' (history_of old)) c'.list (version_count (with_change c' (history_of old)))))) (sym c)
+    ∙ ap (λ m. if_within_limits (record (kept_of_draft old seen) { versions = versions }) (limit_fault_at m (sizes_at versions change.list (version_count versions)))) (sym l)
+    ∙ ap (λ es. if_within_limits (record (kept_of_draft old seen) { versions = versions }) (limit_fault_at line es)) sizes
     ∙ ap (if_within_limits (record (kept_of_draft old seen) { versions = versions })) (sym h)
 
 -- ---- a list that is declared
@@ -241,11 +241,11 @@ draft_declared old new listed draft lists changes hashes few absent size live pl
 
 -- ---- a line that declares a list
 
-list_twice : (b : Bool) (f : JournalFault) (other : Result Reading JournalFault) → b ≡ true → (if b then Err f else other) ≡ Err f
+list_twice : (b : Bool) (f : JournalFault) (other : Result LineReading JournalFault) → b ≡ true → (if b then Err f else other) ≡ Err f
 list_twice true f other h = refl
 list_twice false f other h = absurd (cc)
 
-list_once : (b : Bool) (f : JournalFault) (other : Result Reading JournalFault) → b ≡ false → (if b then Err f else other) ≡ other
+list_once : (b : Bool) (f : JournalFault) (other : Result LineReading JournalFault) → b ≡ false → (if b then Err f else other) ≡ other
 list_once true f other h = absurd (cc)
 list_once false f other h = refl
 
@@ -254,12 +254,12 @@ refused_twice draft name size line h e kept = list_twice (declares (history_of d
 
 pub refused_many : (draft : Draft) (name : ListName) (size line : ℕ) → declares (history_of draft) name ≡ false → 8 ≤ length (declared_of draft.lists.items) → line ≡ next_line (history_of draft) → (kept : List ℕ) → after_list (kept_of_draft draft kept) name size ≡ Err (fault.TooMany line)
 refused_many draft name size line h many e kept =
-    let full : nat_le most_lists (length (declared_of draft.lists.items)) ≡ true = grind (arith, nat_tests) in
-    list_once (declares (history_of draft) name) _ _ h ∙ list_twice (nat_le most_lists (length (declared_of draft.lists.items))) _ _ full ∙ ap (λ n. Err (fault.TooMany n)) (sym e)
+    let full : nat_le most_declared_lists (length (declared_of draft.lists.items)) ≡ true = grind (arith, nat_tests) in
+    list_once (declares (history_of draft) name) _ _ h ∙ list_twice (nat_le most_declared_lists (length (declared_of draft.lists.items))) _ _ full ∙ ap (λ n. Err (fault.TooMany n)) (sym e)
 
 pub list_taken : (old : Draft) (name : ListName) (size : ℕ) (declared : List (ListName × ℕ)) → declares (history_of old) name ≡ false → length (declared_of old.lists.items) < 8 → declared ≡ declared_of old.lists.items ++ (name, size) ∷ []
     → (kept : List ℕ) → after_list (kept_of_draft old kept) name size ≡ Ok (record { kept = record { sized = old.sized; versions = record { epoch = old.epoch; declared = declared; changes = old.changes.items }; rest = [] }; begun = None })
 list_taken old name size declared h few e kept =
-    let room : nat_le most_lists (length (declared_of old.lists.items)) ≡ false = grind (arith, nat_tests) in
-    list_once (declares (history_of old) name) _ _ h ∙ list_once (nat_le most_lists (length (declared_of old.lists.items))) _ _ room
+    let room : nat_le most_declared_lists (length (declared_of old.lists.items)) ≡ false = grind (arith, nat_tests) in
+    list_once (declares (history_of old) name) _ _ h ∙ list_once (nat_le most_declared_lists (length (declared_of old.lists.items))) _ _ room
     ∙ ap (λ ds. Ok (record { kept = record { sized = old.sized; versions = record { epoch = old.epoch; declared = ds; changes = old.changes.items }; rest = [] }; begun = None })) (sym e)

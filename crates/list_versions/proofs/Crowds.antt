@@ -10,7 +10,7 @@ use Rattle.sb_model.specs.History.{without_hash, with_added}
 use Rattle.std.specs.Prelude.{Option, Some, None, if◌then◌else◌}
 use Rattle.list_versions.specs.declared.fault.JournalFault.{JournalFault}
 use Rattle.list_versions.specs.declared.fault.JournalFault.TheVariants as fault
-use Rattle.list_versions.specs.Limits.{has_head, is_crowded, most_alike, most_hashes, most_prefix_bytes, limit_fault, IsUncrowded}
+use Rattle.list_versions.specs.Limits.{has_head, is_crowded, most_alike, most_hashes, most_prefix_bytes, limit_fault_at, IsUncrowded}
 use Rattle.list_versions.specs.Live.{Holds, lines_in}
 use Rattle.list_versions.specs.declared.live.Live.{Live}
 use Rattle.list_versions.proofs.Finding.{same_bytes}
@@ -141,7 +141,7 @@ limit_by line count crowded bytes =
     else if nat_lt most_prefix_bytes bytes then Some (fault.TooLarge line)
     else None
 
-pub limit_as : (line : ℕ) (live : Live) (entries : List Added) (crowded : Bool) → Holds live entries → crowded ≡ is_crowded entries → limit_by line live.count crowded live.bytes ≡ limit_fault line entries
+pub limit_as : (line : ℕ) (live : Live) (entries : List Added) (crowded : Bool) → Holds live entries → crowded ≡ is_crowded entries → limit_by line live.count crowded live.bytes ≡ limit_fault_at line entries
 limit_as line live entries crowded holds h =
     ap (λ n. limit_by line n crowded live.bytes) holds.count ∙ ap (λ b. limit_by line (length entries) b live.bytes) h ∙ ap (λ n. limit_by line (length entries) (is_crowded entries) n) holds.bytes
 

@@ -8,7 +8,7 @@ use Rattle.std.proofs.lemmas.List.{append-nil, append_assoc, drop_more, drop_all
 use Rattle.hex.specs.Hex.{decode_of, decode_pairs, digit_or_error, hex_digit_value, ◌>>=◌}
 use Rattle.hex.specs.declared.FromHexError.{FromHexError}
 use Rattle.list_versions.specs.Hexes.{byte_of_digits}
-use Rattle.list_versions.specs.Lines.{bytes_of, hash_of}
+use Rattle.list_versions.specs.Lines.{bytes_in_digits, hash_of}
 
 -- bytes in front of those that are still to be read
 abbrev pub onto : List ℕ → Option (List ℕ) → Option (List ℕ)
@@ -66,7 +66,7 @@ read_more digits bytes i byte lt lt' is h =
     rw (next, take_more_set bytes i byte lt') (sym (onto-push (take i bytes) byte (read_from (2 * i + 2) (drop (2 * i + 2) digits))) ∙ pair)
 
 bytes_at : (digits : List ℕ) → length digits ≡ 64 → hash_of digits ≡ read_from 0 digits
-unfolding bytes_of
+unfolding bytes_in_digits
 bytes_at digits h = rw h refl
 
 -- a pair that writes no byte
@@ -88,5 +88,5 @@ other_length true digits e h = absurd (h (grind (arith, nat_tests)))
 
 -- another length
 pub read_no_hash : (digits : List ℕ) → (length digits ≡ 64 → ⊥) → None ≡ hash_of digits
-unfolding bytes_of
+unfolding bytes_in_digits
 read_no_hash digits h = sym (other_length (nat_eq (length digits) 64) digits refl h)

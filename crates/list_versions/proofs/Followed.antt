@@ -13,19 +13,19 @@ use Rattle.sb_model.specs.Names.{text_of}
 use Rattle.sb_model.specs.History.{History, IsPrefixSize, declares, sizes_at, version_count}
 use Rattle.list_versions.specs.declared.fault.JournalFault.{JournalFault}
 use Rattle.list_versions.specs.declared.heads.Head.TheVariants as head
-use Rattle.list_versions.specs.Journal.{Kept, Reading, ◌>>=◌, after_bytes, after_change_line, at_record, counted, declared_size_of, if_within_limits, is_complete, kept_of, lines_begun, next_line, read_on, settled, with_add, with_change, with_remove}
-use Rattle.list_versions.specs.Limits.{limit_fault, most_changes, most_lists}
-use Rattle.list_versions.specs.Lines.{added_of, added_of_words}
-use Rattle.list_versions.specs.Written.{HasText, HaveDeclaredSizes, MayFollow, add_line, add_words, change_line, change_text, header_line, journal_text, list_line, remove_line, wholly, with_changes}
+use Rattle.list_versions.specs.Journal.{Kept, LineReading, ◌>>=◌, after_bytes, after_change_line, at_record, counted, declared_size_of, if_within_limits, is_complete, kept_of, lines_begun, next_line, read_on, settled, with_add, with_change, with_remove}
+use Rattle.list_versions.specs.Limits.{limit_fault_at, most_changes, most_declared_lists}
+use Rattle.list_versions.specs.Lines.{added_in_line, added_of_words}
+use Rattle.list_versions.specs.Written.{HasText, HaveDeclaredSizes, MayFollow, add_line, add_words, change_line, change_text, header_line, journal_text, declaration_line, remove_line, wholly, with_changes}
 use Rattle.list_versions.proofs.LineTexts.{hash_back, hex_word, one_line, words_joined}
 use Rattle.list_versions.proofs.Reading.{choose_true, line_add, line_remove}
 use Rattle.list_versions.proofs.Written.{IsOfForm, IsWritten, IsWrittenHash, add_line_is, add_read, add_short, adds_done, are_change, are_hashes, are_list, are_written, at_history, begun_with, below, change_read, change_short, change_words, declared_at, entry_with, head_line, header_leads, is_begun, kept_at, leads_line, list_read, list_short, list_words, of_any, of_declared, open_adds, open_removes, remove_read, remove_short, signed_line, size_known}
 
 -- what is read of a text and of what follows is read of what follows, behind what the text leads to
-abbrev Follows : Reading → List ℕ → Reading → Type 0
+abbrev Follows : LineReading → List ℕ → LineReading → Type 0
 Follows before text after = (more : List ℕ) (kept : Kept) → after_bytes before (text ++ more) ≡ Ok kept → after_bytes after more ≡ Ok kept
 
-follows_then : (a b c : Reading) (s t : List ℕ) → Follows a s b → Follows b t c → Follows a (s ++ t) c
+follows_then : (a b c : LineReading) (s t : List ℕ) → Follows a s b → Follows b t c → Follows a (s ++ t) c
 follows_then a b c s t h k more kept e = k more kept (h (t ++ more) kept (ap (after_bytes a) (sym (append_assoc s t more)) ∙ e))
 
 -- no fault was met
@@ -33,7 +33,7 @@ passed : {A : Type 0} (b : Bool) (f : JournalFault) (a : Result A JournalFault) 
 passed true f a go kept e = absurd (cc)
 passed false f a go kept e = e
 
-passed_limits : (found : Option JournalFault) (next : Kept) (go : Reading → Result Kept JournalFault) (kept : Kept) → (if_within_limits next found >>= go) ≡ Ok kept → go (at_record next) ≡ Ok kept
+passed_limits : (found : Option JournalFault) (next : Kept) (go : LineReading → Result Kept JournalFault) (kept : Kept) → (if_within_limits next found >>= go) ≡ Ok kept → go (at_record next) ≡ Ok kept
 passed_limits None next go kept e = e
 passed_limits (Some f) next go kept e = absurd (cc)
 
@@ -47,7 +47,7 @@ change_done form history change size rest more kept e =
     let begun = begun_with size change change.adds change.removes in
     let versions = with_change change history in
     let both : is_complete begun ≡ true = rw (eq-eqb (length change.adds) (length change.adds) refl, eq-eqb (length change.removes) (length change.removes) refl) refl in
-    passed_limits (limit_fault (next_line history + lines_begun begun) (sizes_at versions change.list (version_count versions)))
+    passed_limits (limit_fault_at (next_line history + lines_begun begun) (sizes_at versions change.list (version_count versions)))
     (record { sized = form; versions = versions; rest = rest }) (λ next. after_bytes next more) kept
     (ap (λ r. r >>= λ next. after_bytes next more) (sym (choose_true (is_complete begun) _ _ both)) ∙ e)
 
@@ -74,7 +74,7 @@ removes_follow form history change size rest got (hash ∷ left) more kept are w
     let long = length-append got (hash ∷ left) in
     let same = append_assoc got (hash ∷ []) left in
     let later = flat_map remove_line left ++ more in
-    let now : Reading = record { kept = kept_at form history rest; begun = Some (begun_with size change change.adds got) } in
+    let now : LineReading = record { kept = kept_at form history rest; begun = Some (begun_with size change change.adds got) } in
     let opened = open_removes form history change size rest change.adds got (omega (arith, long, ap length are)) in
     let read : after_bytes now (remove_line hash ++ later) ≡ Ok kept =
     ap (after_bytes now) (sym (append_assoc (remove_line hash) (flat_map remove_line left) more))
@@ -90,7 +90,7 @@ Takes false true = ⊥
 Takes false false = ⊤
 
 -- a line that adds
-added_read : (form sized : Bool) (declared : ℕ) (added : Added) → Takes form sized → IsWritten added → IsOfForm sized declared added → added_of form declared (43 ∷ join_with_byte 32 (add_words sized added)) ≡ Some added
+added_read : (form sized : Bool) (declared : ℕ) (added : Added) → Takes form sized → IsWritten added → IsOfForm sized declared added → added_in_line form declared (43 ∷ join_with_byte 32 (add_words sized added)) ≡ Some added
 added_read true true declared added t h of = add_read true declared added h of
 added_read false true declared added t h of = absurd (t)
 added_read form false declared added t h of =
@@ -123,7 +123,7 @@ adds_follow form sized history change size rest got (added ∷ left) more kept t
     let after = flat_map remove_line change.removes ++ more in
     let later = flat_map (add_line sized) left ++ after in
     let next : length got < length change.adds = omega (arith, long, ap length are) in
-    let now : Reading = record { kept = kept_at form history rest; begun = Some (begun_with size change got []) } in
+    let now : LineReading = record { kept = kept_at form history rest; begun = Some (begun_with size change got []) } in
     let opened = open_adds form history change size rest got [] next in
     let read : after_bytes now (add_line sized added ++ later) ≡ Ok kept =
     ap (after_bytes now) (sym (append_assoc (add_line sized added) (flat_map (add_line sized) left) after))
@@ -143,7 +143,7 @@ change_starts form history change size more kept may known e =
     let few = may.lines.few in
     let some = may.lines.some in
     let short = change_short change.list adds removes few in
-    let begun : Reading = record { kept = kept_at form history (change_line change); begun = Some (begun_with size change [] []) } in
+    let begun : LineReading = record { kept = kept_at form history (change_line change); begun = Some (begun_with size change [] []) } in
     let read =
     leads_line (at_history form history) line more (one_line (codes "change") (text_of change.list ∷ decimal adds ∷ decimal removes ∷ []) (are_change change.list adds removes few)) short
     ∙ ap (λ r. r >>= λ next. after_bytes next more)
@@ -235,7 +235,7 @@ plain_records_follow kept after changes none may sizes e = records_follow false 
 -- ---- a whole journal
 
 list_follows : (epoch : ℕ) (got : List (ListName × ℕ)) (list : ListName × ℕ) → IsPrefixSize list.1
-    → Follows (at_history true (declared_at epoch got)) (list_line list) (at_history true (declared_at epoch (got ++ list ∷ [])))
+    → Follows (at_history true (declared_at epoch got)) (declaration_line list) (at_history true (declared_at epoch (got ++ list ∷ [])))
 list_follows epoch got list size more kept e =
     let line = join_with_byte 32 (list_words list.0 list.1) in
     let short = list_short list.0 list.1 size.high in
@@ -243,23 +243,23 @@ list_follows epoch got list size more kept e =
     leads_line (at_history true (declared_at epoch got)) line more (one_line (codes "list") (text_of list.0 ∷ decimal list.1 ∷ []) (are_list list.0 list.1 size.high)) short
     ∙ ap (λ r. r >>= λ next. after_bytes next more)
     (head_line true (declared_at epoch got) line (head.List list.0 list.1) short (list_read list.0 list.1 size.low size.high)) in
-    passed (nat_le most_lists (length got)) _ (Ok (at_history true (declared_at epoch (got ++ list ∷ [])))) (λ next. after_bytes next more) kept
+    passed (nat_le most_declared_lists (length got)) _ (Ok (at_history true (declared_at epoch (got ++ list ∷ [])))) (λ next. after_bytes next more) kept
     (passed (declares (declared_at epoch got) list.0) _ _ (λ next. after_bytes next more) kept (sym read ∙ e))
 
 lists_follow : (epoch : ℕ) (got left : List (ListName × ℕ)) → All (λ list. IsPrefixSize list.1) left
-    → Follows (at_history true (declared_at epoch got)) (flat_map list_line left) (at_history true (declared_at epoch (got ++ left)))
+    → Follows (at_history true (declared_at epoch got)) (flat_map declaration_line left) (at_history true (declared_at epoch (got ++ left)))
 lists_follow epoch got [] sizes more kept e = ap (λ ds. after_bytes (at_history true (declared_at epoch ds)) more) (append-nil got) ∙ e
 lists_follow epoch got (list ∷ left) sizes more kept e =
     let now = got ++ list ∷ [] in
     ap (λ ds. after_bytes (at_history true (declared_at epoch ds)) more) (sym (append_assoc got (list ∷ []) left))
-    ∙ follows_then (at_history true (declared_at epoch got)) (at_history true (declared_at epoch now)) (at_history true (declared_at epoch (now ++ left))) (list_line list) (flat_map list_line left)
+    ∙ follows_then (at_history true (declared_at epoch got)) (at_history true (declared_at epoch now)) (at_history true (declared_at epoch (now ++ left))) (declaration_line list) (flat_map declaration_line left)
     (list_follows epoch got list (All-head (λ (l : ListName × ℕ). IsPrefixSize l.1) list left sizes))
     (lists_follow epoch now left (All-tail (λ (l : ListName × ℕ). IsPrefixSize l.1) list left sizes)) more kept e
 
 pub journal_follows : (history : History) (kept : Kept) → HasText history → kept_of (journal_text true history) ≡ Ok kept → kept ≡ wholly true history
 unfolding journal_text
 journal_follows history kept h e =
-    let lists = flat_map list_line history.declared in
+    let lists = flat_map declaration_line history.declared in
     let changes = flat_map (change_text true) history.changes in
     let header = header_line (record { sized = true; epoch = history.epoch }) in
     let read : after_bytes (at_history true (declared_at history.epoch [])) (lists ++ (changes ++ [])) ≡ Ok kept =

@@ -6,7 +6,7 @@ use Rattle.std.specs.Result.{result_ok, MatchResult}
 use Rattle.std.proofs.lemmas.Bool.Decides.{nat_tests}
 use Rattle.hex.specs.Hex.{decode_of, decode_sized}
 use Rattle.hex.specs.declared.FromHexError.{FromHexError}
-use Rattle.list_versions.specs.Lines.{bytes_of}
+use Rattle.list_versions.specs.Lines.{bytes_in_digits}
 
 found : (b : Bool) (r : Result (List ℕ) FromHexError) (bytes : List ℕ) → b ≡ true → r ≡ Ok bytes → (if b then result_ok r else None) ≡ Some bytes
 found b r bytes e d = rw (e, d) refl
@@ -15,20 +15,20 @@ missed : (b : Bool) (r : Result (List ℕ) FromHexError) (fault : FromHexError) 
 missed true r fault d = rw d refl
 missed false r fault d = refl
 
-pub bytes_short : (digits : List ℕ) → (length digits ≡ 16 → ⊥) → None ≡ option_map (from_be_bytes w64) (bytes_of 8 digits)
-unfolding bytes_of
+pub bytes_short : (digits : List ℕ) → (length digits ≡ 16 → ⊥) → None ≡ option_map (from_be_bytes w64) (bytes_in_digits 8 digits)
+unfolding bytes_in_digits
 bytes_short digits h = grind (arith, nat_tests)
 
 sized_is : (digits : List ℕ) → length digits ≡ 16 → decode_sized digits 8 ≡ decode_of digits
 sized_is digits h = rw h refl
 
-pub bytes_found : (digits bytes : List ℕ) → length digits ≡ 16 → decode_sized digits 8 ≡ Ok bytes → bytes_of 8 digits ≡ Some bytes
-unfolding bytes_of
+pub bytes_found : (digits bytes : List ℕ) → length digits ≡ 16 → decode_sized digits 8 ≡ Ok bytes → bytes_in_digits 8 digits ≡ Some bytes
+unfolding bytes_in_digits
 bytes_found digits bytes h d =
     found (nat_eq (length digits) 16) (decode_of digits) bytes (eq-eqb _ _ h) (sym (sized_is digits h) ∙ d)
 
-pub bytes_lost : (digits : List ℕ) (fault : FromHexError) → length digits ≡ 16 → decode_sized digits 8 ≡ Err fault → bytes_of 8 digits ≡ None
-unfolding bytes_of
+pub bytes_lost : (digits : List ℕ) (fault : FromHexError) → length digits ≡ 16 → decode_sized digits 8 ≡ Err fault → bytes_in_digits 8 digits ≡ None
+unfolding bytes_in_digits
 bytes_lost digits fault h d =
     missed (nat_eq (length digits) 16) (decode_of digits) fault (sym (sized_is digits h) ∙ d)
 

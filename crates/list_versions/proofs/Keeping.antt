@@ -17,7 +17,7 @@ use Rattle.list_versions.specs.Live.{HasPlaced, HasRead}
 use Rattle.list_versions.specs.declared.live.Live.{Live}
 use Rattle.list_versions.specs.Journal.{after_bytes}
 use Rattle.list_versions.specs.Limits.{hash_lines, most_changes, most_hash_lines, WithinLimits}
-use Rattle.list_versions.specs.Loaded.{IsStem, IsNewest, IsLoaded}
+use Rattle.list_versions.specs.Loaded.{IsStem, IsNewest, IsLoadedDraft}
 use Rattle.list_versions.specs.declared.newest.Newest.{Newest}
 use Rattle.sb_model.specs.declared.names.ListName.{ListName}
 use Rattle.list_versions.specs.Draft.{declared_of, history_of, kept_of_draft, AreRestored, HasCut, IsDraft, KeepsFront}
@@ -295,8 +295,8 @@ cut_back old mid cut lists changes h keeps l c epoch back cut_changes hashes =
     subst (λ ls. AreRestored (take changes mid.changes.items) ls cut.lists.items) first back in
     record { history = history; stem = stem_same old cut h history hashes (cut_lists old mid (take changes mid.changes.items) cut.lists.items h keeps front there) }
 
-pub loaded_cut : (old new : Draft) (newest : List Newest) (rest : List ℕ) (was stale : Bool) → IsLoaded old newest rest was → new.sized ≡ old.sized → history_of new ≡ history_of old → IsStem new
-    → (stale ≡ true) ⊎ IsDraft new → IsLoaded new newest rest stale
+pub loaded_cut : (old new : Draft) (newest : List Newest) (rest : List ℕ) (was stale : Bool) → IsLoadedDraft old newest rest was → new.sized ≡ old.sized → history_of new ≡ history_of old → IsStem new
+    → (stale ≡ true) ⊎ IsDraft new → IsLoadedDraft new newest rest stale
 loaded_cut old new newest rest was stale h sized history stem fresh = record {
   stem = stem;
   fresh = fresh;

@@ -11,9 +11,9 @@ use Rattle.list_versions.specs.declared.fault.JournalFault.TheVariants as fault
 use Rattle.list_versions.specs.declared.heads.Head.{Head}
 use Rattle.list_versions.specs.declared.heads.Head.TheVariants as head
 use Rattle.list_versions.specs.Draft.{before_record}
-use Rattle.list_versions.specs.Journal.{Kept, Begun, Reading, ◌>>=◌, after_list, after_change_line, after_head, if_within_limits, completed, settled, counted, with_add, with_remove, after_line_of, after_line, line_fault, after_front, after_part, after_parts, after_bytes, if_short, declared_size_of, with_bytes, adds_next, is_complete, with_change, change_of, next_line, lines_begun, most_line, at_record, with_list}
-use Rattle.list_versions.specs.Limits.{is_crowded, prefix_bytes, most_hashes, most_prefix_bytes, most_changes, most_lists, most_hash_lines, hash_lines}
-use Rattle.list_versions.specs.Lines.{newline, is_newline, head_of, added_of, removed_of}
+use Rattle.list_versions.specs.Journal.{Kept, Begun, LineReading, ◌>>=◌, after_list, after_change_line, after_head, if_within_limits, completed, settled, counted, with_add, with_remove, after_line_of, after_line, line_fault, after_front, after_part, after_parts, after_bytes, if_short, declared_size_of, with_bytes, adds_next, is_complete, with_change, change_of, next_line, lines_begun, most_line, at_record, with_list}
+use Rattle.list_versions.specs.Limits.{is_crowded, prefix_bytes, most_hashes, most_prefix_bytes, most_changes, most_declared_lists, most_hash_lines, hash_lines}
+use Rattle.list_versions.specs.Lines.{newline, is_newline, head_of, added_in_line, removed_of}
 use Rattle.list_versions.specs.Pieces.{Further, IsBad, FaultAt}
 
 abbrev pub IsLineFault : JournalFault → Type 0
@@ -46,15 +46,15 @@ has_change : (kept : Kept) (name : ListName) (to_add to_remove : ℕ) (size : Op
 has_change kept name to_add to_remove None = tt
 has_change kept name to_add to_remove (Some size) =
     let begun : Begun = record { list = name; declared_size = size; to_add = to_add; to_remove = to_remove; adds = []; removes = [] } in
-    let next : Reading = record { kept = kept; begun = Some begun } in
+    let next : LineReading = record { kept = kept; begun = Some begun } in
     has_fault_if (nat_le most_changes (length kept.versions.changes)) (fault.TooMany (next_line kept.versions)) (Ok next) tt tt
 
 has_list : (kept : Kept) (name : ListName) (size : ℕ) → HasLineFault (after_list kept name size)
 has_list kept name size =
-    let next : Reading = at_record (record kept { versions = record kept.versions { declared = with_list name size kept.versions.declared } }) in
-    let many : Result Reading JournalFault = if nat_le most_lists (length kept.versions.declared) then Err (fault.TooMany (next_line kept.versions)) else Ok next in
+    let next : LineReading = at_record (record kept { versions = record kept.versions { declared = with_list name size kept.versions.declared } }) in
+    let many : Result LineReading JournalFault = if nat_le most_declared_lists (length kept.versions.declared) then Err (fault.TooMany (next_line kept.versions)) else Ok next in
     has_fault_if (declares kept.versions name) (fault.ListTwice (next_line kept.versions)) many tt
-    (has_fault_if (nat_le most_lists (length kept.versions.declared)) (fault.TooMany (next_line kept.versions)) (Ok next) tt tt)
+    (has_fault_if (nat_le most_declared_lists (length kept.versions.declared)) (fault.TooMany (next_line kept.versions)) (Ok next) tt tt)
 
 has_head : (kept : Kept) (head : Option Head) → HasLineFault (after_head kept head)
 has_head kept None = tt
@@ -75,7 +75,7 @@ has_completed kept begun =
 
 has_settled : (kept : Kept) (begun : Begun) → HasLineFault (settled kept begun)
 has_settled kept begun =
-    let next : Reading = record { kept = kept; begun = Some begun } in
+    let next : LineReading = record { kept = kept; begun = Some begun } in
     has_if (is_complete begun) (completed kept begun) (Ok next) (has_completed kept begun) tt
 
 has_counted : (kept : Kept) (begun : Begun) → HasLineFault (counted kept begun)
@@ -93,11 +93,11 @@ has_remove kept begun (Some hash) = has_counted kept (record begun { removes = b
 has_line_of : (kept : Kept) (begun : Option Begun) (line : List ℕ) → HasLineFault (after_line_of kept begun line)
 has_line_of kept None line = has_head kept (if_short line (head_of line))
 has_line_of kept (Some begun) line =
-    let add = if_short line (added_of kept.sized begun.declared_size line) in
+    let add = if_short line (added_in_line kept.sized begun.declared_size line) in
     let remove = if_short line (removed_of line) in
     has_if (adds_next begun) (with_add kept begun add) (with_remove kept begun remove) (has_add kept begun add) (has_remove kept begun remove)
 
-has_line : (reading : Reading) (line : List ℕ) → HasLineFault (after_line reading line)
+has_line : (reading : LineReading) (line : List ℕ) → HasLineFault (after_line reading line)
 unfolding after_line
 has_line reading line = has_line_of (with_bytes (line ++ newline ∷ []) reading.kept) reading.begun line
 
@@ -105,19 +105,19 @@ front_fault : (kept : Kept) (begun : Option Begun) → IsLineFault (line_fault k
 front_fault kept None = tt
 front_fault kept (Some begun) = tt
 
-has_front : (reading : Reading) (front : List ℕ) → HasLineFault (after_front reading front)
+has_front : (reading : LineReading) (front : List ℕ) → HasLineFault (after_front reading front)
 has_front reading front =
     has_fault_if (nat_lt most_line (length front)) (line_fault reading.kept.versions reading.begun) (Ok (with_bytes front reading.kept)) (front_fault reading.kept reading.begun) tt
 
-has_part : (parts : List (List ℕ)) (part : List ℕ) (reading : Reading) → HasLineFault (after_part parts part reading)
+has_part : (parts : List (List ℕ)) (part : List ℕ) (reading : LineReading) → HasLineFault (after_part parts part reading)
 has_part [] part reading = has_front reading part
 has_part (next ∷ parts) part reading = has_then (after_line reading part) (after_part parts next) (has_line reading part) (λ r. has_part parts next r)
 
-has_parts : (reading : Reading) (parts : List (List ℕ)) → HasLineFault (after_parts reading parts)
+has_parts : (reading : LineReading) (parts : List (List ℕ)) → HasLineFault (after_parts reading parts)
 has_parts reading [] = tt
 has_parts reading (part ∷ parts) = has_part parts part reading
 
-pub line_faults : (reading : Reading) (bytes : List ℕ) (f : JournalFault) → after_bytes reading bytes ≡ Err f → IsLineFault f
+pub line_faults : (reading : LineReading) (bytes : List ℕ) (f : JournalFault) → after_bytes reading bytes ≡ Err f → IsLineFault f
 line_faults reading bytes f e = subst HasLineFault e (has_parts reading (slice_split is_newline bytes))
 
 -- a bad line

@@ -27,7 +27,7 @@ use Rattle.sb_model.specs.declared.names.EntryType.{EntryType}
 use Rattle.sb_model.specs.declared.names.EntryType.TheVariants as entry
 use Rattle.sb_model.specs.declared.names.ListName.{ListName}
 use Rattle.sb_model.specs.Names.{threat_word, threat_of, platform_word, platform_of, entry_word, entry_of, slash, parts_of, name_of_parts, name_of, text_of}
-use Rattle.list_versions.specs.Lines.{is_space, is_newline, words_of, is_numeral, within, number_of, bytes_of, hash_of}
+use Rattle.list_versions.specs.Lines.{is_space, is_newline, words_in_line, is_numeral, within, short_number_of, bytes_in_digits, hash_of}
 use Rattle.list_versions.specs.Split.{IsOneLine}
 
 -- ---- words
@@ -52,8 +52,8 @@ abbrev pub AreWords : List (List ℕ) → Type 0
 AreWords [] = ⊤
 AreWords (word ∷ words) = (is_word word ≡ true) × AreWords words
 
-pub words_joined : (word : List ℕ) (words : List (List ℕ)) → AreWords (word ∷ words) → words_of (join_with_byte 32 (word ∷ words)) ≡ word ∷ words
-unfolding words_of
+pub words_joined : (word : List ℕ) (words : List (List ℕ)) → AreWords (word ∷ words) → words_in_line (join_with_byte 32 (word ∷ words)) ≡ word ∷ words
+unfolding words_in_line
 words_joined word [] h = slice_split_none is_space word (without is_space no_space word h.0)
 words_joined word (next ∷ words) h =
     slice_split_at is_space word 32 (join_with_byte 32 (next ∷ words)) (without is_space no_space word h.0) refl
@@ -81,8 +81,8 @@ hex_long bytes = length-encode_with lower_digits bytes
 sized_is : (b : Bool) (r : Result (List ℕ) FromHexError) (bytes : List ℕ) → b ≡ true → r ≡ Ok bytes → (if b then result_ok r else None) ≡ Some bytes
 sized_is b r bytes e d = rw (e, d) refl
 
-pub bytes_back : (count : ℕ) (bytes : List ℕ) → length bytes ≡ count → IsBytes bytes → bytes_of count (encode_lower bytes) ≡ Some bytes
-unfolding bytes_of
+pub bytes_back : (count : ℕ) (bytes : List ℕ) → length bytes ≡ count → IsBytes bytes → bytes_in_digits count (encode_lower bytes) ≡ Some bytes
+unfolding bytes_in_digits
 bytes_back count bytes n h =
     sized_is (length (encode_lower bytes) == 2 * count) (decode_of (encode_lower bytes)) bytes (eq-eqb _ _ (hex_long bytes ∙ ap (λ m. 2 * m) n)) (decode_of-encode_lower bytes h)
 
@@ -108,7 +108,7 @@ high_bytes (suc k) n = byte_first (byte_at k n) (bytes_high_first k n) (byte_sma
 pub eight_bytes : (n : ℕ) → IsBytes (to_be_bytes w64 n)
 eight_bytes n = high_bytes 8 n
 
-pub epoch_back : (epoch : ℕ) → epoch < 2 ^ 64 → option_map (from_be_bytes w64) (bytes_of 8 (encode_lower (to_be_bytes w64 epoch))) ≡ Some epoch
+pub epoch_back : (epoch : ℕ) → epoch < 2 ^ 64 → option_map (from_be_bytes w64) (bytes_in_digits 8 (encode_lower (to_be_bytes w64 epoch))) ≡ Some epoch
 epoch_back epoch h = ap (option_map (from_be_bytes w64)) (bytes_back 8 (to_be_bytes w64 epoch) refl (eight_bytes epoch)) ∙ ap (λ n. Some n) (from_be_bytes-to_be_bytes_8 epoch h)
 
 -- ---- numbers
@@ -149,8 +149,8 @@ numeral_is low high a b v n e f g l k = rw (e, f, g) (in_range low high n l k)
 four : (n : ℕ) → n ≤ 9999 → nat_le (length (decimal n)) 4 ≡ true
 four n h = let few = length-decimal-le 4 n (omega arith) (omega arith) (omega arith) in grind (arith, nat_tests)
 
-pub number_back : (low high n : ℕ) → low ≤ n → n ≤ high → n ≤ 9999 → number_of low high (decimal n) ≡ Some n
-unfolding number_of
+pub number_back : (low high n : ℕ) → low ≤ n → n ≤ high → n ≤ 9999 → short_number_of low high (decimal n) ≡ Some n
+unfolding short_number_of
 number_back low high n l k h =
     let fits : n < 2 ^ 64 = omega arith in
     numeral_is low high _ _ _ n (is_numeral_at n _ refl fits) (four n h) (digits_value-decimal digits_model n fits) l k

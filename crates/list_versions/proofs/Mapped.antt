@@ -19,7 +19,7 @@ use Rattle.sb_model.specs.declared.names.ListName.{ListName}
 use Rattle.sb_model.specs.History.{after_change, prefix_of, without_hash, with_added}
 use Rattle.sb_model.specs.Names.{same_name}
 use Rattle.sb_model.specs.Prefixes.{bytes_cmp, IsRising, set_of}
-use Rattle.list_versions.specs.HashSizes.{HashSizes, size_in, Sets, IsMapOf, shown_entry}
+use Rattle.list_versions.specs.HashSizes.{HashSizes, size_of_hash, Sets, IsMapOf, shown_entry}
 use Rattle.list_versions.specs.Live.{IsPublishable}
 use Rattle.list_versions.proofs.Finding.{same_bytes, bytes_are_same}
 use Rattle.list_versions.proofs.Membership.{In, contains_in, in_contained, in_left, in_right, in_either, in_map, from_map, in_filter, from_filter}
@@ -30,8 +30,8 @@ entry_of hash size = record { hash = hash; size = size }
 
 -- what a map says of its keys' order, by bytes
 pub Sets-from_update : (before after : HashSizes) (hash : List ℕ) (size : Option ℕ)
-    → ((other : List ℕ) → size_in after other ≡ cond (is_eq (bytes_cmp hash other)) size (size_in before other)) → Sets before after hash size
-Sets-from_update before after hash size h other = h other ∙ ap (λ b. cond b size (size_in before other)) (is_eq-slice_cmp hash other)
+    → ((other : List ℕ) → size_of_hash after other ≡ cond (is_eq (bytes_cmp hash other)) size (size_of_hash before other)) → Sets before after hash size
+Sets-from_update before after hash size h other = h other ∙ ap (λ b. cond b size (size_of_hash before other)) (is_eq-slice_cmp hash other)
 
 apart : (a b : List ℕ) (c : Bool) → bytes_eq b a ≡ c → bytes_eq a b ≡ false → c ≡ false
 apart a b true e h = let same = ap (λ x. bytes_eq a x) (same_bytes b a e) ∙ bytes_are_same a in absurd (cc)
@@ -78,7 +78,7 @@ with_back entries hash other given size o false e h k = in_left (entry_of other 
 abbrev HasAt : List Added → List ℕ → ℕ → Option ℕ → Type 0
 HasAt entries hash size o = In (entry_of hash size) entries ↔ (o ≡ Some size)
 
-at_of : (sizes : HashSizes) (entries : List Added) → IsMapOf sizes entries → (hash : List ℕ) (size : ℕ) → HasAt entries hash size (size_in sizes hash)
+at_of : (sizes : HashSizes) (entries : List Added) → IsMapOf sizes entries → (hash : List ℕ) (size : ℕ) → HasAt entries hash size (size_of_hash sizes hash)
 at_of sizes entries h hash size = (λ k. (h.same hash size).0 (contains_in (entry_of hash size) entries k), λ k. in_contained (entry_of hash size) entries ((h.same hash size).1 k))
 
 pub mapped_nothing : IsMapOf [] []
@@ -87,20 +87,20 @@ mapped_nothing = record { same = λ hash size. (λ c. absurd (omega (arith, c.1)
 pub mapped_without : (before after : HashSizes) (entries : List Added) (hash : List ℕ) → Sets before after hash None → IsMapOf before entries → IsMapOf after (without_hash entries hash)
 mapped_without before after entries hash sets h = record { same = at }
   where
-    at : (other : List ℕ) (size : ℕ) → Contains (without_hash entries hash) (entry_of other size) ↔ (size_in after other ≡ Some size)
+    at : (other : List ℕ) (size : ℕ) → Contains (without_hash entries hash) (entry_of other size) ↔ (size_of_hash after other ≡ Some size)
     at other size =
-        let step = without_step entries hash other size (size_in before other) (bytes_eq hash other) refl (at_of before entries h other size) in
+        let step = without_step entries hash other size (size_of_hash before other) (bytes_eq hash other) refl (at_of before entries h other size) in
         (λ c. sets other ∙ step.0 (in_contained (entry_of other size) (without_hash entries hash) c), λ k. contains_in (entry_of other size) (without_hash entries hash) (step.1 (sym (sets other) ∙ k)))
 
 pub mapped_with : (before after : HashSizes) (entries : List Added) (added : Added) → Sets before after added.hash (Some added.size) → IsMapOf before entries → IsMapOf after (with_added entries added)
 mapped_with before after entries added sets h = record { same = at }
   where
-    at : (other : List ℕ) (size : ℕ) → Contains (with_added entries added) (entry_of other size) ↔ (size_in after other ≡ Some size)
+    at : (other : List ℕ) (size : ℕ) → Contains (with_added entries added) (entry_of other size) ↔ (size_of_hash after other ≡ Some size)
     at other size =
-        let step = without_step entries added.hash other size (size_in before other) (bytes_eq added.hash other) refl (at_of before entries h other size) in
+        let step = without_step entries added.hash other size (size_of_hash before other) (bytes_eq added.hash other) refl (at_of before entries h other size) in
         let x = entry_of other size in (
-          λ c. sets other ∙ with_at entries added.hash other added.size size (size_in before other) (bytes_eq added.hash other) refl step (in_either x (without_hash entries added.hash) (added ∷ []) (in_contained x (with_added entries added) c)),
-          λ k. contains_in x (with_added entries added) (with_back entries added.hash other added.size size (size_in before other) (bytes_eq added.hash other) refl step (sym (sets other) ∙ k)),
+          λ c. sets other ∙ with_at entries added.hash other added.size size (size_of_hash before other) (bytes_eq added.hash other) refl step (in_either x (without_hash entries added.hash) (added ∷ []) (in_contained x (with_added entries added) c)),
+          λ k. contains_in x (with_added entries added) (with_back entries added.hash other added.size size (size_of_hash before other) (bytes_eq added.hash other) refl step (sym (sets other) ∙ k)),
         )
 
 -- ---- a change
@@ -113,7 +113,7 @@ mapped_other sizes list change entries e h = rw e h
 
 -- ---- what a map gives
 
-found_here : (sizes : HashSizes) (entries : List Added) → IsMapOf sizes entries → (entry : Added) → In entry entries → size_in sizes entry.hash ≡ Some entry.size
+found_here : (sizes : HashSizes) (entries : List Added) → IsMapOf sizes entries → (entry : Added) → In entry entries → size_of_hash sizes entry.hash ≡ Some entry.size
 found_here sizes entries h entry there = (h.same entry.hash entry.size).0 (contains_in entry entries there)
 
 pair_in : (sizes : HashSizes) (entries : List Added) → IsMapOf sizes entries → (entry : Added) → In entry entries → In (entry.hash, entry.size) sizes

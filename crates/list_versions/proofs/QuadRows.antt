@@ -14,7 +14,7 @@ use Rattle.std.proofs.lemmas.List.Folds.{list_any-append, list_any_none}
 use Rattle.std.proofs.lemmas.List.Kept.{AllPairs-from_increasing}
 use Rattle.std.proofs.lemmas.Map.Keys.{below_from_sorted, sorted_from_strictly_increasing}
 use Rattle.sb_model.specs.Difference.{has_member, removed_places, added_members}
-use Rattle.list_versions.specs.Quads.{begins_with, quads_of, IsFrom}
+use Rattle.list_versions.specs.Quads.{is_first_of, quads_of, IsFrom}
 use Rattle.list_versions.proofs.QuadOrder.{AreSmall, has_number, has_quad}
 
 abbrev Rises : List ℕ → Type 0
@@ -60,7 +60,7 @@ first_alone : (b c : Bool) → (b ≡ false → c ≡ false) → b ≡ (b || c)
 first_alone true c h = refl
 first_alone false c h = sym (h refl)
 
-first_tells : (number : ℕ) (rest : List ℕ) → Rises rest → ((first : ℕ) (later : List ℕ) → rest ≡ first ∷ later → number ≤ first) → begins_with number rest ≡ has_number rest number
+first_tells : (number : ℕ) (rest : List ℕ) → Rises rest → ((first : ℕ) (later : List ℕ) → rest ≡ first ∷ later → number ≤ first) → is_first_of number rest ≡ has_number rest number
 unfolding IsStrictlySortedBy
 first_tells number [] up next = refl
 first_tells number (x ∷ xs) up next = first_alone (x == number) (has_number xs number) (λ _. high_lacks x xs number up.0 (next x xs refl))
@@ -127,7 +127,7 @@ tells_next passing row rest next i n lt is h from = record {
 }
 
 pub tells_here : (passing row rest next : List ℕ) (i n : ℕ) → IsStrictlyIncreasing passing → i < length passing → n ≡ get_or passing i 0 → TellsRest (take i passing) row rest → IsFrom n rest next
-    → AreSmall row → n < 2 ^ 32 → has_member (quads_of row) (to_be_bytes w32 n) ≡ begins_with n next
+    → AreSmall row → n < 2 ^ 32 → has_member (quads_of row) (to_be_bytes w32 n) ≡ is_first_of n next
 tells_here passing row rest next i n up lt is h from small fits =
     has_quad row n small fits ∙ sym (first_tells n next (from_rises n rest next from h.rising) from.next ∙ from_same n n rest next from (omega arith)
     ∙ h.same n (subst (λ k. All (λ other. other < k) (take i passing)) (sym is) (passed passing i up lt)))

@@ -4,9 +4,9 @@ use Rattle.std.specs.List.{slice_split}
 use Rattle.std.proofs.lemmas.Bool.Decides.{nat_tests}
 use Rattle.std.proofs.lemmas.List.{append-nil}
 use Rattle.sb_model.specs.declared.history.Added.{Added}
-use Rattle.list_versions.specs.Lines.{newline, is_newline, added_of, removed_of}
+use Rattle.list_versions.specs.Lines.{newline, is_newline, added_in_line, removed_of}
 use Rattle.list_versions.specs.Limits.{hash_lines, most_hash_lines}
-use Rattle.list_versions.specs.Journal.{Kept, Begun, Reading, ◌>>=◌, after_line, after_line_of, after_part, after_parts, after_bytes, if_short, with_add, with_remove, settled, is_complete, adds_next, with_bytes, line_fault, most_line, next_line, next_hash_line, lines_begun}
+use Rattle.list_versions.specs.Journal.{Kept, Begun, LineReading, ◌>>=◌, after_line, after_line_of, after_part, after_parts, after_bytes, if_short, with_add, with_remove, settled, is_complete, adds_next, with_bytes, line_fault, most_line, next_line, next_hash_line, lines_begun}
 use Rattle.list_versions.specs.Split.{IsLine, IsFront, IsLong}
 use Rattle.list_versions.specs.Draft.{within_change, begun_of, kept_of_draft, history_of, Moves, Waits, Fails}
 use Rattle.list_versions.specs.declared.draft.Begin.{Begin}
@@ -16,12 +16,12 @@ use Rattle.list_versions.specs.declared.fault.JournalFault.TheVariants as fault
 use Rattle.list_versions.proofs.Parts.{parts_some}
 use Rattle.list_versions.proofs.LineEnds.{parts_line, parts_front, parts_long}
 
-after_parts_line : (reading : Reading) (line : List ℕ) (parts : List (List ℕ)) → 0 < length parts → after_parts reading (line ∷ parts) ≡ (after_line reading line >>= λ next. after_parts next parts)
+after_parts_line : (reading : LineReading) (line : List ℕ) (parts : List (List ℕ)) → 0 < length parts → after_parts reading (line ∷ parts) ≡ (after_line reading line >>= λ next. after_parts next parts)
 after_parts_line reading line [] h = absurd (omega arith)
 after_parts_line reading line (part ∷ parts) h = refl
 
 -- a line, and then the rest
-pub bytes_line : (reading : Reading) (bytes line rest more : List ℕ) → IsLine bytes line rest → after_bytes reading (bytes ++ more) ≡ (after_line reading line >>= λ next. after_bytes next (rest ++ more))
+pub bytes_line : (reading : LineReading) (bytes line rest more : List ℕ) → IsLine bytes line rest → after_bytes reading (bytes ++ more) ≡ (after_line reading line >>= λ next. after_bytes next (rest ++ more))
 bytes_line reading bytes line rest more h =
     ap (after_parts reading) (parts_line bytes line rest more h) ∙ after_parts_line reading line (slice_split is_newline (rest ++ more)) (parts_some is_newline (rest ++ more))
 
@@ -35,7 +35,7 @@ not_long n h = grind (arith, nat_tests)
 is_long : (n : ℕ) → 129 ≤ n → nat_lt most_line n ≡ true
 is_long n h = grind (arith, nat_tests)
 
-pub bytes_front : (reading : Reading) (bytes : List ℕ) → IsFront bytes → after_bytes reading bytes ≡ Ok (with_bytes bytes reading.kept)
+pub bytes_front : (reading : LineReading) (bytes : List ℕ) → IsFront bytes → after_bytes reading bytes ≡ Ok (with_bytes bytes reading.kept)
 bytes_front reading bytes h =
     ap (after_parts reading) (parts_front bytes h)
     ∙ front_at (nat_lt most_line (length bytes)) (line_fault reading.kept.versions reading.begun) (with_bytes bytes reading.kept) (not_long (length bytes) h.short)
@@ -49,15 +49,15 @@ long_line_of : (kept : Kept) (begun : Option Begun) (line : List ℕ) → nat_lt
 long_line_of kept None line h = rw h refl
 long_line_of kept (Some begun) line h = rw h (with_add_at (adds_next begun) kept begun)
 
-long_line : (reading : Reading) (line : List ℕ) → nat_lt most_line (length line) ≡ true → after_line reading line ≡ Err (line_fault reading.kept.versions reading.begun)
+long_line : (reading : LineReading) (line : List ℕ) → nat_lt most_line (length line) ≡ true → after_line reading line ≡ Err (line_fault reading.kept.versions reading.begun)
 unfolding after_line
 long_line reading line h = long_line_of (with_bytes (line ++ newline ∷ []) reading.kept) reading.begun line h
 
-long_parts : (reading : Reading) (first : List ℕ) (others : List (List ℕ)) → nat_lt most_line (length first) ≡ true → after_parts reading (first ∷ others) ≡ Err (line_fault reading.kept.versions reading.begun)
+long_parts : (reading : LineReading) (first : List ℕ) (others : List (List ℕ)) → nat_lt most_line (length first) ≡ true → after_parts reading (first ∷ others) ≡ Err (line_fault reading.kept.versions reading.begun)
 long_parts reading first [] h = rw h refl
 long_parts reading first (part ∷ parts) h = ap (λ r. r >>= after_part parts part) (long_line reading first h)
 
-pub bytes_long : (reading : Reading) (bytes more : List ℕ) → IsLong bytes → after_bytes reading (bytes ++ more) ≡ Err (line_fault reading.kept.versions reading.begun)
+pub bytes_long : (reading : LineReading) (bytes more : List ℕ) → IsLong bytes → after_bytes reading (bytes ++ more) ≡ Err (line_fault reading.kept.versions reading.begun)
 bytes_long reading bytes more h =
     let first = parts_long bytes more h in
     ap (after_parts reading) first.are ∙ long_parts reading first.first first.others (is_long (length first.first) first.long)
@@ -74,7 +74,7 @@ last_false false b h = refl
 not_equal : (m n : ℕ) → m < n → nat_eq m n ≡ false
 not_equal m n h = grind (arith, nat_tests)
 
-settled_at : (b : Bool) (done : Result Reading JournalFault) (open' : Reading) → b ≡ false → (if b then done else Ok open') ≡ Ok open'
+settled_at : (b : Bool) (done : Result LineReading JournalFault) (open' : LineReading) → b ≡ false → (if b then done else Ok open') ≡ Ok open'
 settled_at true done open' h = absurd (cc)
 settled_at false done open' h = refl
 
@@ -90,7 +90,7 @@ open_removes draft begin adds removes seen h = settled_at (is_complete (begun_of
 abbrev pub IsOpen : Draft → Begin → List Added → List (List ℕ) → Type 0
 IsOpen draft begin adds removes = (seen : List ℕ) → settled (kept_of_draft draft seen) (begun_of begin adds removes) ≡ Ok (record { kept = kept_of_draft draft seen; begun = Some (begun_of begin adds removes) })
 
-abbrev pub opened : Draft → Begin → List Added → List (List ℕ) → List ℕ → Reading
+abbrev pub opened : Draft → Begin → List Added → List (List ℕ) → List ℕ → LineReading
 opened draft begin adds removes seen = record { kept = kept_of_draft draft seen; begun = Some (begun_of begin adds removes) }
 
 is_opened : (draft : Draft) (begin : Begin) (adds : List Added) (removes : List (List ℕ)) → IsOpen draft begin adds removes → (seen bytes : List ℕ) → within_change draft begin adds removes seen bytes ≡ after_bytes (opened draft begin adds removes seen) bytes
@@ -135,10 +135,10 @@ choose_false true x y h = absurd (cc)
 choose_false false x y h = refl
 
 pub line_add : (kept : Kept) (begun : Begun) (line : List ℕ) → adds_next begun ≡ true → length line ≤ 128
-    → after_line (record { kept = kept; begun = Some begun }) line ≡ with_add (with_bytes (line ++ newline ∷ []) kept) begun (added_of kept.sized begun.declared_size line)
+    → after_line (record { kept = kept; begun = Some begun }) line ≡ with_add (with_bytes (line ++ newline ∷ []) kept) begun (added_in_line kept.sized begun.declared_size line)
 unfolding after_line
 line_add kept begun line h short =
-    choose_true (adds_next begun) _ _ h ∙ ap (λ read. with_add (with_bytes (line ++ newline ∷ []) kept) begun read) (short_is line (added_of kept.sized begun.declared_size line) short)
+    choose_true (adds_next begun) _ _ h ∙ ap (λ read. with_add (with_bytes (line ++ newline ∷ []) kept) begun read) (short_is line (added_in_line kept.sized begun.declared_size line) short)
 
 pub line_remove : (kept : Kept) (begun : Begun) (line : List ℕ) → adds_next begun ≡ false → length line ≤ 128
     → after_line (record { kept = kept; begun = Some begun }) line ≡ with_remove (with_bytes (line ++ newline ∷ []) kept) begun (removed_of line)
@@ -160,14 +160,14 @@ past : (n : ℕ) → 2097152 < n → nat_lt most_hash_lines n ≡ true
 past n h = grind (arith, nat_tests)
 
 pub fails_add : (draft : Draft) (begin : Begin) (adds : List Added) (bytes line rest : List ℕ) (n : ℕ) → length adds < begin.to_add → n ≡ next_hash_line (history_of draft) (begun_of begin adds []) → IsLine bytes line rest
-    → None ≡ added_of draft.sized begin.size line → Fails (within_change draft begin adds []) bytes (fault.Line n)
+    → None ≡ added_in_line draft.sized begin.size line → Fails (within_change draft begin adds []) bytes (fault.Line n)
 fails_add draft begin adds bytes line rest n more e line_is read =
     fails_line draft begin adds [] bytes line rest (fault.Line n) (λ seen. open_adds draft begin adds [] seen more) line_is
     (λ seen. line_add (kept_of_draft draft seen) (begun_of begin adds []) line (next_adds begin adds [] more) line_is.short
     ∙ ap (λ r. with_add (kept_of_draft draft (seen ++ (line ++ newline ∷ []))) (begun_of begin adds []) r) (sym read) ∙ ap (λ m. Err (fault.Line m)) (sym e))
 
 pub fails_add_past : (draft : Draft) (begin : Begin) (adds : List Added) (added : Added) (bytes line rest : List ℕ) (n : ℕ) → length adds < begin.to_add → n ≡ next_line (history_of draft) + lines_begun (begun_of begin (adds ++ added ∷ []) []) → IsLine bytes line rest
-    → Some added ≡ added_of draft.sized begin.size line → 2097152 < hash_lines draft.changes.items + lines_begun (begun_of begin (adds ++ added ∷ []) []) → Fails (within_change draft begin adds []) bytes (fault.TooMany n)
+    → Some added ≡ added_in_line draft.sized begin.size line → 2097152 < hash_lines draft.changes.items + lines_begun (begun_of begin (adds ++ added ∷ []) []) → Fails (within_change draft begin adds []) bytes (fault.TooMany n)
 fails_add_past draft begin adds added bytes line rest n more e line_is read many =
     fails_line draft begin adds [] bytes line rest (fault.TooMany n) (λ seen. open_adds draft begin adds [] seen more) line_is
     (λ seen. line_add (kept_of_draft draft seen) (begun_of begin adds []) line (next_adds begin adds [] more) line_is.short
@@ -175,7 +175,7 @@ fails_add_past draft begin adds added bytes line rest n more e line_is read many
     ∙ choose_true _ _ _ (past _ many) ∙ ap (λ m. Err (fault.TooMany m)) (sym e))
 
 pub moves_add : (draft : Draft) (begin : Begin) (adds : List Added) (added : Added) (bytes line rest : List ℕ) → length adds < begin.to_add → IsLine bytes line rest
-    → Some added ≡ added_of draft.sized begin.size line → hash_lines draft.changes.items + lines_begun (begun_of begin (adds ++ added ∷ []) []) ≤ 2097152
+    → Some added ≡ added_in_line draft.sized begin.size line → hash_lines draft.changes.items + lines_begun (begun_of begin (adds ++ added ∷ []) []) ≤ 2097152
     → Moves (within_change draft begin adds []) (within_change draft begin (adds ++ added ∷ []) []) bytes rest 129
 moves_add draft begin adds added bytes line rest more line_is read few =
     moves_line draft begin adds (adds ++ added ∷ []) [] [] bytes line rest (λ seen. open_adds draft begin adds [] seen more) line_is

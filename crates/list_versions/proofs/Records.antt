@@ -9,7 +9,7 @@ use Rattle.sb_model.specs.declared.names.ListName.{ListName}
 use Rattle.sb_model.specs.History.{declares, IsPrefixSize}
 use Rattle.list_versions.specs.Lines.{newline, head_of}
 use Rattle.list_versions.specs.Limits.{most_changes}
-use Rattle.list_versions.specs.Journal.{Kept, Reading, ◌>>=◌, after_line, after_bytes, after_head, after_list, after_change_line, declared_size_of, most_line, next_line, settled}
+use Rattle.list_versions.specs.Journal.{Kept, LineReading, ◌>>=◌, after_line, after_bytes, after_head, after_list, after_change_line, declared_size_of, most_line, next_line, settled}
 use Rattle.list_versions.specs.Split.{IsLine, IsFront, IsLong}
 use Rattle.list_versions.specs.Draft.{declared_of, history_of, kept_of_draft, IsDraft, begun_of, before_record, within_change, after_begin, before_next, Moves, Waits, Fails}
 use Rattle.list_versions.specs.declared.draft.Begin.{Begin}
@@ -123,7 +123,7 @@ pub record_bad : (draft : Draft) (bytes text rest : List ℕ) (line : ℕ) → l
 record_bad draft bytes text rest line e h none more =
     record_line draft bytes text rest more h ∙ ap (λ r. after_head (kept_of_draft draft (text ++ newline ∷ [])) r >>= λ next. after_bytes next (rest ++ more)) (sym none) ∙ ap (λ n. Err (fault.Line n)) (sym e)
 
-pub record_list : (draft : Draft) (bytes text rest : List ℕ) (name : ListName) (size : ℕ) (answer : Result Reading JournalFault) → IsLine bytes text rest → Some (head.List name size) ≡ head_of text
+pub record_list : (draft : Draft) (bytes text rest : List ℕ) (name : ListName) (size : ℕ) (answer : Result LineReading JournalFault) → IsLine bytes text rest → Some (head.List name size) ≡ head_of text
     → ((kept : List ℕ) → after_list (kept_of_draft draft kept) name size ≡ answer) → (more : List ℕ) → before_record draft [] (bytes ++ more) ≡ (answer >>= λ next. after_bytes next (rest ++ more))
 record_list draft bytes text rest name size answer h is same more =
     record_line draft bytes text rest more h ∙ ap (λ r. after_head (kept_of_draft draft (text ++ newline ∷ [])) r >>= λ next. after_bytes next (rest ++ more)) (sym is)

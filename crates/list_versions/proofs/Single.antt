@@ -8,7 +8,7 @@ use Rattle.sb_model.specs.declared.names.ListName.{ListName}
 use Rattle.sb_model.specs.History.{after_change, without_hash, with_added}
 use Rattle.sb_model.specs.Names.{same_name}
 use Rattle.list_versions.specs.Folding.{after_changes}
-use Rattle.list_versions.specs.HashSizes.{HashSizes, size_in, IsMapOf}
+use Rattle.list_versions.specs.HashSizes.{HashSizes, size_of_hash, IsMapOf}
 use Rattle.list_versions.proofs.Finding.{same_bytes, bytes_are_same}
 use Rattle.list_versions.proofs.Membership.{In, contains_in, in_contained, in_left, in_right, in_either, in_filter, from_filter}
 
@@ -102,12 +102,12 @@ into_fold all (added ∷ adds) entries x h within i (inr (inr k)) = into_fold al
 pub mapped_each : (sizes : HashSizes) (entries : List Added) → IsSingle entries → IsMapOf sizes (fold with_added [] entries) → IsMapOf sizes entries
 mapped_each sizes entries h map = record { same = λ hash size. (there hash size, back hash size) }
   where
-    there : (hash : List ℕ) (size : ℕ) → Contains entries (record { hash = hash; size = size }) → size_in sizes hash ≡ Some size
+    there : (hash : List ℕ) (size : ℕ) → Contains entries (record { hash = hash; size = size }) → size_of_hash sizes hash ≡ Some size
     there hash size c =
         let x : Added = record { hash = hash; size = size } in
         (map.same hash size).0 (contains_in x (fold with_added [] entries) (into_fold entries entries [] x h (λ y j. j) (in_contained x entries c) (inr (in_contained x entries c))))
 
-    back : (hash : List ℕ) (size : ℕ) → size_in sizes hash ≡ Some size → Contains entries (record { hash = hash; size = size })
+    back : (hash : List ℕ) (size : ℕ) → size_of_hash sizes hash ≡ Some size → Contains entries (record { hash = hash; size = size })
     back hash size k =
         let x : Added = record { hash = hash; size = size } in
         elim (from_fold entries [] x (in_contained x (fold with_added [] entries) ((map.same hash size).1 k))) [ inl nothing ↦ absurd nothing | inr j ↦ contains_in x entries j ]

@@ -6,13 +6,13 @@ use Rattle.sb_model.specs.declared.history.Added.{Added}
 use Rattle.sb_model.specs.declared.history.Change.{Change}
 use Rattle.sb_model.specs.declared.names.ListName.{ListName}
 use Rattle.sb_model.specs.History.{after_change, declares, sizes_at, IsPrefixSize}
-use Rattle.list_versions.specs.Limits.{IsWithin, hash_lines}
+use Rattle.list_versions.specs.Limits.{KeepsToLimits, hash_lines}
 use Rattle.list_versions.specs.Live.{Holds, HasPlaced}
 use Rattle.list_versions.specs.Draft.{declared_of, history_of, IsDraft}
 use Rattle.list_versions.specs.declared.draft.Draft.{Draft}
 use Rattle.list_versions.specs.declared.draft.Listed.{Listed}
 
-nothing_within : IsWithin []
+nothing_within : KeepsToLimits []
 nothing_within = record { count = omega arith; uncrowded = λ head. omega arith; bytes = omega arith }
 
 take_nothing : (n : ℕ) → take {A = Change} n [] ≡ []
@@ -27,7 +27,7 @@ draft_new draft lists changes hashes = record {
   few_hashes = omega (arith, hashes);
   live = subst (λ ls. All (λ (list : Listed). Holds list.live (sizes_at (history_of draft) list.name (length draft.changes.items))) ls) (sym lists) (All-nil (λ (list : Listed). Holds list.live (sizes_at (history_of draft) list.name (length draft.changes.items))));
   declared = subst (λ cs. All (λ (c : Change). declares (history_of draft) c.list ≡ true) cs) (sym changes) (All-nil (λ (c : Change). declares (history_of draft) c.list ≡ true));
-  within = λ list version h. subst IsWithin (sym (ap (λ cs. fold (after_change list) [] (take version cs)) changes ∙ ap (fold (after_change list) []) (take_nothing version))) nothing_within;
+  within = λ list version h. subst KeepsToLimits (sym (ap (λ cs. fold (after_change list) [] (take version cs)) changes ∙ ap (fold (after_change list) []) (take_nothing version))) nothing_within;
   well_formed = record {
     declared = subst (λ ls. All (λ (list : ListName × ℕ). IsPrefixSize list.1) (declared_of ls)) (sym lists) (All-nil (λ (list : ListName × ℕ). IsPrefixSize list.1));
     adds = subst (λ cs. All (λ (c : Change). All (λ (added : Added). (length added.hash ≡ 32) × IsPrefixSize added.size) c.adds) cs) (sym changes) (All-nil (λ (c : Change). All (λ (added : Added). (length added.hash ≡ 32) × IsPrefixSize added.size) c.adds));

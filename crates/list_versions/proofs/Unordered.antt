@@ -16,7 +16,7 @@ use Rattle.std.proofs.lemmas.Map.Text.{is_eq-slice_cmp}
 use Rattle.std.proofs.lemmas.Map.Views.{Contains-from_any, Contains-from_lookup, Contains-keys_from_lookup, list_any-from_Contains, lookup-from_Contains}
 use Rattle.sb_model.specs.declared.history.Added.{Added}
 use Rattle.sb_model.specs.Prefixes.{bytes_cmp, IsRising, set_of}
-use Rattle.list_versions.specs.HashSizes.{HashSizes, IsMapOf, entry_at, size_in, rising_sizes, Sets, shown_entry}
+use Rattle.list_versions.specs.HashSizes.{HashSizes, IsMapOf, entry_at, size_of_hash, rising_sizes, Sets, shown_entry}
 use Rattle.list_versions.proofs.Finding.{same_bytes, bytes_are_same}
 use Rattle.list_versions.proofs.Mapped.{SetLaws, set_is, same_filtered}
 use Rattle.list_versions.proofs.Membership.{In, contains_in, in_contained, in_map, from_map}
@@ -68,7 +68,7 @@ size_at laws entries q (Some v) false e h =
     let any : list_any (bytes_eq q) (set_of (keys_of entries)) ≡ true = list_any-from_Contains nat_list_eq_equiv q (set_of (keys_of entries)) ((laws.members (keys_of entries) q).1 there) in
     absurd (cc (any, h))
 
-pub size_in_rising : SetLaws → (entries : HashSizes) (q : List ℕ) → size_in (rising_sizes entries) q ≡ lookup (bytes_eq q) entries
+pub size_in_rising : SetLaws → (entries : HashSizes) (q : List ℕ) → size_of_hash (rising_sizes entries) q ≡ lookup (bytes_eq q) entries
 size_in_rising laws entries q =
     lookup_listed (λ hash. unwrap_or (lookup (bytes_eq hash) entries) 0) q (set_of (keys_of entries))
     ∙ size_at laws entries q (lookup (bytes_eq q) entries) (list_any (bytes_eq q) (set_of (keys_of entries))) refl refl
@@ -119,7 +119,7 @@ same_entries laws entries unique x = (there, back)
 pub listed_is_map : SetLaws → (entries : HashSizes) → IsDistinct bytes_eq (keys_of entries) → IsMapOf (rising_sizes entries) (map entry_at entries)
 listed_is_map laws entries unique = record { same = λ hash size. (there hash size, back hash size) }
   where
-    there : (hash : List ℕ) (size : ℕ) → Contains (map entry_at entries) (entry_at (hash, size)) → size_in (rising_sizes entries) hash ≡ Some size
+    there : (hash : List ℕ) (size : ℕ) → Contains (map entry_at entries) (entry_at (hash, size)) → size_of_hash (rising_sizes entries) hash ≡ Some size
     there hash size c =
         let from = from_map entry_at (entry_at (hash, size)) entries (in_contained _ _ c) in
         let key : from.item.0 ≡ hash = ap (λ (entry : Added). entry.hash) from.holds in
@@ -128,7 +128,7 @@ listed_is_map laws entries unique = record { same = λ hash size. (there hash si
         ∙ subst (λ (h : List ℕ). lookup (bytes_eq h) entries ≡ Some from.item.1) key (value_of entries from.item unique from.there)
         ∙ ap Some value
 
-    back : (hash : List ℕ) (size : ℕ) → size_in (rising_sizes entries) hash ≡ Some size → Contains (map entry_at entries) (entry_at (hash, size))
+    back : (hash : List ℕ) (size : ℕ) → size_of_hash (rising_sizes entries) hash ≡ Some size → Contains (map entry_at entries) (entry_at (hash, size))
     back hash size is =
         let found : lookup (bytes_eq hash) entries ≡ Some size = sym (size_in_rising laws entries hash) ∙ is in
         let pair : In (hash, size) entries = in_contained (hash, size) entries (Contains-from_lookup {eq = bytes_eq} same_bytes hash size entries found) in

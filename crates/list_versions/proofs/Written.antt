@@ -22,11 +22,11 @@ use Rattle.list_versions.specs.declared.heads.Head.{Head}
 use Rattle.list_versions.specs.declared.heads.Head.TheVariants as head
 use Rattle.list_versions.specs.declared.heads.Header.{Header}
 use Rattle.list_versions.specs.declared.fault.JournalFault.{JournalFault}
-use Rattle.list_versions.specs.Journal.{Kept, Begun, Reading, ◌>>=◌, after_bytes, after_change_line, after_first, after_head, after_header, after_line, declared_size_of, empty_history, if_short, if_within_limits, is_complete, kept_of, lines_begun, next_line, settled, with_change, with_remove, with_add}
-use Rattle.list_versions.specs.Limits.{IsWithin, hash_lines, is_crowded, limit_fault, most_alike, most_changes, most_hashes, most_lists, most_prefix_bytes, prefix_bytes}
-use Rattle.list_versions.specs.Lines.{bytes_of, form_of, added_of, added_of_words, change_head, head_of, head_of_words, header_of, header_of_words, is_change_size, is_newline, list_head, newline, number_of, removed_of, size_of}
+use Rattle.list_versions.specs.Journal.{Kept, Begun, LineReading, ◌>>=◌, after_bytes, after_change_line, after_first, after_head, after_header, after_line, declared_size_of, empty_history, if_short, if_within_limits, is_complete, kept_of, lines_begun, next_line, settled, with_change, with_remove, with_add}
+use Rattle.list_versions.specs.Limits.{KeepsToLimits, hash_lines, is_crowded, limit_fault_at, most_alike, most_changes, most_hashes, most_declared_lists, most_prefix_bytes, prefix_bytes}
+use Rattle.list_versions.specs.Lines.{bytes_in_digits, form_of, added_in_line, added_of_words, change_head, head_of, head_of_words, header_of, header_of_words, is_change_size, is_newline, list_head, newline, short_number_of, removed_of, size_of}
 use Rattle.list_versions.specs.Split.{IsLine, IsOneLine}
-use Rattle.list_versions.specs.Written.{AreApart, HasDeclaredSizes, HasJournal, HasLines, add_line, add_words, form_word, change_line, change_text, header_line, journal_text, list_line, remove_line, wholly}
+use Rattle.list_versions.specs.Written.{AreApart, HasDeclaredSizes, HasJournal, HasLines, add_line, add_words, form_word, change_line, change_text, header_line, journal_text, declaration_line, remove_line, wholly}
 use Rattle.list_versions.proofs.LineEnds.{parts_line}
 use Rattle.list_versions.proofs.LineTexts.{AreWords, is_word, bytes_back, decimal_word, eight_bytes, hash_back, hex_long, hex_word, name_back, name_short, name_word, number_back, one_line, words_joined}
 use Rattle.list_versions.proofs.Parts.{parts_some}
@@ -59,7 +59,7 @@ header_read : (sized : Bool) (epoch : ℕ) → epoch < 2 ^ 64 → header_of (joi
 header_read sized epoch h =
     let digits = encode_lower (to_be_bytes w64 epoch) in
     ap header_of_words (words_joined (codes "sblist") (form_word sized ∷ digits ∷ []) (are_header sized epoch))
-    ∙ ap (option_and_then (λ form. option_map (λ bytes. header_with form (from_be_bytes w64 bytes)) (bytes_of 8 digits))) (form_back sized)
+    ∙ ap (option_and_then (λ form. option_map (λ bytes. header_with form (from_be_bytes w64 bytes)) (bytes_in_digits 8 digits))) (form_back sized)
     ∙ ap (option_map (λ bytes. header_with sized (from_be_bytes w64 bytes))) (bytes_back 8 (to_be_bytes w64 epoch) refl (eight_bytes epoch))
     ∙ ap (λ (n : ℕ). Some (header_with sized n)) (from_be_bytes-to_be_bytes_8 epoch h)
 
@@ -99,8 +99,8 @@ pub change_read : (name : ListName) (adds removes : ℕ) → 1 ≤ adds + remove
     → head_of (join_with_byte 32 (change_words name adds removes)) ≡ Some (head.Change name adds removes)
 change_read name adds removes l h =
     ap head_of_words (words_joined (codes "change") (text_of name ∷ decimal adds ∷ decimal removes ∷ []) (are_change name adds removes h))
-    ∙ ap (λ n. change_head (result_ok n) (number_of 0 1024 (decimal adds)) (number_of 0 1024 (decimal removes))) (name_back name)
-    ∙ ap (λ a. change_head (Some name) a (number_of 0 1024 (decimal removes))) (number_back 0 1024 adds (omega arith) (omega arith) (omega arith))
+    ∙ ap (λ n. change_head (result_ok n) (short_number_of 0 1024 (decimal adds)) (short_number_of 0 1024 (decimal removes))) (name_back name)
+    ∙ ap (λ a. change_head (Some name) a (short_number_of 0 1024 (decimal removes))) (number_back 0 1024 adds (omega arith) (omega arith) (omega arith))
     ∙ ap (change_head (Some name) (Some adds)) (number_back 0 1024 removes (omega arith) (omega arith) (omega arith))
     ∙ choose_true (is_change_size (adds + removes)) _ _ (is_size (adds + removes) l h)
 
@@ -132,7 +132,7 @@ are_add false added h = (hex_word added.hash h.bytes, tt)
 abbrev pub entry_with : List ℕ → ℕ → Added
 entry_with hash size = record { hash = hash; size = size }
 
-pub add_read : (sized : Bool) (declared : ℕ) (added : Added) → IsWritten added → IsOfForm sized declared added → added_of sized declared (43 ∷ join_with_byte 32 (add_words sized added)) ≡ Some added
+pub add_read : (sized : Bool) (declared : ℕ) (added : Added) → IsWritten added → IsOfForm sized declared added → added_in_line sized declared (43 ∷ join_with_byte 32 (add_words sized added)) ≡ Some added
 add_read true declared added h of =
     let high = h.size.high in
     ap (added_of_words true declared) (words_joined (encode_lower added.hash) (decimal added.size ∷ []) (are_add true added h))
@@ -166,19 +166,19 @@ signed_line sign text e h = All-cons (λ byte. is_newline byte ≡ false) sign t
 -- ---- a text that leads on
 
 -- the text is taken, and what is known goes from one to the other
-abbrev Leads : Reading → List ℕ → Reading → Type 0
+abbrev Leads : LineReading → List ℕ → LineReading → Type 0
 Leads before text after = (more : List ℕ) → after_bytes before (text ++ more) ≡ after_bytes after more
 
-leads_then : (a b c : Reading) (s t : List ℕ) → Leads a s b → Leads b t c → Leads a (s ++ t) c
+leads_then : (a b c : LineReading) (s t : List ℕ) → Leads a s b → Leads b t c → Leads a (s ++ t) c
 leads_then a b c s t h k more = ap (after_bytes a) (append_assoc s t more) ∙ h (t ++ more) ∙ k more
 
 -- a line with its end
-pub leads_line : (before : Reading) (line more : List ℕ) → IsOneLine line → length line ≤ 128
+pub leads_line : (before : LineReading) (line more : List ℕ) → IsOneLine line → length line ≤ 128
     → after_bytes before ((line ++ newline ∷ []) ++ more) ≡ (after_line before line >>= λ next. after_bytes next more)
 leads_line before line more one short = bytes_line before (line ++ newline ∷ []) line [] more (record { whole = refl; within = one; short = short })
 
 -- what is known between two records
-abbrev pub at_history : Bool → History → Reading
+abbrev pub at_history : Bool → History → LineReading
 at_history sized history = record { kept = wholly sized history; begun = None }
 
 abbrev pub kept_at : Bool → History → List ℕ → Kept
@@ -204,27 +204,27 @@ apart_new (x ∷ got) left list h =
     let here = All-head (λ (other : ListName × ℕ). same_name x.0 other.0 ≡ false) list left (after_all (λ (other : ListName × ℕ). same_name x.0 other.0 ≡ false) got (list ∷ left) h.0) in
     rw (here, apart_new got left list h.1) refl
 
-room : (n : ℕ) → n < 8 → nat_le most_lists n ≡ false
+room : (n : ℕ) → n < 8 → nat_le most_declared_lists n ≡ false
 room n h = grind (arith, nat_tests)
 
 list_leads : (sized : Bool) (epoch : ℕ) (got : List (ListName × ℕ)) (list : ListName × ℕ) → list_any (λ (other : ListName × ℕ). same_name other.0 list.0) got ≡ false → length got < 8 → IsPrefixSize list.1
-    → Leads (at_history sized (declared_at epoch got)) (list_line list) (at_history sized (declared_at epoch (got ++ list ∷ [])))
+    → Leads (at_history sized (declared_at epoch got)) (declaration_line list) (at_history sized (declared_at epoch (got ++ list ∷ [])))
 list_leads sized epoch got list new few size more =
     let line = join_with_byte 32 (list_words list.0 list.1) in
     leads_line (at_history sized (declared_at epoch got)) line more (one_line (codes "list") (text_of list.0 ∷ decimal list.1 ∷ []) (are_list list.0 list.1 size.high)) (list_short list.0 list.1 size.high)
     ∙ ap (λ r. r >>= λ next. after_bytes next more)
     (head_line sized (declared_at epoch got) line (head.List list.0 list.1) (list_short list.0 list.1 size.high) (list_read list.0 list.1 size.low size.high)
     ∙ choose_false (declares (declared_at epoch got) list.0) _ _ new
-    ∙ choose_false (nat_le most_lists (length got)) _ _ (room (length got) few))
+    ∙ choose_false (nat_le most_declared_lists (length got)) _ _ (room (length got) few))
 
 lists_lead : (sized : Bool) (epoch : ℕ) (got left : List (ListName × ℕ)) → AreApart (got ++ left) → All (λ list. IsPrefixSize list.1) left → length (got ++ left) ≤ 8
-    → Leads (at_history sized (declared_at epoch got)) (flat_map list_line left) (at_history sized (declared_at epoch (got ++ left)))
+    → Leads (at_history sized (declared_at epoch got)) (flat_map declaration_line left) (at_history sized (declared_at epoch (got ++ left)))
 lists_lead sized epoch got [] apart sizes few more = ap (λ ds. after_bytes (at_history sized (declared_at epoch ds)) more) (sym (append-nil got))
 lists_lead sized epoch got (list ∷ left) apart sizes few more =
     let same = append_assoc got (list ∷ []) left in
     let long = length-append got (list ∷ left) in
     let now = got ++ list ∷ [] in
-    leads_then (at_history sized (declared_at epoch got)) (at_history sized (declared_at epoch now)) (at_history sized (declared_at epoch (now ++ left))) (list_line list) (flat_map list_line left)
+    leads_then (at_history sized (declared_at epoch got)) (at_history sized (declared_at epoch now)) (at_history sized (declared_at epoch (now ++ left))) (declaration_line list) (flat_map declaration_line left)
     (list_leads sized epoch got list (apart_new got left list apart) (omega (arith, long, few)) (All-head (λ (l : ListName × ℕ). IsPrefixSize l.1) list left sizes))
     (lists_lead sized epoch now left (subst AreApart (sym same) apart) (All-tail (λ (l : ListName × ℕ). IsPrefixSize l.1) list left sizes) (omega (arith, ap length same, few))) more
     ∙ ap (λ ds. after_bytes (at_history sized (declared_at epoch ds)) more) same
@@ -252,7 +252,7 @@ record Fits (sized : Bool) (history : History) (change : Change) : Type 0 where
   room : length history.changes < 65536
   lines : hash_lines history.changes + (length change.adds + length change.removes) ≤ 2097152
   form : (size : ℕ) → declared_size_of history change.list ≡ Some size → All (IsOfForm sized size) change.adds
-  limits : (n : ℕ) → limit_fault n (sizes_at (with_change change history) change.list (version_count (with_change change history))) ≡ None
+  limits : (n : ℕ) → limit_fault_at n (sizes_at (with_change change history) change.list (version_count (with_change change history))) ≡ None
 
 not_equal : (m n : ℕ) → m < n → nat_eq m n ≡ false
 not_equal m n h = grind (arith, nat_tests)
@@ -412,7 +412,7 @@ not_above m n h = grind (arith, nat_tests)
 no_fault : (a b c : Bool) (x y : JournalFault) → a ≡ false → b ≡ false → c ≡ false → (if a || b then Some x else (if c then Some y else None)) ≡ None
 no_fault a b c x y e f g = rw (e, f, g) refl
 
-no_limit : (n : ℕ) (entries : List Added) → IsWithin entries → limit_fault n entries ≡ None
+no_limit : (n : ℕ) (entries : List Added) → KeepsToLimits entries → limit_fault_at n entries ≡ None
 no_limit n entries h =
     no_fault (nat_lt most_hashes (length entries)) (is_crowded entries) (nat_lt most_prefix_bytes (prefix_bytes entries)) _ _ (not_above most_hashes (length entries) h.count)
     (none_passes _ entries (λ entry. not_above most_alike _ (h.uncrowded (take 4 entry.hash))))
@@ -424,12 +424,12 @@ same_sizes history got left list are =
     ap (fold (after_change list) []) (ap (take (length got)) (sym are) ∙ take-append_seam got left ∙ sym (take_all (length got) got (omega arith)))
 
 fits_limits : (history : History) (got left : List Change) (change : Change) → HasJournal history → got ++ change ∷ left ≡ history.changes → (n : ℕ)
-    → limit_fault n (sizes_at (with_change change (up_to history got)) change.list (version_count (with_change change (up_to history got)))) ≡ None
+    → limit_fault_at n (sizes_at (with_change change (up_to history got)) change.list (version_count (with_change change (up_to history got)))) ≡ None
 fits_limits history got left change h are n =
     let now = got ++ change ∷ [] in
     let same : now ++ left ≡ history.changes = append_assoc got (change ∷ []) left ∙ are in
     let long = length-append now left in
-    no_limit n _ (subst IsWithin (same_sizes history now left change.list same) (h.within change.list (length now) (omega (arith, long, ap length same))))
+    no_limit n _ (subst KeepsToLimits (same_sizes history now left change.list same) (h.within change.list (length now) (omega (arith, long, ap length same))))
 
 pub are_written : (adds : List Added) → All (λ (added : Added). (length added.hash ≡ 32) × IsPrefixSize added.size) adds → All (λ (added : Added). IsBytes added.hash) adds → All IsWritten adds
 are_written [] h k = All-nil IsWritten
@@ -532,7 +532,7 @@ header_leads sized epoch more h =
 journal_back : (sized : Bool) (history : History) → HasJournal history → HasSizes sized history → kept_of (journal_text sized history) ≡ Ok (wholly sized history)
 unfolding journal_text
 journal_back sized history h sizes =
-    let lists = flat_map list_line history.declared in
+    let lists = flat_map declaration_line history.declared in
     let changes = flat_map (change_text sized) history.changes in
     ap kept_of (append_assoc (header_line (header_with sized history.epoch)) lists changes)
     ∙ header_leads sized history.epoch (lists ++ changes) h.epoch

@@ -9,7 +9,7 @@ use Rattle.list_versions.specs.declared.draft.Draft.{Draft}
 use Rattle.list_versions.specs.declared.draft.Listed.{Listed}
 use Rattle.list_versions.specs.declared.live.Live.{Live}
 use Rattle.list_versions.specs.Journal.{Kept, Begun, after_bytes, settled, ◌>>=◌, after_change_line, declared_size_of}
-use Rattle.list_versions.specs.Limits.{most_lists, most_changes, most_hash_lines, hash_lines, WithinLimits}
+use Rattle.list_versions.specs.Limits.{most_declared_lists, most_changes, most_hash_lines, hash_lines, WithinLimits}
 use Rattle.list_versions.specs.Ends.{Line, HasEnds, after_lines, adds_of, restored, most_lines}
 use Rattle.list_versions.specs.Live.{Holds, HasPlaced, IsPlaced}
 use Rattle.sb_model.specs.declared.history.Change.{Change}
@@ -28,7 +28,7 @@ kept_of_draft draft rest = record { sized = draft.sized; versions = history_of d
 -- what a history that is read keeps to
 pub record IsDraft (draft : Draft) : Type 0 where
   pub hashes : draft.hashes ≡ hash_lines draft.changes.items
-  pub few_lists : length draft.lists.items ≤ most_lists
+  pub few_lists : length draft.lists.items ≤ most_declared_lists
   pub few_changes : length draft.changes.items ≤ most_changes
   pub few_hashes : draft.hashes ≤ most_hash_lines
   pub live : All (λ list. Holds list.live (sizes_at (history_of draft) list.name (length draft.changes.items))) draft.lists.items

@@ -17,12 +17,12 @@ abbrev pub rising_sizes : HashSizes → HashSizes
 rising_sizes entries = map (λ hash. (hash, unwrap_or (lookup (bytes_eq hash) entries) 0)) (set_of (keys_of entries))
 
 -- the size of a full hash, where the map has the hash
-abbrev pub size_in : HashSizes → List ℕ → Option ℕ
-size_in sizes hash = lookup (is_at (bytes_cmp hash)) sizes
+abbrev pub size_of_hash : HashSizes → List ℕ → Option ℕ
+size_of_hash sizes hash = lookup (is_at (bytes_cmp hash)) sizes
 
 -- The hash gets the size in place of the one that it had, or is taken out. Each other hash keeps its own.
 abbrev pub Sets : HashSizes → HashSizes → List ℕ → Option ℕ → Type 0
-Sets before after hash size = (other : List ℕ) → size_in after other ≡ cond (bytes_eq hash other) size (size_in before other)
+Sets before after hash size = (other : List ℕ) → size_of_hash after other ≡ cond (bytes_eq hash other) size (size_of_hash before other)
 
 -- the size that a line gives its hash: none where the line removes
 abbrev pub line_size : Bool → ℕ → Option ℕ
@@ -30,7 +30,7 @@ line_size add size = cond add (Some size) None
 
 -- the map has these entries and no others
 pub record IsMapOf (sizes : HashSizes) (entries : List Added) : Type 0 where
-  pub same : (hash : List ℕ) (size : ℕ) → Contains entries (record { hash = hash; size = size }) ↔ (size_in sizes hash ≡ Some size)
+  pub same : (hash : List ℕ) (size : ℕ) → Contains entries (record { hash = hash; size = size }) ↔ (size_of_hash sizes hash ≡ Some size)
 
 -- the prefix that is made of a full hash and its size
 abbrev pub shown_entry : List ℕ × ℕ → List ℕ

@@ -11,8 +11,8 @@ use Rattle.list_versions.specs.declared.fault.JournalFault.{JournalFault}
 use Rattle.list_versions.specs.declared.fault.JournalFault.TheVariants as fault
 
 -- how many lists are declared, how many changes there are, and how many hash lines these have
-abbrev pub most_lists : ℕ
-most_lists = 8
+abbrev pub most_declared_lists : ℕ
+most_declared_lists = 8
 
 abbrev pub most_changes : ℕ
 most_changes = 65536
@@ -47,8 +47,8 @@ abbrev pub prefix_bytes : List Added → ℕ
 prefix_bytes entries = length (concatenation (set_of (map prefix_of entries)))
 
 -- the fault of line n where it ends a change that leaves these full hashes
-abbrev pub limit_fault : ℕ → List Added → Option JournalFault
-limit_fault n entries =
+abbrev pub limit_fault_at : ℕ → List Added → Option JournalFault
+limit_fault_at n entries =
     if nat_lt most_hashes (length entries) || is_crowded entries then Some (fault.TooMany n)
     else if nat_lt most_prefix_bytes (prefix_bytes entries) then Some (fault.TooLarge n)
     else None
@@ -58,11 +58,11 @@ abbrev pub IsUncrowded : List Added → Type 0
 IsUncrowded entries = (head : List ℕ) → length (filter (has_head head) entries) ≤ most_alike
 
 -- what the full hashes of a list keep to
-pub record IsWithin (entries : List Added) : Type 0 where
+pub record KeepsToLimits (entries : List Added) : Type 0 where
   pub count : length entries ≤ most_hashes
   pub uncrowded : IsUncrowded entries
   pub bytes : prefix_bytes entries ≤ most_prefix_bytes
 
 -- each version of each list keeps to it
 abbrev pub WithinLimits : History → Type 0
-WithinLimits history = (list : ListName) (version : ℕ) → version ≤ version_count history → IsWithin (sizes_at history list version)
+WithinLimits history = (list : ListName) (version : ℕ) → version ≤ version_count history → KeepsToLimits (sizes_at history list version)

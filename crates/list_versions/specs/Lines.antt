@@ -26,8 +26,8 @@ is_newline byte = byte == newline
 abbrev pub is_space : ℕ → Bool
 is_space byte = byte == 32
 
-unfoldable pub words_of : List ℕ → List (List ℕ)
-words_of line = slice_split is_space line
+unfoldable pub words_in_line : List ℕ → List (List ℕ)
+words_in_line line = slice_split is_space line
 
 -- ---- numbers
 
@@ -39,22 +39,22 @@ abbrev pub within : ℕ → ℕ → ℕ → Option ℕ
 within low high number = if nat_le low number && nat_le number high then Some number else None
 
 -- the decimal number that a text is, where it is from `low` to `high`; no number of a journal has more than four digits
-unfoldable pub number_of : ℕ → ℕ → List ℕ → Option ℕ
-number_of low high text = if is_numeral text && nat_le (length text) 4 then within low high (digits_value 10 text) else None
+unfoldable pub short_number_of : ℕ → ℕ → List ℕ → Option ℕ
+short_number_of low high text = if is_numeral text && nat_le (length text) 4 then within low high (digits_value 10 text) else None
 
 -- the size of a prefix that a text is
 abbrev pub size_of : List ℕ → Option ℕ
-size_of text = number_of 4 32 text
+size_of text = short_number_of 4 32 text
 
 -- ---- hexadecimal digits, of both cases
 
 -- so many bytes, in twice as many digits
-unfoldable pub bytes_of : ℕ → List ℕ → Option (List ℕ)
-bytes_of count digits = if length digits == 2 * count then result_ok (decode_of digits) else None
+unfoldable pub bytes_in_digits : ℕ → List ℕ → Option (List ℕ)
+bytes_in_digits count digits = if length digits == 2 * count then result_ok (decode_of digits) else None
 
 -- a full hash, in 64 digits
 abbrev pub hash_of : List ℕ → Option (List ℕ)
-hash_of digits = bytes_of 32 digits
+hash_of digits = bytes_in_digits 32 digits
 
 -- ---- the first line
 
@@ -65,13 +65,13 @@ form_of text = if bytes_eq text (codes "1") then Some false else if bytes_eq tex
 abbrev pub header_of_words : List (List ℕ) → Option Header
 header_of_words (word ∷ form ∷ digits ∷ []) =
     if bytes_eq word (codes "sblist")
-    then option_and_then (λ sized. option_map (λ bytes. record { sized = sized; epoch = from_be_bytes w64 bytes }) (bytes_of 8 digits)) (form_of form)
+    then option_and_then (λ sized. option_map (λ bytes. record { sized = sized; epoch = from_be_bytes w64 bytes }) (bytes_in_digits 8 digits)) (form_of form)
     else None
 header_of_words _ = None
 
 -- `sblist 1 ` or `sblist 2 `, and the epoch in 16 digits
 abbrev pub header_of : List ℕ → Option Header
-header_of line = header_of_words (words_of line)
+header_of line = header_of_words (words_in_line line)
 
 -- ---- the first line of a record
 
@@ -91,13 +91,13 @@ head_of_words (word ∷ name ∷ size ∷ []) =
     if bytes_eq word (codes "list") then list_head (result_ok (name_of name)) (size_of size) else None
 head_of_words (word ∷ name ∷ adds ∷ removes ∷ []) =
     if bytes_eq word (codes "change")
-    then change_head (result_ok (name_of name)) (number_of 0 1024 adds) (number_of 0 1024 removes)
+    then change_head (result_ok (name_of name)) (short_number_of 0 1024 adds) (short_number_of 0 1024 removes)
     else None
 head_of_words _ = None
 
 -- `list NAME SIZE`, or `change NAME a r` with 1 to 1,024 hashes in all
 abbrev pub head_of : List ℕ → Option Head
-head_of line = head_of_words (words_of line)
+head_of line = head_of_words (words_in_line line)
 
 -- ---- hash lines
 
@@ -113,8 +113,8 @@ abbrev pub after_sign : ℕ → List ℕ → Option (List ℕ)
 after_sign sign [] = None
 after_sign sign (byte ∷ text) = if byte == sign then Some text else None
 
-abbrev pub added_of : Bool → ℕ → List ℕ → Option Added
-added_of sized declared line = option_and_then (λ text. added_of_words sized declared (words_of text)) (after_sign 43 line)
+abbrev pub added_in_line : Bool → ℕ → List ℕ → Option Added
+added_in_line sized declared line = option_and_then (λ text. added_of_words sized declared (words_in_line text)) (after_sign 43 line)
 
 -- `-` and a hash
 abbrev pub removed_of : List ℕ → Option (List ℕ)

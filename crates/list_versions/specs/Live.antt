@@ -30,8 +30,8 @@ abbrev pub bucket_in : Buckets → List ℕ → List Added
 bucket_in buckets head = added_of (lines_in buckets head)
 
 -- what a map becomes where a bucket is put
-abbrev pub Puts : Buckets → Buckets → List ℕ → List Standing → Type 0
-Puts before after head next = (other : List ℕ) → lines_in after other ≡ cond (bytes_eq head other) next (lines_in before other)
+abbrev pub PutsBucket : Buckets → Buckets → List ℕ → List Standing → Type 0
+PutsBucket before after head next = (other : List ℕ) → lines_in after other ≡ cond (bytes_eq head other) next (lines_in before other)
 
 -- at least four bytes of a hash are published, and no more than it has
 pub record IsPublishable (entry : Added) : Type 0 where
@@ -76,7 +76,7 @@ KeepsEnds version few before after = (lines : List Line) → IsPlaced before lin
 
 -- a bucket took the place of another
 pub record Replaces (before after : Live) (head : List ℕ) (next : List Standing) : Type 0 where
-  pub buckets : Puts before.buckets.entries after.buckets.entries head next
+  pub buckets : PutsBucket before.buckets.entries after.buckets.entries head next
   pub count : length (lines_in before.buckets.entries head) ≤ before.count → before.count < 2 ^ 63
       → after.count + length (lines_in before.buckets.entries head) ≡ before.count + length next
   pub bytes : prefix_bytes (bucket_in before.buckets.entries head) ≤ before.bytes → before.bytes < 2 ^ 63

@@ -12,7 +12,7 @@ use Rattle.list_versions.specs.declared.newest.Newest.{Newest}
 use Rattle.list_versions.specs.Live.{HasRead}
 use Rattle.list_versions.specs.Draft.{history_of, kept_of_draft, before_record, IsDraft}
 use Rattle.list_versions.specs.Journal.{Kept, kept_of, read_on}
-use Rattle.list_versions.specs.Limits.{most_lists, most_changes, most_hash_lines, hash_lines, WithinLimits}
+use Rattle.list_versions.specs.Limits.{most_declared_lists, most_changes, most_hash_lines, hash_lines, WithinLimits}
 use Rattle.list_versions.specs.Numbers.{AreNumbersOf}
 use Rattle.list_versions.specs.Split.{IsFront}
 
@@ -61,7 +61,7 @@ FurtherFault kept bytes (fault.TooLarge n) = IsBadRest kept bytes (fault.TooLarg
 -- the changes and lists of a history with the ends of their lines, whatever the tables of the newest full hashes hold
 pub record IsStem (draft : Draft) : Type 0 where
   pub hashes : draft.hashes ≡ hash_lines draft.changes.items
-  pub few_lists : length draft.lists.items ≤ most_lists
+  pub few_lists : length draft.lists.items ≤ most_declared_lists
   pub few_changes : length draft.changes.items ≤ most_changes
   pub few_hashes : draft.hashes ≤ most_hash_lines
   pub declared : All (λ change. declares (history_of draft) change.list ≡ true) draft.changes.items
@@ -76,7 +76,7 @@ pub record IsNewest (versions : History) (newest : Newest) : Type 0 where
   pub numbers : AreNumbersOf newest.set newest.numbers.items
 
 -- The newest prefixes of each declared list stand ready, and so do its newest full hashes unless these are stale.
-pub record IsLoaded (draft : Draft) (newest : List Newest) (rest : List ℕ) (stale : Bool) : Type 0 where
+pub record IsLoadedDraft (draft : Draft) (newest : List Newest) (rest : List ℕ) (stale : Bool) : Type 0 where
   pub stem : IsStem draft
   pub fresh : stale ≡ true ⊎ IsDraft draft
   pub names : map (λ newest. newest.name) newest ≡ map (λ listed. listed.name) draft.lists.items

@@ -5,18 +5,18 @@ use Rattle.sb_outside.specs.Reading.{ReadsToEnd}
 use Rattle.list_versions.specs.declared.fault.JournalFault.{JournalFault}
 use Rattle.list_versions.specs.declared.fault.JournalFault.TheVariants as fault
 use Rattle.list_versions.specs.declared.heads.Header.{Header}
-use Rattle.list_versions.specs.Journal.{Kept, Reading, kept_of, after_bytes, empty_history}
+use Rattle.list_versions.specs.Journal.{Kept, LineReading, kept_of, after_bytes, empty_history}
 use Rattle.list_versions.specs.Loaded.{Gives}
 
 -- what is known after a first line
-abbrev pub reading_of : Header → Reading
-reading_of header = record { kept = record { sized = header.sized; versions = empty_history header.epoch; rest = [] }; begun = None }
+abbrev pub reading_after_header : Header → LineReading
+reading_after_header header = record { kept = record { sized = header.sized; versions = empty_history header.epoch; rest = [] }; begun = None }
 
 -- The source gave a first line and the text.
 pub record IsBegun (header : Header) (text : List ℕ) (before after : Option (List (List ℕ))) : Type 0 where
   pub given : List ℕ
   pub gives : GivesFront given before after
-  pub same : (more : List ℕ) → kept_of (given ++ more) ≡ after_bytes (reading_of header) (text ++ more)
+  pub same : (more : List ℕ) → kept_of (given ++ more) ≡ after_bytes (reading_after_header header) (text ++ more)
 
 -- what a journal comes to by the bytes after some place of it
 abbrev pub Further : Type 0

@@ -14,6 +14,6 @@ pub record IsFrom (number : ℕ) (numbers rest : List ℕ) : Type 0 where
   pub next : (first : ℕ) (later : List ℕ) → rest ≡ first ∷ later → number ≤ first
 
 -- whether a number is the first of a row
-abbrev pub begins_with : ℕ → List ℕ → Bool
-begins_with number [] = false
-begins_with number (first ∷ later) = first == number
+abbrev pub is_first_of : ℕ → List ℕ → Bool
+is_first_of number [] = false
+is_first_of number (first ∷ later) = first == number

@@ -11,7 +11,7 @@ use Rattle.sb_model.specs.Names.{same_name, text_of}
 use Rattle.sb_model.specs.History.{History, IsPrefixSize, IsWellFormed, declares}
 use Rattle.list_versions.specs.declared.heads.Header.{Header}
 use Rattle.list_versions.specs.Journal.{Kept, declared_size_of}
-use Rattle.list_versions.specs.Limits.{WithinLimits, hash_lines, most_changes, most_hash_lines, most_lists}
+use Rattle.list_versions.specs.Limits.{WithinLimits, hash_lines, most_changes, most_hash_lines, most_declared_lists}
 use Rattle.list_versions.specs.Lines.{newline}
 
 -- some words, parted by single spaces, and the end of the line
@@ -28,8 +28,8 @@ abbrev pub header_line : Header → List ℕ
 header_line header = line_of (codes "sblist" ∷ form_word header.sized ∷ encode_lower (to_be_bytes w64 header.epoch) ∷ [])
 
 -- the line that declares a list: its name, and its declared size
-abbrev pub list_line : ListName × ℕ → List ℕ
-list_line list = line_of (codes "list" ∷ text_of list.0 ∷ decimal list.1 ∷ [])
+abbrev pub declaration_line : ListName × ℕ → List ℕ
+declaration_line list = line_of (codes "list" ∷ text_of list.0 ∷ decimal list.1 ∷ [])
 
 -- the line that begins a change: the name of its list, and how many hashes it adds and removes
 abbrev pub change_line : Change → List ℕ
@@ -58,7 +58,7 @@ header_of_history sized history = record { sized = sized; epoch = history.epoch 
 -- a whole journal
 unfoldable pub journal_text : Bool → History → List ℕ
 journal_text sized history =
-    header_line (header_of_history sized history) ++ flat_map list_line history.declared ++ flat_map (change_text sized) history.changes
+    header_line (header_of_history sized history) ++ flat_map declaration_line history.declared ++ flat_map (change_text sized) history.changes
 
 -- ---- what a journal can tell
 
@@ -82,7 +82,7 @@ pub record HasJournal (history : History) : Type 0 where
   pub well_formed : IsWellFormed history
   pub apart : AreApart history.declared
   pub changes : All (HasLines history) history.changes
-  pub few_lists : length history.declared ≤ most_lists
+  pub few_lists : length history.declared ≤ most_declared_lists
   pub few_changes : length history.changes ≤ most_changes
   pub few_hashes : hash_lines history.changes ≤ most_hash_lines
   pub within : WithinLimits history

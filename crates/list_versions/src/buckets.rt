@@ -1,6 +1,6 @@
 ghost use Rattle.std.specs.Prelude.{◌≡◌, IfOk, OnOk};
 ghost use Rattle.list_versions.specs.Buckets.{IsTally, without, with_line};
-ghost use Rattle.list_versions.specs.Live.{lines_in, Puts};
+ghost use Rattle.list_versions.specs.Live.{lines_in, PutsBucket};
 
 use crate::bucket::{Bucket, Standing, Tally};
 use sb_model::OutOfMemory;
@@ -26,7 +26,7 @@ pub(crate) fn lines_at<'a>(buckets: &'a Buckets, head: &HashHead) -> &'a [Standi
 
 /// Takes a full hash out of its bucket.
 pub(crate) fn remove_at(buckets: &mut Buckets, head: &HashHead, hash: &[u8; 32]) -> Tally
-    ensures puts { Puts buckets.old.entries buckets.new.entries head.now
+    ensures puts { PutsBucket buckets.old.entries buckets.new.entries head.now
         (without (lines_in buckets.old.entries head.now) hash.now) }
     ensures tally { IsTally (lines_in buckets.old.entries head.now)
         (without (lines_in buckets.old.entries head.now) hash.now) result }
@@ -44,7 +44,7 @@ pub(crate) fn put_at(
     head: HashHead,
     line: Standing,
 ) -> Result<Tally, OutOfMemory>
-    ensures puts { OnOk result (Puts buckets.old.entries buckets.new.entries head
+    ensures puts { OnOk result (PutsBucket buckets.old.entries buckets.new.entries head
         (with_line (lines_in buckets.old.entries head) line)) }
     ensures tally { IfOk result (IsTally (lines_in buckets.old.entries head)
         (with_line (lines_in buckets.old.entries head) line)) }

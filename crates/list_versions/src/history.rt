@@ -10,7 +10,7 @@ ghost use Rattle.sb_model.specs.Prefixes.{set_of};
 ghost use Rattle.list_versions.specs.Journal.{Kept, declared_size_of, read_on, after_bytes, at_record};
 ghost use Rattle.list_versions.specs.HashSizes.{IsMapOf};
 ghost use Rattle.list_versions.specs.Live.{IsPublishable};
-ghost use Rattle.list_versions.specs.Limits.{WithinLimits, hash_lines, most_changes, most_hash_lines, most_lists};
+ghost use Rattle.list_versions.specs.Limits.{WithinLimits, hash_lines, most_changes, most_hash_lines, most_declared_lists};
 ghost use Rattle.list_versions.specs.Draft.{history_of, kept_of_draft, before_record, IsDraft};
 ghost use Rattle.sb_model.specs.Difference.{removed_places, added_members};
 ghost use Rattle.list_versions.specs.Ends.{adds_of};
@@ -61,13 +61,13 @@ pub struct History {
 impl Model for History {
     ghost use Rattle.list_versions.specs.Journal.{Kept};
     ghost use Rattle.list_versions.specs.Draft.{kept_of_draft};
-    ghost use Rattle.list_versions.specs.Loaded.{IsLoaded};
+    ghost use Rattle.list_versions.specs.Loaded.{IsLoadedDraft};
 
     ghost Value = { Kept };
 
     ghost view = { λ h. kept_of_draft h.draft h.rest };
 
-    ghost invariant = { λ h. IsLoaded h.draft h.newest.items h.rest h.stale };
+    ghost invariant = { λ h. IsLoadedDraft h.draft h.newest.items h.rest h.stale };
 }
 
 // The newest prefixes of a list.
@@ -316,7 +316,7 @@ impl History {
     /// The declared lists with their prefix sizes in bytes, in the order of the journal. There are eight at most.
     pub fn lists(&self, alloc: Global) -> Result<Row<(ListName, u8)>, OutOfMemory>
         ensures value { IfOk result (λ lists. lists ≡ self.now.versions.declared) }
-        ensures few { OnOk result (length self.now.versions.declared ≤ most_lists) }
+        ensures few { OnOk result (length self.now.versions.declared ≤ most_declared_lists) }
     {
         declared_lists(alloc, self.draft.lists.as_slice())
     }

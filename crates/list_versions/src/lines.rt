@@ -6,7 +6,7 @@ ghost use Rattle.sb_model.specs.History.{IsPrefixSize};
 ghost use Rattle.std.specs.Str.Parse.{digits_value as value_of_digits};
 ghost use Rattle.std.specs.Char.{is_ascii_digit};
 ghost use Rattle.std.specs.List.{list_all};
-ghost use Rattle.list_versions.specs.Lines.{IsAdded, IsHead, is_space, words_of, is_numeral as is_numeral_text, within, number_of, size_of, bytes_of, hash_of, form_of, header_of, header_of_words, head_of, head_of_words, list_head as list_head_of, change_head as change_head_of, added_of, added_of_words, removed_of};
+ghost use Rattle.list_versions.specs.Lines.{IsAdded, IsHead, is_space, words_in_line, is_numeral as is_numeral_text, within, short_number_of, size_of, bytes_in_digits, hash_of, form_of, header_of, header_of_words, head_of, head_of_words, list_head as list_head_of, change_head as change_head_of, added_in_line, added_of_words, removed_of};
 
 use crate::draft::Listed;
 use crate::heads::{Head, Header};
@@ -30,8 +30,8 @@ fn has_space(text: &[u8]) -> bool
 
 // What stands before the first space, and after it; `None` where there is no space.
 fn split_word(text: &[u8]) -> Option<(&[u8], &[u8])>
-    ensures { MatchOption result (words_of text.now ≡ text.now ∷ [])
-        (λ halves. words_of text.now ≡ halves.0.now ∷ words_of halves.1.now) }
+    ensures { MatchOption result (words_in_line text.now ≡ text.now ∷ [])
+        (λ halves. words_in_line text.now ≡ halves.0.now ∷ words_in_line halves.1.now) }
 {
     let Some(space) = space_in(text) else {
         return None;
@@ -80,7 +80,7 @@ fn if_within(low: u32, high: u32, number: u32) -> Option<u32>
 
 // The decimal number that a text is, where it is in a range.
 fn number(text: &[u8], low: u32, high: u32) -> Option<u32>
-    ensures value { result ≡ number_of low high text.now }
+    ensures value { result ≡ short_number_of low high text.now }
     ensures range { IfSome result (λ n. (low ≤ n) × (n ≤ high)) }
 {
     if !is_numeral(text) || text.len() > 4 {
@@ -102,7 +102,7 @@ fn prefix_size(text: &[u8]) -> Option<u8>
 
 // Eight bytes in 16 digits, as a big-endian number.
 fn epoch(digits: &[u8]) -> Option<u64>
-    ensures { result ≡ option_map (from_be_bytes w64) (bytes_of 8 digits.now) }
+    ensures { result ≡ option_map (from_be_bytes w64) (bytes_in_digits 8 digits.now) }
 {
     if digits.len() != 16 {
         return None;
@@ -120,7 +120,7 @@ fn epoch(digits: &[u8]) -> Option<u64>
 fn words(line: &[u8]) -> Option<(&[u8], &[u8], &[u8], Option<&[u8]>)>
     ensures { MatchOption result
         ((header_of line.now ≡ None) × (head_of line.now ≡ None))
-        (λ found. words_of line.now ≡ found.0.now ∷ found.1.now ∷ found.2.now
+        (λ found. words_in_line line.now ≡ found.0.now ∷ found.1.now ∷ found.2.now
         ∷ option_to_list (option_map (λ last. last.now) found.3)) }
 {
     let Some((first, rest)) = split_word(line) else {
@@ -185,7 +185,7 @@ fn list_head(name: &[u8], size: &[u8]) -> Option<Head>
 
 fn change_head(lists: &[Listed], name: &[u8], adds: &[u8], removes: &[u8]) -> Option<Head>
     ensures well { IfSome result IsHead }
-    ensures value { result ≡ change_head_of (result_ok (name_of name.now)) (number_of 0 1024 adds.now) (number_of 0 1024 removes.now) }
+    ensures value { result ≡ change_head_of (result_ok (name_of name.now)) (short_number_of 0 1024 adds.now) (short_number_of 0 1024 removes.now) }
 {
     let name = read_name(lists, name)?;
     let adds = number(adds, 0, 1024)?;
@@ -232,7 +232,7 @@ fn sized_add(digits: &[u8], size: &[u8], declared: u8) -> Option<Added>
 // A text that is more than a hash.
 fn longer_add(text: &[u8], sized: bool, declared: u8) -> Option<Added>
     requires { hash_of text.now ≡ None }
-    ensures value { result ≡ added_of_words sized declared (words_of text.now) }
+    ensures value { result ≡ added_of_words sized declared (words_in_line text.now) }
     ensures well { IfSome result IsAdded }
 {
     let Some((digits, size)) = split_word(text) else {
@@ -245,7 +245,7 @@ fn longer_add(text: &[u8], sized: bool, declared: u8) -> Option<Added>
 }
 
 fn added_of_text(text: &[u8], sized: bool, declared: u8) -> Option<Added>
-    ensures value { result ≡ added_of_words sized declared (words_of text.now) }
+    ensures value { result ≡ added_of_words sized declared (words_in_line text.now) }
     ensures well { IsPrefixSize declared → IfSome result IsAdded }
 {
     match read_hash(text) {
@@ -259,7 +259,7 @@ fn added_of_text(text: &[u8], sized: bool, declared: u8) -> Option<Added>
 
 /// Reads a line that adds. Without a size of its own the hash has the declared one.
 pub fn read_add(line: &[u8], sized: bool, declared: u8) -> Option<Added>
-    ensures value { result ≡ added_of sized declared line.now }
+    ensures value { result ≡ added_in_line sized declared line.now }
     ensures well { IsPrefixSize declared → IfSome result IsAdded }
 {
     match line {

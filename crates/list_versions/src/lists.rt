@@ -7,7 +7,7 @@ ghost use Rattle.list_versions.specs.declared.draft.Listed.{Listed as List'};
 ghost use Rattle.list_versions.specs.Draft.{declared_of, lines_after, AppliesLines, AreRestored};
 ghost use Rattle.list_versions.specs.Ends.{Line, adds_of, most_lines, never, restored};
 ghost use Rattle.std.specs.List.{list_any};
-ghost use Rattle.list_versions.specs.Limits.{IsUncrowded, limit_fault};
+ghost use Rattle.list_versions.specs.Limits.{IsUncrowded, limit_fault_at};
 ghost use Rattle.list_versions.specs.Live.{Holds, IsPlaced, KeepsEnds};
 
 use crate::JournalFault;
@@ -112,7 +112,7 @@ pub(crate) fn limit_of(lists: &[Listed], change: &Change, line: u64) -> Option<J
     requires { list_any (λ list. same_name list.name change.now.list) lists.now ≡ true }
     ensures { (sizes : Name → List Entry) → ((name : Name) → IsUncrowded (sizes name))
         → All (λ list. Holds list.live (after_change list.name (sizes list.name) change.now)) lists.now
-        → result ≡ limit_fault line (after_change change.now.list (sizes change.now.list) change.now) }
+        → result ≡ limit_fault_at line (after_change change.now.list (sizes change.now.list) change.now) }
 {
     for listed in lists {
         if same(listed.name, change.list) {

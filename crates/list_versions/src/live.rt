@@ -5,7 +5,7 @@ ghost use Rattle.sb_model.specs.History.{with_added, without_hash};
 ghost use Rattle.sb_model.specs.declared.history.Added.{Added as Entry};
 ghost use Rattle.list_versions.specs.Buckets.{without, with_line};
 ghost use Rattle.list_versions.specs.Ends.{Line, ended, ended_at, is_of, lengthened, after_lines, never, restored};
-ghost use Rattle.list_versions.specs.Limits.{limit_fault, most_alike, IsUncrowded};
+ghost use Rattle.list_versions.specs.Limits.{limit_fault_at, most_alike, IsUncrowded};
 ghost use Rattle.list_versions.specs.Live.{lines_in, Replaces, Holds, IsPlaced, KeepsEnds};
 
 use crate::JournalFault;
@@ -234,7 +234,7 @@ impl Live {
     pub fn limit(&self, adds: &[Added], line: u64) -> Option<JournalFault>
         ensures { (before : List Entry) (removes : List (List ℕ)) → IsUncrowded before
             → Holds self.now (fold with_added (fold without_hash before removes) adds.now)
-            → result ≡ limit_fault line (fold with_added (fold without_hash before removes) adds.now) }
+            → result ≡ limit_fault_at line (fold with_added (fold without_hash before removes) adds.now) }
     {
         if self.count > MOST_HASHES || self.is_crowded(adds) {
             return Some(JournalFault::TooMany(line));

@@ -3,7 +3,7 @@ ghost use Rattle.sb_outside.specs.Outside.{Rose, GivesFront};
 ghost use Rattle.list_versions.specs.Draft.{kept_of_draft, IsDraft, before_record, KeepsFront};
 ghost use Rattle.list_versions.specs.Journal.{kept_of, after_bytes};
 ghost use Rattle.list_versions.specs.Loaded.{Gives, JournalOutcome};
-ghost use Rattle.list_versions.specs.Pieces.{reading_of, IsBegun, ReadsAll, StopsAt};
+ghost use Rattle.list_versions.specs.Pieces.{reading_after_header, IsBegun, ReadsAll, StopsAt};
 ghost use Rattle.list_versions.specs.Split.{IsFront, EndsWith};
 
 use crate::JournalFault;
@@ -47,7 +47,7 @@ fn last_bytes(text: Bytes, count: usize) -> Bytes
 fn first_of(text: &[u8]) -> Result<Option<(Header, &[u8])>, BadHeader>
     ensures back { IfOk result (λ found. IfSome found (λ first. EndsWith text.now first.1.now)) }
     ensures begun { IfOk result (λ found. IfSome found (λ first. (more : List ℕ)
-        → kept_of (text.now ++ more) ≡ after_bytes (reading_of first.0) (first.1.now ++ more))) }
+        → kept_of (text.now ++ more) ≡ after_bytes (reading_after_header first.0) (first.1.now ++ more))) }
     ensures front { IfOk result (λ found. IfNone found (IsFront text.now)) }
     ensures bad { OnErr result ((more : List ℕ) → kept_of (text.now ++ more) ≡ Err JournalFault.Header) }
 {

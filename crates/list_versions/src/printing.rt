@@ -1,5 +1,5 @@
 ghost use Rattle.std.specs.Prelude.{◌≡◌, ◌++◌, length, take, decimal, OnOk, OnErr};
-ghost use Rattle.list_versions.specs.Printed.{cause_text};
+ghost use Rattle.list_versions.specs.Printed.{journal_cause_text};
 
 use crate::JournalFault;
 use sb_model::{Bytes, OutOfMemory};
@@ -15,7 +15,7 @@ fn push_counted(page: &mut Bytes, word: &str, number: u64) -> Result<(), OutOfMe
 
 /// Appends the cause of a journal that is not read, as it is printed. After an `Err` the page begins as it was.
 pub fn push_journal_cause(page: &mut Bytes, fault: JournalFault) -> Result<(), OutOfMemory>
-    ensures ok { OnOk result (page.new ≡ page.old ++ cause_text fault) }
+    ensures ok { OnOk result (page.new ≡ page.old ++ journal_cause_text fault) }
     ensures front { OnErr result (take (length page.old) page.new ≡ page.old) }
 {
     match fault {

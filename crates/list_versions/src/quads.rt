@@ -9,7 +9,7 @@ ghost use Rattle.list_versions.specs.Draft.{history_of};
 ghost use Rattle.list_versions.specs.Ends.{Line, adds_of, lasting};
 ghost use Rattle.list_versions.specs.Live.{HasRead};
 ghost use Rattle.list_versions.specs.Loaded.{IsStem};
-ghost use Rattle.list_versions.specs.Quads.{quads_of, begins_with, IsFrom};
+ghost use Rattle.list_versions.specs.Quads.{quads_of, is_first_of, IsFrom};
 
 use crate::draft::Draft;
 use crate::lists::{adds_count, same};
@@ -162,7 +162,7 @@ fn from_number(numbers: &[u32], number: u32) -> &[u32]
 
 // Whether a number is the first of a row.
 fn is_first(numbers: &[u32], number: u32) -> bool
-    ensures { result ≡ begins_with number numbers.now }
+    ensures { result ≡ is_first_of number numbers.now }
 {
     match numbers {
         [first, ..] => *first == number,

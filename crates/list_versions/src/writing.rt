@@ -2,7 +2,7 @@ ghost use Rattle.std.specs.Prelude.{◌≡◌, [], ◌∷◌, ◌++◌, length, 
 ghost use Rattle.std.specs.List.{flat_map};
 ghost use Rattle.sb_model.specs.Names.{text_of};
 ghost use Rattle.list_versions.specs.Lines.{newline};
-ghost use Rattle.list_versions.specs.Written.{header_line, list_line, change_line, add_line, remove_line, change_text};
+ghost use Rattle.list_versions.specs.Written.{header_line, declaration_line, change_line, add_line, remove_line, change_text};
 
 use crate::Header;
 use hash_prefixes::append_hex;
@@ -36,7 +36,7 @@ pub fn push_header(page: &mut Bytes, header: Header) -> Result<(), OutOfMemory>
 /// Appends the line that declares a list with a prefix size in bytes. After an `Err` the page begins
 /// as it was.
 pub fn push_list(page: &mut Bytes, name: ListName, size: u8) -> Result<(), OutOfMemory>
-    ensures ok { OnOk result (page.new ≡ page.old ++ list_line (name, size)) }
+    ensures ok { OnOk result (page.new ≡ page.old ++ declaration_line (name, size)) }
     ensures front { OnErr result (take (length page.old) page.new ≡ page.old) }
 {
     page.append(b"list ")?;

@@ -17,7 +17,7 @@ use Rattle.url_canon.specs.Url.{Url}
 use Rattle.url_canon.specs.declared.fault.UrlFault.{UrlFault}
 use Rattle.lookup_messages.specs.Messages.{AskedUrls}
 use Rattle.lookup_messages.specs.declared.response.LookupMatch.{LookupMatch}
-use Rattle.lookup_messages.specs.Lookups.{canonical_of_asked, asks_list, lists_asked, match_of, matches_of_url, lookup_matches, IsLookupMatch, is_url, is_match}
+use Rattle.lookup_messages.specs.Lookups.{canonical_of_asked, looks_up_list, lists_looked_up, match_of, matches_of_url, lookup_matches, IsLookupMatch, is_url, is_match}
 use Rattle.lookup_messages.proofs.Memberships.{cases, nothing, in_filter}
 
 -- ---- names that are the same
@@ -151,33 +151,33 @@ of_other has lists cache found url (Ok canonical) other =
 of_other has lists cache found url (Err fault) other = refl
 
 of_itself : (has : ListName → Url → Bool) (lists : List ListName) (cache : ℕ) (asked : AskedUrls) (found : LookupMatch) (h : IsLookupMatch has lists cache asked found) → AllPairs (λ (a b : ListName). a ≢ b) lists
-    → count_by (is_match found) (matches_of_url has (lists_asked lists asked) cache found.url (Ok h.canonical)) ≡ 1
+    → count_by (is_match found) (matches_of_url has (lists_looked_up lists asked) cache found.url (Ok h.canonical)) ≡ 1
 of_itself has lists cache asked found h once =
     let test : ListName → Bool = λ (list : ListName). has list h.canonical in
     count_of_map (match_of cache found.url) (is_match found) (same_name found.name)
     (λ list. first_decides (same_name found.name list) _ _ (url_itself found.url) (eq-eqb found.cache (cache * 1000000000) h.cache_told))
-    (filter (λ (list : ListName). has list h.canonical) (lists_asked lists asked))
-    ∙ count_of_once found.name (filter (λ (list : ListName). has list h.canonical) (lists_asked lists asked))
-    (AllPairs-filter (λ (a b : ListName). a ≢ b) (λ (list : ListName). has list h.canonical) (lists_asked lists asked) (AllPairs-filter (λ (a b : ListName). a ≢ b) (asks_list asked) lists once))
-    (in_filter (λ (list : ListName). has list h.canonical) (lists_asked lists asked) found.name (in_filter (asks_list asked) lists found.name h.list_given h.list_asked) h.has_url)
+    (filter (λ (list : ListName). has list h.canonical) (lists_looked_up lists asked))
+    ∙ count_of_once found.name (filter (λ (list : ListName). has list h.canonical) (lists_looked_up lists asked))
+    (AllPairs-filter (λ (a b : ListName). a ≢ b) (λ (list : ListName). has list h.canonical) (lists_looked_up lists asked) (AllPairs-filter (λ (a b : ListName). a ≢ b) (looks_up_list asked) lists once))
+    (in_filter (λ (list : ListName). has list h.canonical) (lists_looked_up lists asked) found.name (in_filter (looks_up_list asked) lists found.name h.list_given h.list_asked) h.has_url)
 
 of_url : (has : ListName → Url → Bool) (lists : List ListName) (cache : ℕ) (asked : AskedUrls) (found : LookupMatch) → IsLookupMatch has lists cache asked found → AllPairs (λ (a b : ListName). a ≢ b) lists
-    → (url : List ℕ) → count_by (is_match found) (matches_of_url has (lists_asked lists asked) cache url (canonical_of_asked url)) ≡ cond (is_url found.url url) 1 0
+    → (url : List ℕ) → count_by (is_match found) (matches_of_url has (lists_looked_up lists asked) cache url (canonical_of_asked url)) ≡ cond (is_url found.url url) 1 0
 of_url has lists cache asked found h once url = go (is_url found.url url) refl
   where
     counted : List ℕ → ℕ
-    counted text = count_by (is_match found) (matches_of_url has (lists_asked lists asked) cache text (canonical_of_asked text))
+    counted text = count_by (is_match found) (matches_of_url has (lists_looked_up lists asked) cache text (canonical_of_asked text))
 
     at_itself : counted found.url ≡ 1
     at_itself =
-        subst (λ (r : Result Url UrlFault). count_by (is_match found) (matches_of_url has (lists_asked lists asked) cache found.url r) ≡ 1) (sym h.canonical_form)
+        subst (λ (r : Result Url UrlFault). count_by (is_match found) (matches_of_url has (lists_looked_up lists asked) cache found.url r) ≡ 1) (sym h.canonical_form)
         (of_itself has lists cache asked found h once)
 
     go : (same : Bool) → is_url found.url url ≡ same → counted url ≡ cond same 1 0
     go true e = subst (λ (text : List ℕ). counted text ≡ 1) ((bytes_eq-Decides found.url url).0 e) at_itself
-    go false e = of_other has (lists_asked lists asked) cache found url (canonical_of_asked url) e
+    go false e = of_other has (lists_looked_up lists asked) cache found url (canonical_of_asked url) e
 
 pub as_often_as_asked : (has : ListName → Url → Bool) (lists : List ListName) (cache : ℕ) (asked : AskedUrls) (found : LookupMatch) → AllPairs (λ (a b : ListName). a ≢ b) lists
     → IsLookupMatch has lists cache asked found → count_by (is_match found) (lookup_matches has lists cache asked) ≡ count_by (is_url found.url) asked.urls
 as_often_as_asked has lists cache asked found once h =
-    count_of_each (λ (url : List ℕ). matches_of_url has (lists_asked lists asked) cache url (canonical_of_asked url)) (is_match found) (is_url found.url) (of_url has lists cache asked found h once) asked.urls
+    count_of_each (λ (url : List ℕ). matches_of_url has (lists_looked_up lists asked) cache url (canonical_of_asked url)) (is_match found) (is_url found.url) (of_url has lists cache asked found h once) asked.urls

@@ -2,7 +2,7 @@
 use Rattle.std.proofs.Common.{ℕ, ◌+◌, ◌==◌, ◌≤◌, Bool, true, false, if◌then◌else◌, List, [], ◌∷◌, Some, None, arith}
 use Rattle.serde_json.specs.Data.{Data, Members, no_members, member, depth, members_depth}
 use Rattle.sb_members.specs.Laws.{NestAsValues}
-use Rattle.sb_members.specs.Parts.{IsWithin}
+use Rattle.sb_members.specs.Parts.{NestsWithin}
 use Rattle.sb_members.specs.Writing.{text_written, duration_written, unless_bare}
 use Rattle.update_messages.specs.declared.client.ClientInfo.{ClientInfo}
 use Rattle.update_messages.specs.Writing.{client_members}
@@ -21,30 +21,30 @@ use Rattle.lookup_messages.proofs.ResponseAgain.{match_parts, response_parts}
 string_flat : (n : ℕ) → 0 ≤ n
 string_flat n = omega arith
 
-text_flat : (cs : List ℕ) (n : ℕ) → IsWithin n (text_written cs)
+text_flat : (cs : List ℕ) (n : ℕ) → NestsWithin n (text_written cs)
 text_flat [] n = tt
 text_flat (c ∷ cs) n = omega arith
 
-duration_flat : (d n : ℕ) → IsWithin n (duration_written d)
+duration_flat : (d n : ℕ) → NestsWithin n (duration_written d)
 duration_flat d n = chosen (d == 0) _ (omega arith)
   where
-    chosen : (b : Bool) (value : Data) → depth value ≤ n → IsWithin n (if b then None else Some value)
+    chosen : (b : Bool) (value : Data) → depth value ≤ n → NestsWithin n (if b then None else Some value)
     chosen true value h = tt
     chosen false value h = h
 
-bare_depth : (ms : Members) (n : ℕ) → members_depth ms ≤ n → IsWithin (n + 1) (unless_bare ms)
+bare_depth : (ms : Members) (n : ℕ) → members_depth ms ≤ n → NestsWithin (n + 1) (unless_bare ms)
 bare_depth no_members n h = tt
 bare_depth (member k d ms) n h = omega (arith, h)
 
 -- ---- the request
 
-client_depth : NestAsValues → (c : ClientInfo) → IsWithin 4 (unless_bare (client_members c))
+client_depth : NestAsValues → (c : ClientInfo) → NestsWithin 4 (unless_bare (client_members c))
 client_depth nest c = bare_depth (client_members c) 3 (nest (client_parts c) 3 (text_flat c.id 3, (text_flat c.version 3, tt)))
 
 url_depth : NestAsValues → (url : List ℕ) → depth (spec.url_written url) ≤ 1
 url_depth nest url = omega (arith, nest (url_parts url) 0 (string_flat 0, tt))
 
-info_depth : NestAsValues → (m : AskedUrls) → depth (spec.info_written m) ≤ 3
+info_depth : NestAsValues → (m : AskedUrls) → depth (spec.lookup_info_written m) ≤ 3
 info_depth nest m =
     omega (
       arith,

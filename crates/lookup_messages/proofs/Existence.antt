@@ -8,7 +8,7 @@ use Rattle.sb_json.specs.declared.fields.Field.TheVariants as field
 use Rattle.sb_json.specs.declared.faults.FieldFault.{FieldFault}
 use Rattle.sb_json.specs.declared.faults.MessageFault.TheVariants.{TooManyItems}
 use Rattle.update_messages.specs.declared.client.ClientInfo.{ClientInfo}
-use Rattle.sb_members.specs.Lists.{EachReads, ReadsList, fault_of, first, first_of_items, fault_of_list, first_from, in_item, item_count}
+use Rattle.sb_members.specs.Lists.{EachReads, ReadsList, fault_of_row, first, first_of_items, fault_of_list, first_from, in_item, item_count}
 use Rattle.sb_members.specs.Somes.{somes, ReadsSome}
 use Rattle.sb_members.specs.Rows.{threat_row, platform_row, entry_row}
 use Rattle.update_messages.specs.RequestRows.{client_row, client_id_row, client_version_row}
@@ -23,8 +23,8 @@ use Rattle.lookup_messages.specs.declared.response.LookupResponse.{LookupRespons
 use Rattle.lookup_messages.specs.Messages.{AskedUrls, most_urls}
 use Rattle.lookup_messages.specs.RequestRows as request
 use Rattle.lookup_messages.specs.ResponseRows as response
-use Rattle.lookup_messages.specs.Reading.{ReadsOutsideItems, ReadsLookup, ReadsLookupMatch, ReadsLookupResponse}
-use Rattle.lookup_messages.specs.Faults.{faults_outside_items, fault_of_urls, faults_of_lookup, fault_of_lookup, faults_of_lookup_match, fault_of_lookup_match, fault_of_lookup_matches, faults_of_lookup_response, fault_of_lookup_response}
+use Rattle.lookup_messages.specs.Reading.{ReadsLookupOutsideItems, ReadsLookup, ReadsLookupMatch, ReadsLookupResponse}
+use Rattle.lookup_messages.specs.Faults.{lookup_faults_outside_items, fault_of_urls, faults_of_lookup, fault_of_lookup, faults_of_lookup_match, fault_of_lookup_match, fault_of_lookup_matches, faults_of_lookup_response, fault_of_lookup_response}
 use Rattle.lookup_messages.proofs.NoFault.{count_of_each}
 
 -- none of them is there
@@ -37,7 +37,7 @@ all_none [] e = tt
 all_none (None ∷ os) e = (refl, all_none os e)
 all_none (Some f ∷ os) e = absurd (cc e)
 
-row_read : {A : Type 0} (r : Result A FieldFault) → fault_of r ≡ None → (a : A) × (r ≡ Ok a)
+row_read : {A : Type 0} (r : Result A FieldFault) → fault_of_row r ≡ None → (a : A) × (r ≡ Ok a)
 row_read (Ok a) e = (a, refl)
 row_read (Err f) e = absurd (cc e)
 
@@ -49,7 +49,7 @@ object_same f (string s) e h = absurd (cc h)
 object_same f (array ds) e h = absurd (cc h)
 object_same f (object ms) e h = refl
 
-is_object : (f : Field) (d : Data) → fault_of (object_in f d) ≡ None → object_in f d ≡ Ok d
+is_object : (f : Field) (d : Data) → fault_of_row (object_in f d) ≡ None → object_in f d ≡ Ok d
 is_object f d e = let o = row_read (object_in f d) e in object_same f d o.0 o.1
 
 -- a relation that holds for something if there is no fault
@@ -111,9 +111,9 @@ urls_there (Ok ds) e =
 urls_there (Err f) e = absurd (cc e)
 
 -- a message with any URLs
-outside_there : (d : Data) → first (faults_outside_items d) ≡ None → (urls : List (List ℕ)) → (m : AskedUrls) × ReadsOutsideItems d m × (m.urls ≡ urls)
+outside_there : (d : Data) → first (lookup_faults_outside_items d) ≡ None → (urls : List (List ℕ)) → (m : AskedUrls) × ReadsLookupOutsideItems d m × (m.urls ≡ urls)
 outside_there d e urls =
-    let h : AllNone (faults_outside_items d) = all_none (faults_outside_items d) e in
+    let h : AllNone (lookup_faults_outside_items d) = all_none (lookup_faults_outside_items d) e in
     let client = client_there (client_row d) h.1.0 in
     let threats = somes_there find.asked_threat_row (find.in_info find.threats_row d) h.1.1.0 in
     let platforms = somes_there find.asked_platform_row (find.in_info find.platforms_row d) h.1.1.1.0 in
@@ -135,7 +135,7 @@ outside_there d e urls =
       refl,
     )
 
-with_urls : (d : Data) (m : AskedUrls) (urls : List (List ℕ)) → ReadsOutsideItems d m → m.urls ≡ urls → length urls ≤ most_urls
+with_urls : (d : Data) (m : AskedUrls) (urls : List (List ℕ)) → ReadsLookupOutsideItems d m → m.urls ≡ urls → length urls ≤ most_urls
     → ReadsList (ReadsAs request.url_row) (find.in_info request.urls_row d) urls → ReadsLookup d m
 with_urls d m urls h same few reads = record {
   outside = h;
@@ -158,7 +158,7 @@ match_there d e =
     let threat = row_read (threat_row d) h.1.0 in
     let platform = row_read (platform_row d) h.1.1.0 in
     let entry = row_read (entry_row d) h.1.1.1.0 in
-    let url = row_read (response.url_row d) h.1.1.1.1.0 in
+    let url = row_read (response.found_url_row d) h.1.1.1.1.0 in
     let cache = row_read (cache_row d) h.1.1.1.1.1.0 in (
       record {
         name = record { threat = threat.0; platform = platform.0; entry = entry.0 };

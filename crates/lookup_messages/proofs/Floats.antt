@@ -47,7 +47,7 @@ client_none none c = bare_none (client_members c) (none (client_parts c) (text_n
 url_none : FloatAsValues → (url : List ℕ) → has_float (spec.url_written url) ≡ false
 url_none none url = none (url_parts url) (refl, tt)
 
-info_none : FloatAsValues → (m : AskedUrls) → has_float (spec.info_written m) ≡ false
+info_none : FloatAsValues → (m : AskedUrls) → has_float (spec.lookup_info_written m) ≡ false
 info_none none m =
     none (info_parts m) (
       list_none platform_written (λ p. refl) m.platforms,

@@ -4,7 +4,7 @@ use Rattle.serde_json.specs.Data.{Data, Items, no_items, item}
 use Rattle.sb_json.specs.declared.faults.FieldFault.{FieldFault}
 use Rattle.sb_json.specs.declared.faults.MessageFault.{MessageFault}
 use Rattle.update_messages.specs.declared.client.ClientInfo.{ClientInfo}
-use Rattle.sb_members.specs.Lists.{EachReads, ReadsList, fault_of, first, first_of_items, fault_of_list, first_from, in_item, item_count}
+use Rattle.sb_members.specs.Lists.{EachReads, ReadsList, fault_of_row, first, first_of_items, fault_of_list, first_from, in_item, item_count}
 use Rattle.sb_members.specs.Somes.{ReadsSome}
 use Rattle.update_messages.specs.Reading.{ReadsClient}
 use Rattle.update_messages.specs.Faults.{faults_of_client}
@@ -14,10 +14,10 @@ use Rattle.lookup_messages.specs.declared.response.LookupMatch.{LookupMatch}
 use Rattle.lookup_messages.specs.declared.response.LookupResponse.{LookupResponse}
 use Rattle.lookup_messages.specs.Messages.{AskedUrls, most_urls}
 use Rattle.lookup_messages.specs.RequestRows.{url_row}
-use Rattle.lookup_messages.specs.Reading.{ReadsOutsideItems, ReadsLookup, ReadsLookupMatch, ReadsLookupResponse}
-use Rattle.lookup_messages.specs.Faults.{faults_outside_items, fault_of_urls, fault_of_lookup, fault_of_lookup_match, fault_of_lookup_matches, fault_of_lookup_response}
+use Rattle.lookup_messages.specs.Reading.{ReadsLookupOutsideItems, ReadsLookup, ReadsLookupMatch, ReadsLookupResponse}
+use Rattle.lookup_messages.specs.Faults.{lookup_faults_outside_items, fault_of_urls, fault_of_lookup, fault_of_lookup_match, fault_of_lookup_matches, fault_of_lookup_response}
 
-passes : {A : Type 0} (r : Result A FieldFault) (a : A) (os : List (Option FieldFault)) → r ≡ Ok a → first (fault_of r ∷ os) ≡ first os
+passes : {A : Type 0} (r : Result A FieldFault) (a : A) (os : List (Option FieldFault)) → r ≡ Ok a → first (fault_of_row r ∷ os) ≡ first os
 passes r a os e = rw e refl
 
 passes_by : {F : Type 0} (o : Option F) (os : List (Option F)) → o ≡ None → first (o ∷ os) ≡ first os
@@ -59,7 +59,7 @@ some_passes : {A : Type 0} (row : Data → Result (Option A) FieldFault) (r : Re
     → first (fault_of_list (fault_by row) r ∷ os) ≡ first os
 some_passes row r xs os h = list_passes row r h.all os h.all_read
 
-outside_clean : (d : Data) (m : AskedUrls) → ReadsOutsideItems d m → first (faults_outside_items d) ≡ None
+outside_clean : (d : Data) (m : AskedUrls) → ReadsLookupOutsideItems d m → first (lookup_faults_outside_items d) ≡ None
 outside_clean d m h =
     passes _ _ _ h.object ∙ passes_by _ _ (client_clean _ m.client h.client)
     ∙ some_passes _ _ m.threats _ h.threats ∙ some_passes _ _ m.platforms _ h.platforms ∙ some_passes _ _ m.entries _ h.entries
@@ -94,7 +94,7 @@ matches_clean : (r : Result Items FieldFault) (xs : List LookupMatch) → ReadsL
 matches_clean (Ok ds) xs h = numbered_clean ReadsLookupMatch fault_of_lookup_match match_clean 1 ds xs h
 matches_clean (Err f) xs h = absurd h
 
-top_clean : {A : Type 0} (r : Result A FieldFault) (a : A) (os : List (Option MessageFault)) → r ≡ Ok a → first (in_item 0 (fault_of r) ∷ os) ≡ first os
+top_clean : {A : Type 0} (r : Result A FieldFault) (a : A) (os : List (Option MessageFault)) → r ≡ Ok a → first (in_item 0 (fault_of_row r) ∷ os) ≡ first os
 top_clean r a os e = rw e refl
 
 pub response_clean : (d : Data) (m : LookupResponse) → ReadsLookupResponse d m → fault_of_lookup_response d ≡ None

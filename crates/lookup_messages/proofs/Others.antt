@@ -12,7 +12,7 @@ use Rattle.hash_messages.specs.Others.{IsWithoutNothing}
 use Rattle.lookup_messages.specs.Messages.{AskedUrls}
 use Rattle.lookup_messages.specs.RequestRows.{url_row}
 use Rattle.lookup_messages.specs.Reading.{ReadsLookup}
-use Rattle.lookup_messages.specs.Others.{IsWithoutOthers}
+use Rattle.lookup_messages.specs.Others.{IsLookupWithoutOthers}
 
 -- those that are something
 abbrev kept : {A : Type 0} → List (Option A) → List (Option A)
@@ -44,7 +44,7 @@ some_without row r others xs e h = record {
   kept = h.kept ∙ same_somes h.all;
 }
 
-pub request_without : (value other : Data) (message : AskedUrls) → IsWithoutOthers value other → ReadsLookup value message → ReadsLookup other message
+pub request_without : (value other : Data) (message : AskedUrls) → IsLookupWithoutOthers value other → ReadsLookup value message → ReadsLookup other message
 request_without value other message same h = record {
   outside = record {
     object = same.object;

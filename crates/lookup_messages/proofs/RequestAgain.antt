@@ -3,7 +3,7 @@ use Rattle.std.proofs.Common.{◌≡◌, ℕ, List, [], ◌∷◌, map, Option, 
 use Rattle.std.specs.Str.{chars}
 use Rattle.serde_json.specs.Data.{Data, null, object, Members, no_members, member, string}
 use Rattle.serde_json.specs.View.{items_of}
-use Rattle.sb_json.specs.Values.{◌>>=◌, text_of}
+use Rattle.sb_json.specs.Values.{◌>>=◌, text_chars_of}
 use Rattle.sb_json.specs.declared.fields.Field.{Field}
 use Rattle.sb_json.specs.declared.fields.Field.TheVariants as field
 use Rattle.sb_json.specs.declared.faults.FieldFault.{FieldFault}
@@ -28,8 +28,8 @@ use Rattle.hash_messages.specs.Writing.{threat_written, platform_written, entry_
 use Rattle.lookup_messages.specs.Messages.{AskedUrls}
 use Rattle.lookup_messages.specs.Ranges.{IsLookupInRange}
 use Rattle.lookup_messages.specs.RequestRows as row
-use Rattle.lookup_messages.specs.Reading.{ReadsOutsideItems, ReadsLookup}
-use Rattle.lookup_messages.specs.Writing.{url_written, info_written, lookup_written}
+use Rattle.lookup_messages.specs.Reading.{ReadsLookupOutsideItems, ReadsLookup}
+use Rattle.lookup_messages.specs.Writing.{url_written, lookup_info_written, lookup_written}
 use Rattle.lookup_messages.proofs.WrittenLists.{list_again, somes_always_again}
 
 abbrev pub client_parts : ClientInfo → Parts
@@ -46,7 +46,7 @@ info_parts m =
     ∷ (field.ThreatTypes, list_written threat_written m.threats) ∷ []
 
 abbrev pub request_parts : AskedUrls → Parts
-request_parts m = (field.Client, unless_bare (client_members m.client)) ∷ (field.ThreatInfo, Some (info_written m)) ∷ []
+request_parts m = (field.Client, unless_bare (client_members m.client)) ∷ (field.ThreatInfo, Some (lookup_info_written m)) ∷ []
 
 -- an object that is left out if it is bare has the same rows
 bare_row : {A : Type 0} (ms : Members) (read : Data → Result A FieldFault) → read null ≡ read (object no_members) → read (or_null ms) ≡ read (object ms)
@@ -69,7 +69,7 @@ client_again law m h = record {
 
 -- ---- a URL
 
-pub text_again : AreReadAgain → (url : List ℕ) → IsText url → text_of field.Url (url_written url) ≡ Ok url
+pub text_again : AreReadAgain → (url : List ℕ) → IsText url → text_chars_of field.Url (url_written url) ≡ Ok url
 text_again law url h =
     ap (λ (r : Result (List ℕ) FieldFault). r >>= λ s. Ok (chars s)) (law.needed.strings field.Url (url_parts url) (encode_utf8_all url) refl)
     ∙ ap (λ (cs : List ℕ). Ok cs) h
@@ -88,7 +88,7 @@ platform_again names p = ap (λ (o : Option PlatformType). Ok o) (names.platform
 entry_again : NamesReadAgain → (e : EntryType) → find.asked_entry_row (entry_written e) ≡ Ok (Some e)
 entry_again names e = ap (λ (o : Option EntryType). Ok o) (names.entry_words e)
 
-info_again : AreReadAgain → (m : AskedUrls) → find.info_row (lookup_written m) ≡ Ok (info_written m)
+info_again : AreReadAgain → (m : AskedUrls) → find.info_row (lookup_written m) ≡ Ok (lookup_info_written m)
 info_again law m = law.needed.objects field.ThreatInfo (request_parts m) (made (info_parts m)) refl
 
 found_in_info : AreReadAgain → (m : AskedUrls) (f : Field) (ds : List Data) → found f (info_parts m) ≡ values_written ds
@@ -109,7 +109,7 @@ urls_again law m h = list_again (ReadsAs row.url_row) url_written IsText (url_ag
 
 -- ---- the whole
 
-outside_again : AreReadAgain → (m : AskedUrls) → IsLookupInRange m → ReadsOutsideItems (lookup_written m) m
+outside_again : AreReadAgain → (m : AskedUrls) → IsLookupInRange m → ReadsLookupOutsideItems (lookup_written m) m
 outside_again law m h = record {
   object = refl;
   client = client_again law m h.client;

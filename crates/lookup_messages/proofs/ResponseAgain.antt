@@ -1,6 +1,6 @@
 -- What is written of a response reads as it.
 use Rattle.std.proofs.Common.{◌≡◌, [], ◌∷◌, map, Some, Ok, refl, ap, ◌∙◌}
-use Rattle.sb_json.specs.Values.{◌>>=◌, text_of}
+use Rattle.sb_json.specs.Values.{◌>>=◌, text_chars_of}
 use Rattle.sb_json.specs.declared.fields.Field.TheVariants as field
 use Rattle.sb_members.specs.Laws.{AreReadAgain}
 use Rattle.sb_members.specs.Parts.{Parts, made}
@@ -28,9 +28,9 @@ match_parts found =
 abbrev pub response_parts : LookupResponse → Parts
 response_parts m = (field.Matches, list_written lookup_match_written m.matches) ∷ []
 
-url_again : AreReadAgain → (found : LookupMatch) → IsText found.url → row.url_row (lookup_match_written found) ≡ Ok found.url
+url_again : AreReadAgain → (found : LookupMatch) → IsText found.url → row.found_url_row (lookup_match_written found) ≡ Ok found.url
 url_again law found h =
-    ap (λ r. r >>= text_of field.Url) (law.needed.objects field.Threat (match_parts found) (made (url_parts found.url)) refl)
+    ap (λ r. r >>= text_chars_of field.Url) (law.needed.objects field.Threat (match_parts found) (made (url_parts found.url)) refl)
     ∙ text_again law found.url h
 
 match_again : AreReadAgain → (found : LookupMatch) → IsLookupMatchInRange found → ReadsLookupMatch (lookup_match_written found) found

@@ -9,7 +9,7 @@ use Rattle.sb_json.specs.declared.faults.FieldFault.{FieldFault}
 use Rattle.sb_members.specs.Lists.{EachReads, ReadsList}
 use Rattle.sb_members.specs.Somes.{somes, ReadsSome}
 use Rattle.sb_members.specs.Writing.{list_written}
-use Rattle.sb_members.specs.Parts.{IsWithin}
+use Rattle.sb_members.specs.Parts.{NestsWithin}
 
 -- one more item that is written after the others
 pub written_more : {A : Type 0} (write : A → Data) (xs : List A) (i : ℕ) (x : A) (vs more : List Value) (v : Value) → i < length xs → x ≡ get_or xs i x → more ≡ vs ++ v ∷ []
@@ -53,6 +53,6 @@ items_depth_of : {A : Type 0} (write : A → Data) (n : ℕ) → ((a : A) → de
 items_depth_of write n one [] = omega arith
 items_depth_of write n one (x ∷ xs) = omega (arith, one x, items_depth_of write n one xs)
 
-pub list_depth : {A : Type 0} (write : A → Data) (n : ℕ) → ((a : A) → depth (write a) ≤ n) → (xs : List A) → IsWithin (n + 1) (list_written write xs)
+pub list_depth : {A : Type 0} (write : A → Data) (n : ℕ) → ((a : A) → depth (write a) ≤ n) → (xs : List A) → NestsWithin (n + 1) (list_written write xs)
 list_depth write n one [] = tt
 list_depth write n one (x ∷ xs) = omega (arith, items_depth_of write n one (x ∷ xs))

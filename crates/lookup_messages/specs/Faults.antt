@@ -5,7 +5,7 @@ use Rattle.sb_json.specs.Faults.{fault_in_item}
 use Rattle.sb_json.specs.declared.faults.FieldFault.{FieldFault}
 use Rattle.sb_json.specs.declared.faults.MessageFault.{MessageFault}
 use Rattle.sb_json.specs.declared.faults.MessageFault.TheVariants.{TooManyItems}
-use Rattle.sb_members.specs.Lists.{fault_of, first, in_item, first_from, item_count}
+use Rattle.sb_members.specs.Lists.{fault_of_row, first, in_item, first_from, item_count}
 use Rattle.sb_members.specs.Rows.{threat_row, platform_row, entry_row}
 use Rattle.update_messages.specs.RequestRows.{root_row, client_row}
 use Rattle.update_messages.specs.Faults.{faults_of_client}
@@ -19,9 +19,9 @@ use Rattle.lookup_messages.specs.ResponseRows as response
 -- ---- the request
 
 -- outside the items, which come after all of these
-abbrev pub faults_outside_items : Data → List (Option FieldFault)
-faults_outside_items value =
-    fault_of (root_row value)
+abbrev pub lookup_faults_outside_items : Data → List (Option FieldFault)
+lookup_faults_outside_items value =
+    fault_of_row (root_row value)
     ∷ first (faults_of_client (client_row value))
     ∷ faults_of_types value
 
@@ -32,7 +32,7 @@ fault_of_urls (Err fault) = Some (fault_in_item fault 0)
 
 abbrev pub faults_of_lookup : Data → List (Option MessageFault)
 faults_of_lookup value =
-    in_item 0 (first (faults_outside_items value))
+    in_item 0 (first (lookup_faults_outside_items value))
     ∷ fault_of_urls (in_info request.urls_row value) ∷ []
 
 abbrev pub fault_of_lookup : Data → Option MessageFault
@@ -42,12 +42,12 @@ fault_of_lookup value = first (faults_of_lookup value)
 
 abbrev pub faults_of_lookup_match : Data → List (Option FieldFault)
 faults_of_lookup_match value =
-    fault_of (match_row value)
-    ∷ fault_of (threat_row value)
-    ∷ fault_of (platform_row value)
-    ∷ fault_of (entry_row value)
-    ∷ fault_of (response.url_row value)
-    ∷ fault_of (cache_row value) ∷ []
+    fault_of_row (match_row value)
+    ∷ fault_of_row (threat_row value)
+    ∷ fault_of_row (platform_row value)
+    ∷ fault_of_row (entry_row value)
+    ∷ fault_of_row (response.found_url_row value)
+    ∷ fault_of_row (cache_row value) ∷ []
 
 abbrev pub fault_of_lookup_match : Data → Option FieldFault
 fault_of_lookup_match value = first (faults_of_lookup_match value)
@@ -58,7 +58,7 @@ fault_of_lookup_matches (Err fault) = Some (fault_in_item fault 0)
 
 abbrev pub faults_of_lookup_response : Data → List (Option MessageFault)
 faults_of_lookup_response value =
-    in_item 0 (fault_of (root_row value))
+    in_item 0 (fault_of_row (root_row value))
     ∷ fault_of_lookup_matches (matches_row value) ∷ []
 
 abbrev pub fault_of_lookup_response : Data → Option MessageFault

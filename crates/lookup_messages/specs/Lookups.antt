@@ -18,12 +18,12 @@ abbrev pub canonical_of_asked : List ℕ → Result Url UrlFault
 canonical_of_asked url = canonical_of (encode_utf8_all url)
 
 -- whether the three types of a list are asked
-abbrev pub asks_list : AskedUrls → ListName → Bool
-asks_list asked list = has_types asked.threats asked.platforms asked.entries list
+abbrev pub looks_up_list : AskedUrls → ListName → Bool
+looks_up_list asked list = has_types asked.threats asked.platforms asked.entries list
 
 -- the lists whose types are asked, in the order in which they are given
-abbrev pub lists_asked : List ListName → AskedUrls → List ListName
-lists_asked lists asked = filter (asks_list asked) lists
+abbrev pub lists_looked_up : List ListName → AskedUrls → List ListName
+lists_looked_up lists asked = filter (looks_up_list asked) lists
 
 -- the match of a URL, as it was asked, with a list, to be kept for so many seconds
 abbrev pub match_of : ℕ → List ℕ → ListName → LookupMatch
@@ -37,7 +37,7 @@ matches_of_url has lists cache url (Err fault) = []
 -- the matches of all URLs, in the order in which they are asked
 abbrev pub lookup_matches : (ListName → Url → Bool) → List ListName → ℕ → AskedUrls → List LookupMatch
 lookup_matches has lists cache asked =
-    flat_map (λ url. matches_of_url has (lists_asked lists asked) cache url (canonical_of_asked url)) asked.urls
+    flat_map (λ url. matches_of_url has (lists_looked_up lists asked) cache url (canonical_of_asked url)) asked.urls
 
 -- the answer to a request
 abbrev pub lookup_answer : (ListName → Url → Bool) → List ListName → ℕ → AskedUrls → LookupResponse
@@ -49,7 +49,7 @@ pub record IsLookupMatch (has : ListName → Url → Bool) (lists : List ListNam
   pub canonical : Url
   pub canonical_form : canonical_of_asked found.url ≡ Ok canonical
   pub list_given : Contains lists found.name
-  pub list_asked : asks_list asked found.name ≡ true
+  pub list_asked : looks_up_list asked found.name ≡ true
   pub has_url : has found.name canonical ≡ true
   pub cache_told : found.cache ≡ cache * 1000000000
 

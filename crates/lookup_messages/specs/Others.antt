@@ -8,7 +8,7 @@ use Rattle.lookup_messages.specs.RequestRows.{urls_row}
 
 -- The other value has the same client and URLs, and of the types all but those that are no names of the tables, in
 -- their order.
-pub record IsWithoutOthers (value other : Data) : Type 0 where
+pub record IsLookupWithoutOthers (value other : Data) : Type 0 where
   pub object : root_row other ≡ Ok other
   pub client : client_row other ≡ client_row value
   pub threats : IsWithoutNothing find.asked_threat_row (find.in_info find.threats_row value) (find.in_info find.threats_row other)

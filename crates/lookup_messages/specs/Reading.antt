@@ -17,7 +17,7 @@ use Rattle.lookup_messages.specs.declared.response.LookupResponse.{LookupRespons
 -- ---- the request
 
 -- what a request has outside its items
-pub record ReadsOutsideItems (value : Data) (message : AskedUrls) : Type 0 where
+pub record ReadsLookupOutsideItems (value : Data) (message : AskedUrls) : Type 0 where
   pub object : root_row value ≡ Ok value
   pub client : ReadsClient (client_row value) message.client
   pub threats : ReadsSomeBy find.asked_threat_row (find.in_info find.threats_row value) message.threats
@@ -25,7 +25,7 @@ pub record ReadsOutsideItems (value : Data) (message : AskedUrls) : Type 0 where
   pub entries : ReadsSomeBy find.asked_entry_row (find.in_info find.entries_row value) message.entries
 
 pub record ReadsLookup (value : Data) (message : AskedUrls) : Type 0 where
-  pub outside : ReadsOutsideItems value message
+  pub outside : ReadsLookupOutsideItems value message
   pub few : length message.urls ≤ most_urls
   pub urls : ReadsEach request.url_row (find.in_info request.urls_row value) message.urls
 
@@ -36,7 +36,7 @@ pub record ReadsLookupMatch (value : Data) (found : LookupMatch) : Type 0 where
   pub threat : threat_row value ≡ Ok found.name.threat
   pub platform : platform_row value ≡ Ok found.name.platform
   pub entry : entry_row value ≡ Ok found.name.entry
-  pub url : response.url_row value ≡ Ok found.url
+  pub url : response.found_url_row value ≡ Ok found.url
   pub cache : cache_row value ≡ Ok found.cache
 
 pub record ReadsLookupResponse (value : Data) (message : LookupResponse) : Type 0 where

@@ -3,7 +3,7 @@
 -- three lists of types come next, and are read as in a find request.
 use Rattle.std.specs.Prelude.{ℕ, List, Result}
 use Rattle.serde_json.specs.Data.{Data, Items}
-use Rattle.sb_json.specs.Values.{◌>>=◌, object_in, text_of}
+use Rattle.sb_json.specs.Values.{◌>>=◌, object_in, text_chars_of}
 use Rattle.sb_json.specs.declared.fields.Field.TheVariants as field
 use Rattle.sb_json.specs.declared.faults.FieldFault.{FieldFault}
 use Rattle.sb_members.specs.Rows.{items_or_none}
@@ -14,4 +14,4 @@ urls_row info = items_or_none field.ThreatEntries info
 
 -- one of them: an object, whose `url` is a string, which may be empty
 abbrev pub url_row : Data → Result (List ℕ) FieldFault
-url_row entry = object_in field.ThreatEntries entry >>= text_of field.Url
+url_row entry = object_in field.ThreatEntries entry >>= text_chars_of field.Url

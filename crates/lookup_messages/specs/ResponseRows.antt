@@ -3,10 +3,10 @@
 -- list's name stand between an item itself and its `threat`.
 use Rattle.std.specs.Prelude.{ℕ, List, Result}
 use Rattle.serde_json.specs.Data.{Data}
-use Rattle.sb_json.specs.Values.{◌>>=◌, object_of, text_of}
+use Rattle.sb_json.specs.Values.{◌>>=◌, object_of, text_chars_of}
 use Rattle.sb_json.specs.declared.fields.Field.TheVariants as field
 use Rattle.sb_json.specs.declared.faults.FieldFault.{FieldFault}
 
 -- `url` of `threat`, a string, which may be empty: both are needed
-abbrev pub url_row : Data → Result (List ℕ) FieldFault
-url_row found = object_of field.Threat found >>= text_of field.Url
+abbrev pub found_url_row : Data → Result (List ℕ) FieldFault
+found_url_row found = object_of field.Threat found >>= text_chars_of field.Url

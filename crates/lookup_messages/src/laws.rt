@@ -5,7 +5,7 @@ ghost use Rattle.sb_model.specs.declared.names.ListName.{ListName};
 ghost use Rattle.url_canon.specs.Url.{Url};
 ghost use Rattle.lookup_messages.specs.Lookups.{lookup_matches, IsLookupMatch, is_url, is_match};
 ghost use Rattle.lookup_messages.specs.Messages.{AskedUrls};
-ghost use Rattle.lookup_messages.specs.Others.{IsWithoutOthers};
+ghost use Rattle.lookup_messages.specs.Others.{IsLookupWithoutOthers};
 ghost use Rattle.lookup_messages.specs.Reading.{ReadsLookup, ReadsLookupResponse};
 ghost use Rattle.lookup_messages.specs.Faults.{fault_of_lookup, fault_of_lookup_response};
 ghost use Rattle.lookup_messages.specs.Writing.{spelling_of_lookup, spelling_of_lookup_response};
@@ -38,7 +38,7 @@ pub fn lookup_values_read_or_have_a_fault()
 /// Types of no name change nothing of a request: without them its value reads as the same one.
 pub fn unknown_types_change_no_lookup()
     ensures { (value other : Data) (message : AskedUrls)
-        → IsWithoutOthers value other → ReadsLookup value message → ReadsLookup other message }
+        → IsLookupWithoutOthers value other → ReadsLookup value message → ReadsLookup other message }
 {}
 
 /// An answer has a match for each URL that is asked and has a canonical form, and each list among those that are given

@@ -11,8 +11,8 @@ ghost use Rattle.hash_messages.specs.Reading.{ReadsAs, ReadsEach};
 ghost use Rattle.hash_messages.specs.Faults.{fault_by};
 ghost use Rattle.lookup_messages.specs.Messages.{AskedUrls, most_urls};
 ghost use Rattle.lookup_messages.specs.RequestRows as row;
-ghost use Rattle.lookup_messages.specs.Reading.{ReadsOutsideItems, ReadsLookup};
-ghost use Rattle.lookup_messages.specs.Faults.{faults_outside_items, fault_of_urls};
+ghost use Rattle.lookup_messages.specs.Reading.{ReadsLookupOutsideItems, ReadsLookup};
+ghost use Rattle.lookup_messages.specs.Faults.{lookup_faults_outside_items, fault_of_urls};
 ghost use Rattle.lookup_messages.specs.Faults.{fault_of_lookup};
 
 use crate::LookupRequest;
@@ -95,10 +95,10 @@ fn asked_urls(alloc: Global, value: &Value) -> Result<Row<Text>, MessageFault>
 
 /// The request without its URLs.
 fn outside_items(alloc: Global, value: &Value) -> Result<LookupRequest, FieldFault>
-    ensures ok { IfOk result (λ message. ReadsOutsideItems (view value.now) message) }
-    ensures clean { IfOk result (λ _. first (faults_outside_items (view value.now)) ≡ None) }
+    ensures ok { IfOk result (λ message. ReadsLookupOutsideItems (view value.now) message) }
+    ensures clean { IfOk result (λ _. first (lookup_faults_outside_items (view value.now)) ≡ None) }
     ensures err { IfErr result (λ fault. (fault ≡ FieldFault.OutOfMemory)
-        ⊎ (first (faults_outside_items (view value.now)) ≡ Some fault)) }
+        ⊎ (first (lookup_faults_outside_items (view value.now)) ≡ Some fault)) }
 {
     check_object(value, Field::Root)?;
     let client = read_client(alloc, value)?;

@@ -21,8 +21,8 @@ use std::alloc::Global;
 
 /// The URL of an item.
 fn url_of(item: &Value) -> Result<&str, FieldFault>
-    ensures ok { IfOk result (λ url. row.url_row (view item.now) ≡ Ok (chars url.now)) }
-    ensures err { IfErr result (λ fault. row.url_row (view item.now) ≡ Err fault) }
+    ensures ok { IfOk result (λ url. row.found_url_row (view item.now) ≡ Ok (chars url.now)) }
+    ensures err { IfErr result (λ fault. row.found_url_row (view item.now) ≡ Err fault) }
 {
     string(object(item, Field::Threat)?, Field::Url)
 }

@@ -21,7 +21,7 @@ use std::alloc::Global;
 use update_messages::client_members;
 
 fn info_value(alloc: Global, message: &LookupRequest) -> Result<Value, OutOfMemory>
-    ensures value { IfOk result (λ value. view value ≡ spec.info_written message.now) }
+    ensures value { IfOk result (λ value. view value ≡ spec.lookup_info_written message.now) }
     ensures range { IfOk result (λ _. All IsText message.now.urls) }
 {
     let mut members = Map::new(alloc);

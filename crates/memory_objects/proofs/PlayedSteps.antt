@@ -5,14 +5,14 @@ use Rattle.std.proofs.lemmas.List.{drop-drop}
 use Rattle.std.specs.Option.{option_map}
 use Rattle.sb_outside.specs.Outside.{raised, IfTold}
 use Rattle.sb_outside.specs.Sessions.{with_received, last_changed, on_last-push}
-use Rattle.memory_objects.specs.Plays.{SessionInMemory, LinkInMemory, log_of, after_bytes}
+use Rattle.memory_objects.specs.Plays.{SessionInMemory, LinkInMemory, log_of, after_giving}
 use Rattle.sb_outside.specs.declared.links.Session.{Session}
 
 -- the next bytes are received
 pub received_next : (before : SessionInMemory) (session : Session) (gives sent bytes failing : List ℕ) (k n room calls asks : ℕ)
     → record { session = record session { sent = sent; received = take k gives }; left = drop k gives; room = room; failing = failing; calls = calls; asks = asks } ≡ record before { calls = raised before.calls }
     → bytes ≡ take n (drop k gives) → length bytes ≡ n
-    → record { session = record session { sent = sent; received = take (k + n) gives }; left = drop (k + n) gives; room = room; failing = failing; calls = calls; asks = asks } ≡ after_bytes bytes before
+    → record { session = record session { sent = sent; received = take (k + n) gives }; left = drop (k + n) gives; room = room; failing = failing; calls = calls; asks = asks } ≡ after_giving bytes before
 received_next before session gives sent bytes failing k n room calls asks view front count =
     let whole : take (k + n) gives ≡ take k gives ++ bytes = take-add k n gives ∙ ap (λ bs. take k gives ++ bs) (sym front) in
     let rest : drop (k + n) gives ≡ drop (length bytes) (drop k gives) = sym (drop-drop n k gives) ∙ ap (λ i. drop i (drop k gives)) (sym count) in

@@ -18,12 +18,12 @@ abbrev pub failure_at : ℕ → List KeepFailure → Option Remains
 failure_at call failures = option_map (λ failure. failure.remains) (find (λ failure. failure.call == call) failures)
 
 -- what is kept after a replacement that failed, of the text before and the new one
-abbrev pub kept_after : Remains → Option (List ℕ) → List ℕ → Option (List ℕ)
-kept_after Old before text = before
-kept_after New before text = Some text
-kept_after (Front n) before text = Some (take n text)
+abbrev pub text_kept_after : Remains → Option (List ℕ) → List ℕ → Option (List ℕ)
+text_kept_after Old before text = before
+text_kept_after New before text = Some text
+text_kept_after (Front n) before text = Some (take n text)
 
 -- what is kept after a replacement, where it may have failed
 abbrev pub kept_next : Option Remains → Option (List ℕ) → List ℕ → Option (List ℕ)
 kept_next None before text = Some text
-kept_next (Some remains) before text = kept_after remains before text
+kept_next (Some remains) before text = text_kept_after remains before text

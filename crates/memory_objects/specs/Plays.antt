@@ -49,17 +49,17 @@ past_of entries past None = past
 past_of entries past (Some last) = logged entries past last.session
 
 -- a session begins where one comes whose call 1 does not fail
-abbrev pub CanBegin : List PlayInMemory → Type 0
-CanBegin [] = ⊥
-CanBegin (play ∷ plays) = ¬ Contains play.failing 1
+abbrev pub CanBeginSession : List PlayInMemory → Type 0
+CanBeginSession [] = ⊥
+CanBeginSession (play ∷ plays) = ¬ Contains play.failing 1
 
 -- the session began, and is not closed
-abbrev pub is_open : Session → Bool
-is_open session = session.began && is_none session.closed
+abbrev pub is_session_open : Session → Bool
+is_session_open session = session.began && is_none session.closed
 
 -- a call of a session does what it is asked where the session is open and the call is not listed
 abbrev pub CanCall : SessionInMemory → Type 0
-CanCall played = IsTrue (is_open played.session) × ¬ Contains played.failing (raised played.calls)
+CanCall played = IsTrue (is_session_open played.session) × ¬ Contains played.failing (raised played.calls)
 
 -- and bytes are sent where they have room
 abbrev pub CanSend : ℕ → SessionInMemory → Type 0
@@ -70,16 +70,16 @@ abbrev pub after_call : (Session → Session) → SessionInMemory → SessionInM
 after_call change played = record played { session = change played.session; calls = raised played.calls }
 
 -- a session after it gave these bytes, and after it was closed
-abbrev pub after_bytes : List ℕ → SessionInMemory → SessionInMemory
-after_bytes bytes played = record (after_call (with_received bytes) played) { left = drop (length bytes) played.left }
+abbrev pub after_giving : List ℕ → SessionInMemory → SessionInMemory
+after_giving bytes played = record (after_call (with_received bytes) played) { left = drop (length bytes) played.left }
 
 abbrev pub closed_at : Moment → SessionInMemory → SessionInMemory
 closed_at at played = record played { session = with_close at played.session }
 
 -- a session is answered once it was asked so often, and no session is not open for an answer
-abbrev pub is_answered : Option SessionInMemory → Bool
-is_answered None = true
-is_answered (Some played) = played.asks == 0
+abbrev pub is_session_answered : Option SessionInMemory → Bool
+is_session_answered None = true
+is_session_answered (Some played) = played.asks == 0
 
 abbrev pub after_ask : SessionInMemory → SessionInMemory
 after_ask played = record played { asks = played.asks - 1 }

@@ -1,6 +1,6 @@
 -- The wire and the door in memory, as contracts see them.
 use Rattle.std.specs.Prelude.{ℕ, List, [], Option}
-use Rattle.sb_outside.specs.Connections.{pieces_of}
+use Rattle.sb_outside.specs.Connections.{pieces_of_wire}
 use Rattle.sb_outside.specs.declared.doors.Connection.{Connection}
 
 -- a wire in memory, which gives some bytes and then the end of input
@@ -25,7 +25,7 @@ pub record WireInMemory : Type 0 where
 
 -- the wire as its door hands it out: with its number, and with nothing given, written or counted
 abbrev pub fresh : ℕ → WireInMemory → WireInMemory
-fresh number wire = record wire { number = number; left = pieces_of wire.sends; written = []; reads = 0; writes = 0; read_faults = 0; write_faults = 0 }
+fresh number wire = record wire { number = number; left = pieces_of_wire wire.sends; written = []; reads = 0; writes = 0; read_faults = 0; write_faults = 0 }
 
 -- a door in memory
 pub record DoorInMemory : Type 0 where

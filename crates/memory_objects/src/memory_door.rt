@@ -1,7 +1,7 @@
 ghost use Rattle.std.specs.Prelude.{◌≡◌, ℕ, ◌≤◌, ◌↔◌, List, [], ◌∷◌, map, length, Option, Some, None, IsErr, IfSome, IfNone, IfOk, OnOk, OnErr, Contains};
 ghost use Rattle.std.specs.Option.{option_map};
 ghost use Rattle.sb_outside.specs.Outside.{Rose, IfTold, raised, with_entry};
-ghost use Rattle.sb_outside.specs.Connections.{open_connection, connected, TakesFirst, Returns, pieces_of};
+ghost use Rattle.sb_outside.specs.Connections.{open_connection, connected, TakesFirst, Returns, pieces_of_wire};
 ghost use Rattle.memory_objects.specs.Logs.{logged};
 ghost use Rattle.memory_objects.specs.Wires.{DoorInMemory, fresh};
 
@@ -134,7 +134,7 @@ impl Door for MemoryDoor {
 
     ghost log = { λ s. s.log };
 
-    ghost coming = { λ s. Some (map (λ wire. pieces_of wire.sends) s.coming) };
+    ghost coming = { λ s. Some (map (λ wire. pieces_of_wire wire.sends) s.coming) };
 
     fn next(&mut self) -> Result<Option<MemoryWire>, Failed>
         ensures listed { IsErr result ↔ Contains self.old.failing (raised self.old.calls) }
@@ -161,19 +161,19 @@ impl Door for MemoryDoor {
         ensures nothing_written { IfOk result (λ next. IfSome next (λ wire.
             IfTold (Some wire.written) (Some []))) }
         ensures first { IfOk result (λ next. IfSome next (λ wire.
-            TakesFirst (Some (map (λ wire. pieces_of wire.sends) self.old.coming))
-            (Some (map (λ wire. pieces_of wire.sends) self.new.coming)) (Some (pieces_of wire.sends)) (Some wire.left))) }
+            TakesFirst (Some (map (λ wire. pieces_of_wire wire.sends) self.old.coming))
+            (Some (map (λ wire. pieces_of_wire wire.sends) self.new.coming)) (Some (pieces_of_wire wire.sends)) (Some wire.left))) }
         ensures opened { IfOk result (λ next. IfSome next (λ wire.
             IfTold self.new.log (with_entry self.old.log open_connection))) }
         ensures none { (result ≡ Ok None)
-            → IfTold (Some (map (λ wire. pieces_of wire.sends) self.old.coming)) (Some []) }
+            → IfTold (Some (map (λ wire. pieces_of_wire wire.sends) self.old.coming)) (Some []) }
         ensures none_log { (result ≡ Ok None) → self.new.log ≡ self.old.log }
         ensures none_coming { (result ≡ Ok None)
-            → Some (map (λ wire. pieces_of wire.sends) self.new.coming)
-            ≡ Some (map (λ wire. pieces_of wire.sends) self.old.coming) }
+            → Some (map (λ wire. pieces_of_wire wire.sends) self.new.coming)
+            ≡ Some (map (λ wire. pieces_of_wire wire.sends) self.old.coming) }
         ensures err_log { OnErr result (self.new.log ≡ self.old.log) }
-        ensures err_coming { OnErr result (Some (map (λ wire. pieces_of wire.sends) self.new.coming)
-            ≡ Some (map (λ wire. pieces_of wire.sends) self.old.coming)) }
+        ensures err_coming { OnErr result (Some (map (λ wire. pieces_of_wire wire.sends) self.new.coming)
+            ≡ Some (map (λ wire. pieces_of_wire wire.sends) self.old.coming)) }
     {
         self.calls = self.calls.saturating_add(1);
         if self.failing.as_slice().contains(&self.calls) {
@@ -210,19 +210,19 @@ impl Door for MemoryDoor {
         ensures nothing_written { IfOk result (λ arrival. IfSome (connected arrival) (λ wire.
             IfTold (Some wire.written) (Some []))) }
         ensures first { IfOk result (λ arrival. IfSome (connected arrival) (λ wire.
-            TakesFirst (Some (map (λ wire. pieces_of wire.sends) self.old.coming))
-            (Some (map (λ wire. pieces_of wire.sends) self.new.coming)) (Some (pieces_of wire.sends)) (Some wire.left))) }
+            TakesFirst (Some (map (λ wire. pieces_of_wire wire.sends) self.old.coming))
+            (Some (map (λ wire. pieces_of_wire wire.sends) self.new.coming)) (Some (pieces_of_wire wire.sends)) (Some wire.left))) }
         ensures opened { IfOk result (λ arrival. IfSome (connected arrival) (λ wire.
             IfTold self.new.log (with_entry self.old.log open_connection))) }
         ensures none { IfOk result (λ arrival. arrival ≡ Arrival.NoMore
-            → IfTold (Some (map (λ wire. pieces_of wire.sends) self.old.coming)) (Some [])) }
+            → IfTold (Some (map (λ wire. pieces_of_wire wire.sends) self.old.coming)) (Some [])) }
         ensures same_log { IfOk result (λ arrival. connected arrival ≡ None → self.new.log ≡ self.old.log) }
         ensures same_coming { IfOk result (λ arrival. connected arrival ≡ None
-            → Some (map (λ wire. pieces_of wire.sends) self.new.coming)
-            ≡ Some (map (λ wire. pieces_of wire.sends) self.old.coming)) }
+            → Some (map (λ wire. pieces_of_wire wire.sends) self.new.coming)
+            ≡ Some (map (λ wire. pieces_of_wire wire.sends) self.old.coming)) }
         ensures err_log { OnErr result (self.new.log ≡ self.old.log) }
-        ensures err_coming { OnErr result (Some (map (λ wire. pieces_of wire.sends) self.new.coming)
-            ≡ Some (map (λ wire. pieces_of wire.sends) self.old.coming)) }
+        ensures err_coming { OnErr result (Some (map (λ wire. pieces_of_wire wire.sends) self.new.coming)
+            ≡ Some (map (λ wire. pieces_of_wire wire.sends) self.old.coming)) }
     {
         self.calls = self.calls.saturating_add(1);
         if self.failing.as_slice().contains(&self.calls) {
@@ -242,9 +242,9 @@ impl Door for MemoryDoor {
         ensures after { self.new ≡ record self.old { log = self.new.log } }
 
         ensures kept { self.new.faults ≡ self.old.faults }
-        ensures coming { Some (map (λ wire. pieces_of wire.sends) self.new.coming)
-            ≡ Some (map (λ wire. pieces_of wire.sends) self.old.coming) }
-        ensures entry { Returns self.old.log self.new.log wire.number (Some (pieces_of wire.sends))
+        ensures coming { Some (map (λ wire. pieces_of_wire wire.sends) self.new.coming)
+            ≡ Some (map (λ wire. pieces_of_wire wire.sends) self.old.coming) }
+        ensures entry { Returns self.old.log self.new.log wire.number (Some (pieces_of_wire wire.sends))
             (Some wire.left) (Some wire.written) wire.read_faults wire.write_faults }
     {
         let number = wire.number();

@@ -2,7 +2,7 @@ ghost use Rattle.std.specs.Prelude.{◌≡◌, ◌≢◌, ℕ, ◌≤◌, List, 
 ghost use Rattle.std.specs.Option.{option_map, option_or};
 ghost use Rattle.sb_outside.specs.Outside.{Rose, IfTold, raised, with_entry};
 ghost use Rattle.sb_outside.specs.Keeping.{IsTorn};
-ghost use Rattle.memory_objects.specs.KeptTexts.{KeeperInMemory, failure_at, kept_after, kept_next};
+ghost use Rattle.memory_objects.specs.KeptTexts.{KeeperInMemory, failure_at, text_kept_after, kept_next};
 
 use sb_model::{Bytes, OutOfMemory, Row};
 use sb_outside::{KeepFault, Keeper};
@@ -172,7 +172,7 @@ impl Keeper for MemoryKeeper {
         ensures listed { IsErrOf result KeepFault.Failed →
             IsSomeAnd (failure_at (raised self.old.calls) self.old.failing) (λ remains.
             self.new ≡ record self.old {
-              kept = kept_after remains self.old.kept text.now;
+              kept = text_kept_after remains self.old.kept text.now;
               handed = self.old.handed ++ text.now ∷ [];
               calls = raised self.old.calls;
               faults = raised self.old.faults;

@@ -1,6 +1,6 @@
 ghost use Rattle.std.specs.Prelude.{◌≡◌, ℕ, ◌+◌, ◌-◌, ◌^◌, ◌<◌, ◌≤◌, ◌↔◌, ◌⊎◌, min, List, [], ◌++◌, length, take, Some, IsErr, IfOk, OnOk, OnErr, Contains};
 ghost use Rattle.sb_outside.specs.Outside.{Rose, GivesFront, AnswersEnd, SinkSide, SourceSide, raised, next_piece, appended};
-ghost use Rattle.sb_outside.specs.Connections.{IsEntryOf, pieces_of};
+ghost use Rattle.sb_outside.specs.Connections.{IsEntryOf, pieces_of_wire};
 ghost use Rattle.memory_objects.specs.Wires.{WireInMemory, fresh};
 
 use crate::memory_source::copy_front;
@@ -32,14 +32,14 @@ pub struct MemoryWire {
 impl Model for MemoryWire {
     ghost use Rattle.std.specs.Prelude.{◌≡◌, ◌<◌, ◌≤◌, [], drop, length, vec_len, vec_capacity, true, if◌then◌else◌};
     ghost use Rattle.memory_objects.specs.Wires.{WireInMemory};
-    ghost use Rattle.sb_outside.specs.Connections.{pieces_of};
+    ghost use Rattle.sb_outside.specs.Connections.{pieces_of_wire};
 
     ghost Value = { WireInMemory };
 
     ghost view = { λ s. record {
       number = s.number;
       sends = s.sends;
-      left = (if s.has_ended then [] else pieces_of (drop s.given s.sends));
+      left = (if s.has_ended then [] else pieces_of_wire (drop s.given s.sends));
       written = s.written.items;
       room = s.room;
       failing_reads = s.failing_reads;
@@ -68,7 +68,7 @@ impl MemoryWire {
         ensures { IfOk result (λ wire. wire ≡ record {
           number = 0;
           sends = sends;
-          left = pieces_of sends;
+          left = pieces_of_wire sends;
           written = [];
           room = room;
           failing_reads = failing_reads;
@@ -136,7 +136,7 @@ impl MemoryWire {
 
     /// The entry of a log that says what came of the wire. It takes no memory.
     pub(crate) fn into_connection(self) -> Connection
-        ensures { IsEntryOf result (Some (pieces_of self.sends)) (Some self.left) (Some self.written)
+        ensures { IsEntryOf result (Some (pieces_of_wire self.sends)) (Some self.left) (Some self.written)
             self.read_faults self.write_faults }
     {
         let mut given = self.sends;
@@ -158,7 +158,7 @@ impl Source for MemoryWire {
 
     ghost back = { λ s. record {
       number = s.number;
-      start = Some (pieces_of s.sends);
+      start = Some (pieces_of_wire s.sends);
       contents = Some s.written;
       faults = s.write_faults;
     } };
@@ -207,7 +207,7 @@ impl Sink for MemoryWire {
 
     ghost front = { λ s. record {
       number = s.number;
-      start = Some (pieces_of s.sends);
+      start = Some (pieces_of_wire s.sends);
       left = Some s.left;
       faults = s.read_faults;
     } };
@@ -245,11 +245,11 @@ impl Sink for MemoryWire {
 
 impl Wire for MemoryWire {
     ghost use Rattle.std.specs.Prelude.{Some, refl};
-    ghost use Rattle.sb_outside.specs.Connections.{pieces_of};
+    ghost use Rattle.sb_outside.specs.Connections.{pieces_of_wire};
 
     ghost number = { λ s. s.number };
 
-    ghost start = { λ s. Some (pieces_of s.sends) };
+    ghost start = { λ s. Some (pieces_of_wire s.sends) };
 
     ghost back_is = { λ _. refl };
 

@@ -1,7 +1,7 @@
 ghost use Rattle.std.specs.Prelude.{◌≡◌, ℕ, ◌+◌, ◌<◌, ◌≤◌, ◌==◌, ◌↔◌, if◌then◌else◌, min, List, [], length, take, drop, IfOk, IfSome, IsOk, OnOk, OnErr, IsTrue, true, false, Contains};
 ghost use Rattle.sb_outside.specs.Outside.{raised};
 ghost use Rattle.sb_outside.specs.Sessions.{begun_session, refused_session, with_sent, with_end, with_failure};
-ghost use Rattle.memory_objects.specs.Plays.{PlayInMemory, SessionInMemory, is_open, CanCall, CanSend, after_call, after_bytes, after_ask, closed_at};
+ghost use Rattle.memory_objects.specs.Plays.{PlayInMemory, SessionInMemory, is_session_open, CanCall, CanSend, after_call, after_giving, after_ask, closed_at};
 
 use crate::memory_source::copy_front;
 use sb_model::{Bytes, Moment, OutOfMemory, Row};
@@ -196,7 +196,7 @@ impl PlayedSession {
         ensures receives { IsOk result ↔ CanCall self.old }
         ensures count { IfOk result (λ n. n ≡ min (length buffer.new) (min step (length self.old.left))) }
         ensures bytes { IfOk result (λ n. take n buffer.new ≡ take n self.old.left) }
-        ensures ok { IfOk result (λ n. 0 < n → self.new ≡ after_bytes (take n buffer.new) self.old) }
+        ensures ok { IfOk result (λ n. 0 < n → self.new ≡ after_giving (take n buffer.new) self.old) }
         ensures end { IfOk result (λ n. n ≡ 0 → 0 < length buffer.new → self.new ≡ after_call with_end self.old) }
         ensures idle { OnOk result (length buffer.new ≡ 0 → self.new ≡ after_call (λ session. session) self.old) }
         ensures err { OnErr result (self.new ≡ after_call with_failure self.old) }

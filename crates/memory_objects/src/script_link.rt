@@ -3,7 +3,7 @@ ghost use Rattle.std.specs.Option.{option_map};
 ghost use Rattle.sb_outside.specs.Outside.{Rose, IfTold, raised, with_entry};
 ghost use Rattle.sb_outside.specs.Sessions.{begun_session, refused_session, with_sent, with_received, with_end, with_failure, with_close, last_changed};
 ghost use Rattle.memory_objects.specs.Logs.{logged};
-ghost use Rattle.memory_objects.specs.Plays.{PlayInMemory, LinkInMemory, log_of, past_of, CanBegin, CanCall, CanSend, after_call, after_bytes, after_ask, is_answered, closed_at};
+ghost use Rattle.memory_objects.specs.Plays.{PlayInMemory, LinkInMemory, log_of, past_of, CanBeginSession, CanCall, CanSend, after_call, after_giving, after_ask, is_session_answered, closed_at};
 
 use crate::Play;
 use crate::entries::Log;
@@ -97,7 +97,7 @@ impl ScriptLink {
 /// The next session, begun at a moment. It does not begin where none is to be played, and where its first
 /// call fails.
 fn begin_next(coming: &mut VecDeque<Play>, alloc: Global, at: Moment, kind: Kind) -> PlayedSession
-    ensures begins { IsTrue result.session.began ↔ CanBegin coming.old.items }
+    ensures begins { IsTrue result.session.began ↔ CanBeginSession coming.old.items }
     ensures begun { IsTrue result.session.began → result.session ≡ begun_session at kind }
     ensures refused { ¬ IsTrue result.session.began → result.session ≡ refused_session at kind }
     ensures rest { coming.new.items ≡ drop 1 coming.old.items }
@@ -132,7 +132,7 @@ impl Link for ScriptLink {
     ghost log = { log_of };
 
     fn begin(&mut self, at: Moment, kind: Kind) -> Result<(), Failed>
-        ensures begins { IsOk result ↔ CanBegin self.old.coming }
+        ensures begins { IsOk result ↔ CanBeginSession self.old.coming }
         ensures log { log_of self.new ≡ logged self.old.entries (log_of self.old)
             (if is_ok result then begun_session at kind else refused_session at kind) }
         ensures plays { OnOk result ((play : PlayInMemory) × (self.old.coming ≡ play ∷ self.new.coming)
@@ -204,7 +204,7 @@ impl Link for ScriptLink {
     }
 
     fn is_answered(&mut self) -> bool
-        ensures answered { result ≡ is_answered self.old.last }
+        ensures answered { result ≡ is_session_answered self.old.last }
         ensures after { self.new ≡ record self.old { last = option_map after_ask self.old.last } }
 
         ensures faults { self.new.faults ≡ self.old.faults }
@@ -223,7 +223,7 @@ impl Link for ScriptLink {
         ensures count { IfOk result (λ n. IfSome self.old.last (λ played.
             n ≡ min (length buffer.new) (min self.old.step (length played.left)))) }
         ensures some { IfOk result (λ n. 0 < n → self.new ≡ record self.old {
-          last = option_map (after_bytes (take n buffer.new)) self.old.last;
+          last = option_map (after_giving (take n buffer.new)) self.old.last;
         }) }
         ensures front { IfOk result (λ n. IfSome self.old.last (λ played. take n buffer.new ≡ take n played.left)) }
         ensures no_more { IfOk result (λ n. n ≡ 0 → 0 < length buffer.new → self.new ≡ record self.old {

@@ -8,7 +8,7 @@ use Rattle.url_checker.specs.declared.findings.Finding.{Finding}
 use Rattle.url_checker.specs.declared.findings.Checked.{Checked}
 use Rattle.url_checker.specs.declared.findings.Checked.TheVariants.{Found, Refused}
 use Rattle.parallel_checks.specs.Checks.{IsCheckOf, IsCheckOn, GoesOn, AreSeatChecks, of_seat, IsOfSeat}
-use Rattle.parallel_checks.specs.Settled.{HasKept, AreKept, AreAnew, MayStand, IsOnLast, AreSettled}
+use Rattle.parallel_checks.specs.Settled.{NamesKeptPublication, NameKeptPublications, AreAnew, MayStand, IsOnLast, AreSettled}
 use Rattle.parallel_checks.proofs.ListFacts.{set_there, set_other, set_length, as_long, some_same}
 use Rattle.parallel_checks.proofs.LineFacts.{before, apart, less_or, next_is}
 use Rattle.parallel_checks.proofs.CheckFacts.{prefix_whole, check_of, check_on, number_on}
@@ -19,10 +19,10 @@ use Rattle.parallel_checks.proofs.CheckFacts.{prefix_whole, check_of, check_on, 
 pub record KeptTo (all : Publications) (checks : List Checked) (place step index : ℕ) : Type 0 where
   pub turns : ℕ
   pub at : index ≡ min (length checks) (place + turns * step)
-  pub kept : (turn : ℕ) (check : Checked) → turn < turns → of_seat checks step place turn ≡ Some check → HasKept all check
+  pub kept : (turn : ℕ) (check : Checked) → turn < turns → of_seat checks step place turn ≡ Some check → NamesKeptPublication all check
 
 pub one_more_kept : (all : Publications) (checks : List Checked) (place step index next : ℕ) (check : Checked) → KeptTo all checks place step index → index < length checks
-    → slice_get checks index ≡ Some check → HasKept all check → next ≡ min (length checks) (index + step) → KeptTo all checks place step next
+    → slice_get checks index ≡ Some check → NamesKeptPublication all check → next ≡ min (length checks) (index + step) → KeptTo all checks place step next
 one_more_kept all checks place step index next check h i at is e = record {
   turns = h.turns + 1;
   at = next_is index place h.turns step (length checks) next h.at i e;
@@ -31,16 +31,16 @@ one_more_kept all checks place step index next check h i at is e = record {
       (λ (t : h.turns ≤ turn).
       let same : turn ≡ h.turns = omega (arith, t, j) in
       let there : index ≡ place + turn * step = omega (arith, h.at, i, ap (λ (n : ℕ). n * step) same) in
-      subst (HasKept all) (some_same check c (sym at ∙ (ap (slice_get checks) there ∙ got))) is)
+      subst (NamesKeptPublication all) (some_same check c (sym at ∙ (ap (slice_get checks) there ∙ got))) is)
       (less_or turn h.turns);
 }
 
-pub all_are_kept : (all : Publications) (checks : List Checked) (place step index : ℕ) → KeptTo all checks place step index → length checks ≤ index → AreKept all (of_seat checks step place)
+pub all_are_kept : (all : Publications) (checks : List Checked) (place step index : ℕ) → KeptTo all checks place step index → length checks ≤ index → NameKeptPublications all (of_seat checks step place)
 all_are_kept all checks place step index h far turn check got =
     h.kept turn check (before place turn h.turns step (length checks) (slice_get_within checks (place + turn * step) check got) (omega (arith, h.at, far))) got
 
 pub one_is_not : (all : Publications) (checks : List Checked) (place step index : ℕ) (check : Checked) → KeptTo all checks place step index → index < length checks
-    → slice_get checks index ≡ Some check → (HasKept all check → ⊥) → AreKept all (of_seat checks step place) → ⊥
+    → slice_get checks index ≡ Some check → (NamesKeptPublication all check → ⊥) → NameKeptPublications all (of_seat checks step place) → ⊥
 one_is_not all checks place step index check h i at lost kept =
     let there : index ≡ place + h.turns * step = omega (arith, h.at, i) in
     lost (kept h.turns check (ap (slice_get checks) (sym there) ∙ at))
@@ -110,7 +110,7 @@ module _ (all : Publications) (last : Publication) (lines : List (List ℕ)) (no
   numbered turn finding got =
       let on = on_last turn (Found finding) got in ap suc (number_on last on.0 (Found finding) finding refl on.2) ∙ is_last.number
 
-  kept_last : AreKept all (of_seat now step place)
+  kept_last : NameKeptPublications all (of_seat now step place)
   kept_last turn (Found finding) got = record { made = omega (arith, numbered turn finding got); newest = omega (arith, numbered turn finding got) }
   kept_last turn (Refused fault) got = tt
 

@@ -87,9 +87,9 @@ pub record GoOn (earlier later : List Seated) : Type 0 where
   pub each : (place : ℕ) (seat seat' : Seated) → slice_get earlier place ≡ Some seat → slice_get later place ≡ Some seat' → GoesOn seat seat'
 
 -- each seat is one of those of a publisher with these boxes
-abbrev pub AreOf : List TableId → List Seated → Type 0
-AreOf boxes seats = (place : ℕ) (seat : Seated) → slice_get seats place ≡ Some seat → IsOf boxes seat
+abbrev pub AreSeatsOf : List TableId → List Seated → Type 0
+AreSeatsOf boxes seats = (place : ℕ) (seat : Seated) → slice_get seats place ≡ Some seat → IsOf boxes seat
 
 -- Seats later on are of the same publisher.
 abbrev pub SeatsRemain : Type 0
-SeatsRemain = (boxes : List TableId) (earlier later : List Seated) → AreOf boxes earlier → GoOn earlier later → AreOf boxes later
+SeatsRemain = (boxes : List TableId) (earlier later : List Seated) → AreSeatsOf boxes earlier → GoOn earlier later → AreSeatsOf boxes later

@@ -1,6 +1,6 @@
 -- Checks once the publisher has ended: each names a publication that is kept.
 use Rattle.std.specs.Prelude.{◌≡◌, ℕ, suc, true, List, length, slice_get, Option, Some}
-use Rattle.snapshot_publish.specs.Publications.{Publications, Publication, IsKept}
+use Rattle.snapshot_publish.specs.Publications.{Publications, Publication, IsPublicationKept}
 use Rattle.snapshot_publish.specs.Publishing.{Seated}
 use Rattle.url_checker.specs.declared.findings.Checked.{Checked}
 use Rattle.url_checker.specs.declared.findings.Checked.TheVariants.{Found, Refused}
@@ -8,13 +8,13 @@ use Rattle.parallel_checks.specs.Checks.{AreSeatChecks, IsCheckOn, of_seat}
 use Rattle.parallel_checks.specs.declared.running.CheckRun.{CheckRun}
 
 -- the publication that a check names, if it names one, is kept
-abbrev pub HasKept : Publications → Checked → Type 0
-HasKept all (Found finding) = IsKept all finding.number
-HasKept all (Refused fault) = Unit {0}
+abbrev pub NamesKeptPublication : Publications → Checked → Type 0
+NamesKeptPublication all (Found finding) = IsPublicationKept all finding.number
+NamesKeptPublication all (Refused fault) = Unit {0}
 
 -- those of all checks of a seat are
-abbrev pub AreKept : Publications → (ℕ → Option Checked) → Type 0
-AreKept all checks = (turn : ℕ) (check : Checked) → checks turn ≡ Some check → HasKept all check
+abbrev pub NameKeptPublications : Publications → (ℕ → Option Checked) → Type 0
+NameKeptPublications all checks = (turn : ℕ) (check : Checked) → checks turn ≡ Some check → NamesKeptPublication all check
 
 -- each check of a seat is that of its line on this publication
 abbrev pub AreAnew : Publication → (ℕ → Option (List ℕ)) → (ℕ → Option Checked) → Type 0
@@ -24,7 +24,7 @@ AreAnew one lines checks = (turn : ℕ) (line : List ℕ) (check : Checked) → 
 pub record MayStand (all : Publications) (seat : Seated) (checks : ℕ → Option Checked) : Type 0 where
   pub looked : seat.looked ≡ true
   pub whole : length seat.list ≡ length all
-  pub kept : AreKept all checks
+  pub kept : NameKeptPublications all checks
 
 -- the check, if it is a finding, is one on the last publication
 abbrev pub IsOnLast : Publications → Checked → Type 0
@@ -34,7 +34,7 @@ IsOnLast all (Refused fault) = Unit {0}
 -- The checks of a seat's lines, before and after they were settled on these publications.
 pub record AreSettled (all : Publications) (seat : Seated) (lines : ℕ → Option (List ℕ)) (before after : ℕ → Option Checked) : Type 0 where
   pub are : AreSeatChecks all lines after
-  pub kept : AreKept all after
+  pub kept : NameKeptPublications all after
   pub stand : MayStand all seat before → (turn : ℕ) → after turn ≡ before turn
   pub anew : (MayStand all seat before → ⊥) → (turn : ℕ) (check : Checked) → after turn ≡ Some check → IsOnLast all check
 

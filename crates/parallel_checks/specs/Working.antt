@@ -42,6 +42,6 @@ IsWoven rows woven = (place turn : ℕ) (row : List Checked) (check : Checked) �
     → of_seat woven (length rows) place turn ≡ Some check → slice_get row turn ≡ Some check
 
 -- A run of checks with these seats.
-pub record IsRunOf (seats : List Seated) (lines : List (List ℕ)) (run : CheckRun) : Type 0 where
+pub record IsCheckRunOf (seats : List Seated) (lines : List (List ℕ)) (run : CheckRun) : Type 0 where
   pub go_on : GoOn seats run.seats
   pub are : AreChecks run.seats lines run.checks

@@ -1,7 +1,7 @@
 ghost use Rattle.std.specs.Prelude.{◌≡◌, ◌<◌, ◌^◌, ℕ, length, slice_get, Some, IfOk, IfSome, vec_len};
 ghost use Rattle.snapshot_publish.specs.Publishing.{Seated};
 ghost use Rattle.parallel_checks.specs.Checks.{AreChecks, GoOn};
-ghost use Rattle.parallel_checks.specs.Working.{AreJobsOf, AreWorks, AreGathered, IsRunOf};
+ghost use Rattle.parallel_checks.specs.Working.{AreJobsOf, AreWorks, AreGathered, IsCheckRunOf};
 
 use crate::weaving::weave;
 use crate::working::{Job, Worked, work};
@@ -80,7 +80,7 @@ fn run<R: Threads + Sync, G: Gate + Sync>(
 ) -> Result<CheckRun, OutOfMemory>
     requires some { 0 < length seats }
     requires few { length urls.now < 2 ^ 32 }
-    ensures { IfOk result (IsRunOf seats urls.now) }
+    ensures { IfOk result (IsCheckRunOf seats urls.now) }
 {
     let jobs = jobs_of(alloc, seats)?;
     let works = work_all(rt, alloc, gate, urls, jobs)?;
@@ -110,7 +110,7 @@ pub fn check_all<R: Threads + Sync, G: Gate + Sync, T, F: FnMut() -> T>(
     let mut waiting = Some(seats);
     let mut workers = || -> Result<CheckRun, OutOfMemory>
         requires { (length urls.now < 2 ^ 32) × IfSome waiting (λ seats. 0 < length seats) }
-        ensures { IfOk result (λ run. IfSome waiting.entry (λ seats. IsRunOf seats urls.entry.now run)) }
+        ensures { IfOk result (λ run. IfSome waiting.entry (λ seats. IsCheckRunOf seats urls.entry.now run)) }
     {
         match waiting.take() {
             Some(seats) => run(rt, alloc, seats, urls, gate),

@@ -1,8 +1,8 @@
 ghost use Rattle.std.specs.Prelude.{◌≡◌, ◌≢◌, ◌<◌, ℕ, true, length, slice_get, IfOk, OnOk, MatchBool};
 ghost use Rattle.snapshot_publish.specs.Publications.{IsLastOf, IsPrefixOf};
 ghost use Rattle.snapshot_publish.specs.Publishing.{IsOf};
-ghost use Rattle.parallel_checks.specs.Checks.{AreOf, AreChecks, AreSeatChecks, GoesOn, GoOn, of_seat, IsOfSeat};
-ghost use Rattle.parallel_checks.specs.Settled.{HasKept, AreKept, AreAnew, AreSettled, IsSettledRun};
+ghost use Rattle.parallel_checks.specs.Checks.{AreSeatsOf, AreChecks, AreSeatChecks, GoesOn, GoOn, of_seat, IsOfSeat};
+ghost use Rattle.parallel_checks.specs.Settled.{NamesKeptPublication, NameKeptPublications, AreAnew, AreSettled, IsSettledRun};
 
 use crate::CheckRun;
 use crate::lines::next_line;
@@ -24,7 +24,7 @@ fn last_of(publisher: &Publisher) -> Result<Snapshot, OutOfMemory>
 
 // Whether the publication of a check is kept, if it names one.
 fn is_kept(publisher: &Publisher, check: &Checked) -> bool
-    ensures { MatchBool result (HasKept publisher.now.list check.now) (HasKept publisher.now.list check.now → ⊥) }
+    ensures { MatchBool result (NamesKeptPublication publisher.now.list check.now) (NamesKeptPublication publisher.now.list check.now → ⊥) }
 {
     match check {
         Checked::Found(finding) => publisher.published(finding.number).is_some(),
@@ -35,7 +35,7 @@ fn is_kept(publisher: &Publisher, check: &Checked) -> bool
 // Whether each publication that the checks of a seat's lines name is kept.
 fn are_kept(publisher: &Publisher, checks: &[Checked], place: usize, step: usize) -> bool
     requires step { 0 < step }
-    ensures { MatchBool result (AreKept publisher.now.list (of_seat checks.now step place)) (AreKept publisher.now.list (of_seat checks.now step place) → ⊥) }
+    ensures { MatchBool result (NameKeptPublications publisher.now.list (of_seat checks.now step place)) (NameKeptPublications publisher.now.list (of_seat checks.now step place) → ⊥) }
 {
     let mut index = place.min(checks.len());
     while index < checks.len() {
@@ -121,7 +121,7 @@ pub fn settle(
     run: CheckRun,
     urls: &[Bytes],
 ) -> Result<CheckRun, OutOfMemory>
-    requires ours { AreOf publisher.old.boxes run.seats }
+    requires ours { AreSeatsOf publisher.old.boxes run.seats }
     requires checks { AreChecks run.seats urls.now run.checks }
     ensures publisher { publisher.new ≡ publisher.old }
     ensures seats { IfOk result (λ settled. GoOn run.seats settled.seats) }

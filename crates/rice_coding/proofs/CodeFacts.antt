@@ -9,7 +9,7 @@ use Rattle.std.proofs.lemmas.Nat.{mod-pow-add, trailing_le, pow_pos, shl_below, 
 use Rattle.std.proofs.lemmas.Nat.Bits.{bit_at_lowest, bit_at-suc, bit_at_ones, bit_at-trailing_ones}
 use lib.Count.{count_trailing_zeros}
 use Rattle.std.specs.Int.{bit_at, w64, trailing_ones}
-use Rattle.rice_coding.specs.Bits.{low_bits, number_of}
+use Rattle.rice_coding.specs.Bits.{low_bits, number_of_bits}
 use Rattle.rice_coding.specs.Codes.{code}
 use Rattle.rice_coding.specs.Rice.{HasNoCode}
 use Rattle.rice_coding.proofs.BitFacts.{length-low_bits, low_bits_below}
@@ -83,12 +83,12 @@ mod_suc n k =
     ap (λ (m : ℕ). n % 2 ^ m) (sym size) ∙ mod-pow-add n k 1 ∙ omega arith
 
 -- the number of the low bits of a word
-pub number_of_word : (k : ℕ) (bits : List Bool) (n : ℕ) → ((i : ℕ) → i < k → get_or bits i false ≡ eqb (bit_at n i) 1) → k ≤ length bits → number_of (take k bits) ≡ n % 2 ^ k
+pub number_of_word : (k : ℕ) (bits : List Bool) (n : ℕ) → ((i : ℕ) → i < k → get_or bits i false ≡ eqb (bit_at n i) 1) → k ≤ length bits → number_of_bits (take k bits) ≡ n % 2 ^ k
 number_of_word zero bits n same long = omega arith
 number_of_word (suc k) [] n same long = absurd (omega arith)
 number_of_word (suc k) (b ∷ bits) n same long =
     let lowest : b ≡ eqb (n % 2) 1 = same 0 (omega arith) ∙ ap (λ (b : ℕ). eqb b 1) (bit_at_lowest n) in
-    let rest : number_of (take k bits) ≡ n / 2 % 2 ^ k = number_of_word k bits (n / 2) (λ i below. same (suc i) (omega arith) ∙ ap (λ (b : ℕ). eqb b 1) (bit_at-suc n i)) (omega arith) in
+    let rest : number_of_bits (take k bits) ≡ n / 2 % 2 ^ k = number_of_word k bits (n / 2) (λ i below. same (suc i) (omega arith) ∙ ap (λ (b : ℕ). eqb b 1) (bit_at-suc n i)) (omega arith) in
     let first : cond b 1 0 ≡ n % 2 = ap (λ (b : Bool). cond b 1 0) lowest ∙ digit n in
     omega (arith, mod_suc n k)
 
@@ -130,7 +130,7 @@ delta_at-short parameter ones bits rest e short =
     rw (e, test) refl
 
 pub delta_at-some : (parameter ones : ℕ) (bits rest : List Bool) → unary bits ≡ Some (ones, rest) → parameter ≤ length rest
-    → delta_at parameter bits ≡ Some (ones * 2 ^ parameter + number_of (take parameter rest), drop parameter rest)
+    → delta_at parameter bits ≡ Some (ones * 2 ^ parameter + number_of_bits (take parameter rest), drop parameter rest)
 unfolding delta_at
 delta_at-some parameter ones bits rest e long =
     let test : ltb (length rest) parameter ≡ false = grind (arith, nat_tests) in
@@ -141,15 +141,15 @@ pub delta_high : (ones parameter low : ℕ) → 2 ^ 34 ≤ ones → 2 ^ 34 ≤ o
 delta_high ones parameter low high = omega (arith, le-mul_of_pos_right {m = 2 ^ parameter} ones (pow_pos parameter))
 
 -- the low bits fit
-pub number_of-lt : (bits : List Bool) → number_of bits < 2 ^ length bits
+pub number_of-lt : (bits : List Bool) → number_of_bits bits < 2 ^ length bits
 number_of-lt [] = omega arith
 number_of-lt (true ∷ bits) = omega (arith, number_of-lt bits, pow-suc 2 (length bits))
 number_of-lt (false ∷ bits) = omega (arith, number_of-lt bits, pow-suc 2 (length bits))
 
-pub low_lt : (count : ℕ) (bits : List Bool) → count ≤ length bits → number_of (take count bits) < 2 ^ count
+pub low_lt : (count : ℕ) (bits : List Bool) → count ≤ length bits → number_of_bits (take count bits) < 2 ^ count
 low_lt count bits long =
     let size : length (take count bits) ≡ count = length-take-le count bits long in
-    let P : ℕ → Type 0 = λ n. number_of (take count bits) < 2 ^ n in
+    let P : ℕ → Type 0 = λ n. number_of_bits (take count bits) < 2 ^ n in
     subst P size (number_of-lt (take count bits))
 
 -- a quotient below 2 ^ 34 stands whole in a word, above the low bits
@@ -174,7 +174,7 @@ word_code bits word valid k ones fits few same is long room =
     let first : unary bits ≡ Some (ones, rest) =
     unary_some bits ones (λ i below. run_ones bits word valid ones fits same is i (omega arith) below) (omega arith) (run_zero bits word valid ones fits few same is (omega arith)) in
     let left : k ≤ length rest = omega (arith, length-drop (ones + 1) bits) in
-    let low : number_of (take k rest) ≡ word / 2 ^ (ones + 1) % 2 ^ k =
+    let low : number_of_bits (take k rest) ≡ word / 2 ^ (ones + 1) % 2 ^ k =
     number_of_word k rest (word / 2 ^ (ones + 1)) (λ i below.
     get_or-drop (ones + 1) bits i false ∙ same (ones + 1 + i) (omega arith) ∙ ap (λ (b : ℕ). eqb b 1) (bit_at-shr word (ones + 1) i)) left in
     let size : ones + 1 + k ≡ ones + k + 1 = omega arith in
@@ -204,7 +204,7 @@ unary_ones (suc n) bits =
     let size : 1 + n ≡ suc n = omega arith in
     unary-true (replicate n true ++ false ∷ bits) ∙ ap (after_ones 1) (unary_ones n bits) ∙ ap (λ (m : ℕ). Some (m, bits)) size
 
-pub number_of-low_bits : (k n : ℕ) → number_of (low_bits k n) ≡ n % 2 ^ k
+pub number_of-low_bits : (k n : ℕ) → number_of_bits (low_bits k n) ≡ n % 2 ^ k
 number_of-low_bits zero n = omega arith
 number_of-low_bits (suc k) n = omega (arith, number_of-low_bits k (n / 2), digit n, mod_suc n k)
 
@@ -220,9 +220,9 @@ delta_at-code parameter delta left =
     let long : parameter ≤ length (low ++ left) = omega (arith, length-append low left) in
     let front : take parameter (low ++ left) ≡ low = take_at low left parameter size in
     let rest : drop parameter (low ++ left) ≡ left = drop_at low left parameter size in
-    let number : number_of low ≡ delta % 2 ^ parameter = number_of-low_bits parameter delta in
-    let value : delta / 2 ^ parameter * 2 ^ parameter + number_of (take parameter (low ++ left)) ≡ delta =
-    ap (λ (bits : List Bool). delta / 2 ^ parameter * 2 ^ parameter + number_of bits) front ∙ ap (λ (n : ℕ). delta / 2 ^ parameter * 2 ^ parameter + n) number ∙ shr_split delta parameter in
+    let number : number_of_bits low ≡ delta % 2 ^ parameter = number_of-low_bits parameter delta in
+    let value : delta / 2 ^ parameter * 2 ^ parameter + number_of_bits (take parameter (low ++ left)) ≡ delta =
+    ap (λ (bits : List Bool). delta / 2 ^ parameter * 2 ^ parameter + number_of_bits bits) front ∙ ap (λ (n : ℕ). delta / 2 ^ parameter * 2 ^ parameter + n) number ∙ shr_split delta parameter in
     delta_at-some parameter (delta / 2 ^ parameter) ((ones ++ false ∷ low) ++ left) (low ++ left) first long
     ∙ ap (λ (n : ℕ). Some (n, drop parameter (low ++ left))) value ∙ ap (λ (bits : List Bool). Some (delta, bits)) rest
 
@@ -252,25 +252,25 @@ unary_is (true ∷ bits) rest ones e =
     let less = ones_less (unary bits) ones rest (sym (unary-true bits) ∙ e) in
     rw less.1 (ap (λ (bits : List Bool). true ∷ bits) (unary_is bits rest less.0 less.2))
 
-low_bits-number_of : (bits : List Bool) → low_bits (length bits) (number_of bits) ≡ bits
+low_bits-number_of : (bits : List Bool) → low_bits (length bits) (number_of_bits bits) ≡ bits
 low_bits-number_of [] = refl
 low_bits-number_of (true ∷ bits) =
-    let odd : (1 + 2 * number_of bits) % 2 ≡ 1 = omega arith in
-    let half : (1 + 2 * number_of bits) / 2 ≡ number_of bits = omega arith in
-    let rest : low_bits (length bits) (number_of bits) ≡ bits = low_bits-number_of bits in
+    let odd : (1 + 2 * number_of_bits bits) % 2 ≡ 1 = omega arith in
+    let half : (1 + 2 * number_of_bits bits) / 2 ≡ number_of_bits bits = omega arith in
+    let rest : low_bits (length bits) (number_of_bits bits) ≡ bits = low_bits-number_of bits in
     rw (odd, half, rest) refl
 low_bits-number_of (false ∷ bits) =
-    let even : (0 + 2 * number_of bits) % 2 ≡ 0 = omega arith in
-    let half : (0 + 2 * number_of bits) / 2 ≡ number_of bits = omega arith in
-    let rest : low_bits (length bits) (number_of bits) ≡ bits = low_bits-number_of bits in
+    let even : (0 + 2 * number_of_bits bits) % 2 ≡ 0 = omega arith in
+    let half : (0 + 2 * number_of_bits bits) / 2 ≡ number_of_bits bits = omega arith in
+    let rest : low_bits (length bits) (number_of_bits bits) ≡ bits = low_bits-number_of bits in
     rw (even, half, rest) refl
 
 -- a quotient and the low bits after it are those of the delta that they make
 code_from_parts : (parameter ones : ℕ) (rest : List Bool) → parameter ≤ length rest
-    → replicate ones true ++ false ∷ rest ≡ code parameter (ones * 2 ^ parameter + number_of (take parameter rest)) ++ drop parameter rest
+    → replicate ones true ++ false ∷ rest ≡ code parameter (ones * 2 ^ parameter + number_of_bits (take parameter rest)) ++ drop parameter rest
 unfolding code
 code_from_parts parameter ones rest long =
-    let low = number_of (take parameter rest) in
+    let low = number_of_bits (take parameter rest) in
     let delta = ones * 2 ^ parameter + low in
     let quotient : delta / 2 ^ parameter ≡ ones = shr_high ones parameter low (low_lt parameter rest long) in
     let turned : delta ≡ low + ones * 2 ^ parameter = omega arith in
@@ -289,10 +289,10 @@ pub code_of_delta_at : (parameter delta : ℕ) (bits left : List Bool) → delta
 unfolding delta_at
 code_of_delta_at parameter delta bits left e = by_ones (unary bits) refl e where
   by_test : (ones : ℕ) (rest : List Bool) (test : Bool) → ltb (length rest) parameter ≡ test → bits ≡ replicate ones true ++ false ∷ rest
-      → cond test None (found (ones * 2 ^ parameter + number_of (take parameter rest)) (drop parameter rest)) ≡ found delta left → bits ≡ code parameter delta ++ left
+      → cond test None (found (ones * 2 ^ parameter + number_of_bits (take parameter rest)) (drop parameter rest)) ≡ found delta left → bits ≡ code parameter delta ++ left
   by_test ones rest true short is e = absurd (cc)
   by_test ones rest false long is e =
-      let same = found_same (ones * 2 ^ parameter + number_of (take parameter rest)) delta (drop parameter rest) left e in
+      let same = found_same (ones * 2 ^ parameter + number_of_bits (take parameter rest)) delta (drop parameter rest) left e in
       let enough : parameter ≤ length rest = grind (arith, nat_tests) in
       is ∙ code_from_parts parameter ones rest enough
       ∙ ap (λ (n : ℕ). code parameter n ++ drop parameter rest) same.0 ∙ ap (λ (bits : List Bool). code parameter delta ++ bits) same.1

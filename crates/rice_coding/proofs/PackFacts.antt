@@ -6,18 +6,18 @@ use Rattle.std.proofs.lemmas.Bool.{cases_lt}
 use Rattle.std.proofs.lemmas.List.{ext_get_or, length-append, length-replicate, length-take, get_or_append_left, get_or-append_right, get_or-replicate, get_or_past, get_or-drop, get_or-take, take_at, drop_at}
 use Rattle.std.proofs.lemmas.List.FromFn.{length-map-range_with_len, get_or-map-range_with_len}
 use Rattle.std.proofs.lemmas.Nat.Bits.{bit_at_lowest, bit_at-suc, bit_at-zero}
-use Rattle.rice_coding.specs.Bits.{byte_bits, bits_of, number_of, packed}
+use Rattle.rice_coding.specs.Bits.{byte_bits, bits_of, number_of_bits, packed}
 use Rattle.rice_coding.proofs.BitFacts.{length-bits_of, length-byte_bits, bit_of_bytes}
 use Rattle.rice_coding.proofs.CodeFacts.{number_of-lt, number_of-low_bits}
 
 -- how many bytes there are, and each of them
 length-packed : (bits : List Bool) → length (packed bits) ≡ div_ceil (length bits) 8
 unfolding packed
-length-packed bits = length-map-range_with_len (λ i. number_of (take 8 (drop (8 * i) bits))) 0 (div_ceil (length bits) 8)
+length-packed bits = length-map-range_with_len (λ i. number_of_bits (take 8 (drop (8 * i) bits))) 0 (div_ceil (length bits) 8)
 
-byte_of_packed : (bits : List Bool) (i : ℕ) → i < div_ceil (length bits) 8 → get_or (packed bits) i 0 ≡ number_of (take 8 (drop (8 * i) bits))
+byte_of_packed : (bits : List Bool) (i : ℕ) → i < div_ceil (length bits) 8 → get_or (packed bits) i 0 ≡ number_of_bits (take 8 (drop (8 * i) bits))
 unfolding packed
-byte_of_packed bits i within = get_or-map-range_with_len (λ i. number_of (take 8 (drop (8 * i) bits))) 0 (div_ceil (length bits) 8) i i 0 within (omega arith)
+byte_of_packed bits i within = get_or-map-range_with_len (λ i. number_of_bits (take 8 (drop (8 * i) bits))) 0 (div_ceil (length bits) 8) i i 0 within (omega arith)
 
 -- a bit of the number of some bits
 odd : (bit : Bool) (n : ℕ) → (cond bit 1 0 + 2 * n) % 2 ≡ cond bit 1 0
@@ -32,12 +32,12 @@ one_if : (bit : Bool) → eqb (cond bit 1 0) 1 ≡ bit
 one_if true = refl
 one_if false = refl
 
-bit_of_number : (bits : List Bool) (i : ℕ) → eqb (bit_at (number_of bits) i) 1 ≡ get_or bits i false
+bit_of_number : (bits : List Bool) (i : ℕ) → eqb (bit_at (number_of_bits bits) i) 1 ≡ get_or bits i false
 bit_of_number [] i = ap (λ (n : ℕ). eqb n 1) (bit_at-zero i)
 bit_of_number (bit ∷ bits) zero =
-    ap (λ (n : ℕ). eqb n 1) (bit_at_lowest (cond bit 1 0 + 2 * number_of bits) ∙ odd bit (number_of bits)) ∙ one_if bit
+    ap (λ (n : ℕ). eqb n 1) (bit_at_lowest (cond bit 1 0 + 2 * number_of_bits bits) ∙ odd bit (number_of_bits bits)) ∙ one_if bit
 bit_of_number (bit ∷ bits) (suc i) =
-    ap (λ (n : ℕ). eqb n 1) (bit_at-suc (cond bit 1 0 + 2 * number_of bits) i ∙ ap (λ (n : ℕ). bit_at n i) (half bit (number_of bits))) ∙ bit_of_number bits i
+    ap (λ (n : ℕ). eqb n 1) (bit_at-suc (cond bit 1 0 + 2 * number_of_bits bits) i ∙ ap (λ (n : ℕ). bit_at n i) (half bit (number_of_bits bits))) ∙ bit_of_number bits i
 
 -- how many bits of the last byte are free
 abbrev pub free_bits : List Bool → ℕ
@@ -87,7 +87,7 @@ packed_fits bits i = elim (cases_lt i (div_ceil (length bits) 8)) [
 ]
 
 -- bytes with the same bits are the same
-byte_of_bits : (x : ℕ) → x < 256 → number_of (byte_bits x) ≡ x
+byte_of_bits : (x : ℕ) → x < 256 → number_of_bits (byte_bits x) ≡ x
 unfolding byte_bits
 byte_of_bits x fits = omega (arith, number_of-low_bits 8 x)
 
@@ -98,7 +98,7 @@ same_bytes (x ∷ xs) [] fits fit same = absurd (omega (arith, ap length same, l
 same_bytes (x ∷ xs) (y ∷ ys) fits fit same =
     let eight : byte_bits x ≡ byte_bits y =
     sym (take_at (byte_bits x) (bits_of xs) 8 (length-byte_bits x)) ∙ ap (take 8) same ∙ take_at (byte_bits y) (bits_of ys) 8 (length-byte_bits y) in
-    let first : x ≡ y = sym (byte_of_bits x (fits 0)) ∙ ap number_of eight ∙ byte_of_bits y (fit 0) in
+    let first : x ≡ y = sym (byte_of_bits x (fits 0)) ∙ ap number_of_bits eight ∙ byte_of_bits y (fit 0) in
     let rest : bits_of xs ≡ bits_of ys =
     sym (drop_at (byte_bits x) (bits_of xs) 8 (length-byte_bits x)) ∙ ap (drop 8) same ∙ drop_at (byte_bits y) (bits_of ys) 8 (length-byte_bits y) in
     ap (λ (n : ℕ). n ∷ xs) first ∙ ap (λ (bytes : List ℕ). y ∷ bytes) (same_bytes xs ys (λ i. fits (suc i)) (λ i. fit (suc i)) rest)

@@ -7,7 +7,7 @@ use Rattle.rice_coding.specs.declared.fault.RiceFault.{RiceFault}
 use Rattle.rice_coding.specs.declared.fault.RiceFault.TheVariants.{Parameter, CountLimit, Ended, Range, LeftOver, OutOfMemory}
 use Rattle.rice_coding.specs.Bits.{bits_of}
 use Rattle.rice_coding.specs.Codes.{code, codes, running_sums}
-use Rattle.rice_coding.specs.Reading.{Reading, delta_at, reading, reading_step, with_value, stopped, end_of}
+use Rattle.rice_coding.specs.Reading.{Reading, delta_at, reading, reading_step, with_value, stopped, end_after_codes}
 use Rattle.rice_coding.specs.Rice.{BeginsWith, AreInRange, HasParameter, HasNoCode, IsReadingOf}
 use Rattle.rice_coding.proofs.CodeFacts.{delta_at-code, code_of_delta_at, no_code, delta_at-no_code}
 
@@ -138,12 +138,12 @@ Follows-left k v bits left f = go f.deltas f.sums f.coded where
   go [] sums coded = coded
   go (d ∷ deltas) sums coded = absurd (cc)
 
-end_of-short : (bits : List Bool) → length bits < 8 → end_of bits ≡ None
+end_of-short : (bits : List Bool) → length bits < 8 → end_after_codes bits ≡ None
 end_of-short bits few =
     let test : ltb (length bits) 8 ≡ true = grind (arith, nat_tests) in
     rw test refl
 
-end_of-long : (bits : List Bool) → 8 ≤ length bits → end_of bits ≡ Some (LeftOver (min (length bits) (2 ^ 64 - 1)))
+end_of-long : (bits : List Bool) → 8 ≤ length bits → end_after_codes bits ≡ Some (LeftOver (min (length bits) (2 ^ 64 - 1)))
 end_of-long bits many =
     let test : ltb (length bits) 8 ≡ false = grind (arith, nat_tests) in
     rw test refl
@@ -153,7 +153,7 @@ complete_none : (k n e v : ℕ) (bits : List Bool) (fault : Option RiceFault) �
 unfolding reading
 complete_none k zero e v bits None s =
     let same : bits ≡ s.1 = Follows-left k v bits s.1 s.2 in
-    ap stopped (ap end_of same ∙ end_of-short s.1 s.3)
+    ap stopped (ap end_after_codes same ∙ end_of-short s.1 s.3)
 complete_none k (suc n) e v bits None s = absurd (omega (arith, s.0))
 complete_none k n e v bits (Some (Parameter p)) s = absurd s
 complete_none k n e v bits (Some (CountLimit p)) s = absurd s
@@ -173,7 +173,7 @@ complete_none k (suc n) e v bits (Some (Range entry)) s =
     ∙ ap (λ (entry : ℕ). stopped (Some (Range entry))) here
 complete_none k zero e v bits (Some (LeftOver over)) s =
     let same : bits ≡ s.1 = Follows-left k v bits s.1 s.2 in
-    ap stopped (ap end_of same ∙ end_of-long s.1 s.3 ∙ ap (λ (n : ℕ). Some (LeftOver n)) (sym s.4))
+    ap stopped (ap end_after_codes same ∙ end_of-long s.1 s.3 ∙ ap (λ (n : ℕ). Some (LeftOver n)) (sym s.4))
 complete_none k (suc n) e v bits (Some (LeftOver over)) s = absurd (omega (arith, s.0))
 complete_none k n e v bits (Some OutOfMemory) s = absurd s
 

@@ -21,11 +21,11 @@ unfoldable pub bits_from : List ℕ → ℕ → List Bool
 bits_from bytes at = drop at (bits_of bytes)
 
 -- the number with these bits, the lowest first
-abbrev pub number_of : List Bool → ℕ
-number_of [] = 0
-number_of (bit ∷ bits) = (if bit then 1 else 0) + 2 * number_of bits
+abbrev pub number_of_bits : List Bool → ℕ
+number_of_bits [] = 0
+number_of_bits (bit ∷ bits) = (if bit then 1 else 0) + 2 * number_of_bits bits
 
 -- The bytes that hold these bits, no more than it takes: each is the number of its eight bits, and the free bits of the
 -- last one are zeros.
 unfoldable pub packed : List Bool → List ℕ
-packed bits = map (λ i. number_of (take 8 (drop (8 * i) bits))) (range_with_len 0 (div_ceil (length bits) 8))
+packed bits = map (λ i. number_of_bits (take 8 (drop (8 * i) bits))) (range_with_len 0 (div_ceil (length bits) 8))

@@ -3,7 +3,7 @@ use Rattle.std.specs.Prelude.{ℕ, ◌≤◌, ◌<◌, zero, suc, ◌+◌, ◌-�
 use Rattle.std.specs.Option.{option_map}
 use Rattle.rice_coding.specs.declared.fault.RiceFault.{RiceFault}
 use Rattle.rice_coding.specs.declared.fault.RiceFault.TheVariants.{Ended, Range, LeftOver}
-use Rattle.rice_coding.specs.Bits.{number_of}
+use Rattle.rice_coding.specs.Bits.{number_of_bits}
 
 -- how many ones there are before the first zero, and the bits after the zero
 abbrev pub unary : List Bool → Option (ℕ × List Bool)
@@ -14,7 +14,7 @@ unary (true ∷ bits) = option_map (λ (found : ℕ × List Bool). (suc found.0,
 -- the number of so many bits above a quotient, and the bits after it
 abbrev pub with_remainder : ℕ → ℕ × List Bool → Option (ℕ × List Bool)
 with_remainder parameter (quotient, bits) =
-    if nat_lt (length bits) parameter then None else Some (quotient * 2 ^ parameter + number_of (take parameter bits), drop parameter bits)
+    if nat_lt (length bits) parameter then None else Some (quotient * 2 ^ parameter + number_of_bits (take parameter bits), drop parameter bits)
 
 -- the delta whose code comes first, and the bits after the code
 unfoldable pub delta_at : ℕ → List Bool → Option (ℕ × List Bool)
@@ -32,8 +32,8 @@ abbrev pub stopped : Option RiceFault → Reading
 stopped fault = record { values = []; fault = fault }
 
 -- after the last code
-abbrev pub end_of : List Bool → Option RiceFault
-end_of bits = if nat_lt (length bits) 8 then None else Some (LeftOver (min (length bits) (2 ^ 64 - 1)))
+abbrev pub end_after_codes : List Bool → Option RiceFault
+end_after_codes bits = if nat_lt (length bits) 8 then None else Some (LeftOver (min (length bits) (2 ^ 64 - 1)))
 
 -- what comes of a delta: the reading of the rest after one value more
 abbrev pub reading_step : (ℕ → List Bool → Reading) → ℕ → ℕ → Option (ℕ × List Bool) → Reading
@@ -43,7 +43,7 @@ reading_step rest entry value (Some (delta, bits)) =
 
 -- the reading of so many codes, of which the first is that of an entry, after a value
 unfoldable pub reading : ℕ → ℕ → ℕ → ℕ → List Bool → Reading
-reading parameter zero entry value bits = stopped (end_of bits)
+reading parameter zero entry value bits = stopped (end_after_codes bits)
 reading parameter (suc count) entry value bits = reading_step (reading parameter count (entry + 1)) entry value (delta_at parameter bits)
 
 -- What a reader keeps: entries and parameters are within their bounds.

@@ -1,6 +1,6 @@
 ghost use Rattle.std.specs.Prelude.{◌≡◌, ℕ, ◌+◌, ◌-◌, ◌*◌, ◌^◌, ◌<◌, ◌≤◌, ◌↔◌, ◌==◌, Bool, true, false, List, length, drop, min, slice_index_or, IsTrue, OnSome, IfSome, IfNone, Some, None, take};
 ghost use Rattle.std.specs.Int.{bit_at};
-ghost use Rattle.rice_coding.specs.Bits.{bits_of, bits_from, number_of};
+ghost use Rattle.rice_coding.specs.Bits.{bits_of, bits_from, number_of_bits};
 ghost use Rattle.rice_coding.specs.Reading.{unary, delta_at};
 
 /// A place among the bits of a byte string.
@@ -106,7 +106,7 @@ fn take_number(at: Cursor, count: u32) -> Option<(u64, Cursor)>
     ensures none { IfNone result (length (bits_from at.entry.bytes.now at.entry.offset) < count) }
     ensures long { OnSome result (count ≤ length (bits_from at.entry.bytes.now at.entry.offset)) }
     ensures number { IfSome result (λ found.
-        found.0 ≡ number_of (take count (bits_from at.entry.bytes.now at.entry.offset))) }
+        found.0 ≡ number_of_bits (take count (bits_from at.entry.bytes.now at.entry.offset))) }
     ensures after { IfSome result (λ found. bits_from found.1.bytes.now found.1.offset
         ≡ drop count (bits_from at.entry.bytes.now at.entry.offset)) }
 {

@@ -10,15 +10,15 @@ use Rattle.sb_model.specs.declared.names.ListName.{ListName}
 use Rattle.sb_model.specs.Names.{name_of}
 use Rattle.sb_words.specs.CommandLine.{Given, CommandShape, given_of, value_among}
 use Rattle.update_client.specs.declared.options.FetchOptions.{FetchOptions}
-use Rattle.sb_words.specs.Values.{names_of, few_names_of, different, has_each_once, lists_of, is_key, is_numeral, host_port_of, within}
-use Rattle.http_edge.specs.Exchanges.{IsOneLine, IsTarget}
+use Rattle.sb_words.specs.Values.{names_of, few_names_of, different, has_each_once, lists_named, is_key, is_numeral, host_port_of, within}
+use Rattle.http_edge.specs.Exchanges.{StandsInOneLine, IsTarget}
 use Rattle.http_edge.specs.declared.messages.Target.{Target}
 use Rattle.judge_beside.specs.declared.plan.BesidePlan.{BesidePlan}
 use Rattle.sb_client.specs.declared.command.Command.{Command}
 use Rattle.update_run.specs.declared.plan.Plan.{Plan}
 use Rattle.sb_client.specs.declared.command.Command.TheVariants.{Replay, Run, Judge, Show, Vectors, Tell}
-use Rattle.client_words.specs.Asking.{given_to, lists_given, server_given, key_of, key_given, options_given, number_or, has_flag, Asking, asking_of, asking_given, target_of}
-use Rattle.sb_client.specs.Command.{replay_shape, run_shape, judge_shape, bare_shape, rounds_given, patience_given, updates_given, workers_given, run_with, run_given, RunWords, run_words, judge_with, judge_given, JudgeWords, judge_words, replay_of, run_of, judge_of, asks_show, asks_vectors, asked_text_of, MakesItsText, IsNoCommand, IsCommandOf, AreFew, AreWorkers, IsSound}
+use Rattle.client_words.specs.Asking.{given_to, lists_given, server_given, key_or_empty, key_given, options_given, number_or, has_flag, Asking, asking_of, asking_given, target_of}
+use Rattle.sb_client.specs.Command.{replay_shape, run_shape, judge_shape, bare_shape, rounds_given, patience_given, updates_given, workers_given, run_with, run_given, RunWords, run_words, judge_with, judge_given, JudgeWords, judge_words, replay_of, run_of, judge_of, asks_show, asks_vectors, asked_text_of, MakesItsText, IsNoCommand, IsCommandOf, AreFewNames, AreWorkers, IsSound}
 use Rattle.sb_client.specs.declared.texts.TheConstants.{CHECK_USAGE, UPDATE_USAGE}
 use Rattle.sb_words.specs.About.{about_of, about_text, asked_by}
 use Rattle.sb_words.specs.declared.asking.About.{About}
@@ -44,7 +44,7 @@ names_count [] names e = let is : [] ≡ names = cc in ap length (sym is)
 names_count (text ∷ texts) names e = joined_count (result_ok (name_of text)) (names_of texts) (length texts) names (names_count texts) e
 
 few_by : (texts : List (List ℕ)) (names : List ListName) (a b : Bool) → nat_lt 0 (length texts) ≡ a → nat_le (length texts) 8 ≡ b
-    → cond (a && b) (names_of texts) None ≡ Some names → AreFew names
+    → cond (a && b) (names_of texts) None ≡ Some names → AreFewNames names
 few_by texts names true true h k e =
     let count = names_count texts names e in
     let low : 0 < length texts = ltb-true _ _ h in
@@ -53,26 +53,26 @@ few_by texts names true true h k e =
 few_by texts names true false h k e = absurd (cc)
 few_by texts names false b h k e = absurd (cc)
 
-few_names : (texts : List (List ℕ)) (names : List ListName) → few_names_of texts ≡ Some names → AreFew names
+few_names : (texts : List (List ℕ)) (names : List ListName) → few_names_of texts ≡ Some names → AreFewNames names
 few_names texts names e = few_by texts names _ _ refl refl e
 
 once_by : (names found : List ListName) (once : Bool) → cond once (Some names) None ≡ Some found → names ≡ found
 once_by names found true e = cc
 once_by names found false e = absurd (cc)
 
-different_by : (some : Option (List ListName)) (names : List ListName) → ((found : List ListName) → some ≡ Some found → AreFew found) → option_and_then different some ≡ Some names → AreFew names
+different_by : (some : Option (List ListName)) (names : List ListName) → ((found : List ListName) → some ≡ Some found → AreFewNames found) → option_and_then different some ≡ Some names → AreFewNames names
 different_by None names h e = absurd (cc)
-different_by (Some found) names h e = subst AreFew (once_by found names (has_each_once found) e) (h found refl)
+different_by (Some found) names h e = subst AreFewNames (once_by found names (has_each_once found) e) (h found refl)
 
-few_lists : (texts : List (List ℕ)) (names : List ListName) → lists_of texts ≡ Some names → AreFew names
-unfolding lists_of
+few_lists : (texts : List (List ℕ)) (names : List ListName) → lists_named texts ≡ Some names → AreFewNames names
+unfolding lists_named
 few_lists texts names e = different_by (few_names_of texts) names (few_names texts) e
 
-given_by : (given : Option Given) (names : List ListName) → option_and_then lists_given given ≡ Some names → AreFew names
+given_by : (given : Option Given) (names : List ListName) → option_and_then lists_given given ≡ Some names → AreFewNames names
 given_by None names e = absurd (cc)
 given_by (Some given) names e = few_lists given.positionals names e
 
-few_replayed : (words : List (List ℕ)) (names : List ListName) → replay_of words ≡ Some names → AreFew names
+few_replayed : (words : List (List ℕ)) (names : List ListName) → replay_of words ≡ Some names → AreFewNames names
 few_replayed words names e = given_by (given_to (codes "sbupdate") (codes "replay") replay_shape words) names e
 
 -- a plan has the lists that its words name, and asks with the host and the key that they give
@@ -141,15 +141,15 @@ workers_of (Some given) line e = by_lists (lists_given given) e
 -- of lists that the positional words name, and of what the options say for them
 module _ {Line : Type 0} (lists : Line → List ListName) (whom : Line → Target) (line_with : List ListName → List (List ℕ × List ℕ) → Option Line)
     (made : (names : List ListName) (named : List (List ℕ × List ℕ)) (line : Line) → line_with names named ≡ Some line → (lists line ≡ names) × IsTarget (whom line)) where
-  named_by : (named : List (List ℕ × List ℕ)) (some : Option (List ListName)) (line : Line) → ((names : List ListName) → some ≡ Some names → AreFew names)
-      → option_and_then (λ names. line_with names named) some ≡ Some line → AreFew (lists line) × IsTarget (whom line)
+  named_by : (named : List (List ℕ × List ℕ)) (some : Option (List ListName)) (line : Line) → ((names : List ListName) → some ≡ Some names → AreFewNames names)
+      → option_and_then (λ names. line_with names named) some ≡ Some line → AreFewNames (lists line) × IsTarget (whom line)
   named_by named None line few e = absurd (cc)
   named_by named (Some names) line few e =
       let is = made names named line e in
-      (subst AreFew (sym is.0) (few names refl), is.1)
+      (subst AreFewNames (sym is.0) (few names refl), is.1)
 
   line_by : (given : Option Given) (line : Line) → option_and_then (λ (given : Given). option_and_then (λ names. line_with names given.named) (lists_given given)) given ≡ Some line
-      → AreFew (lists line) × IsTarget (whom line)
+      → AreFewNames (lists line) × IsTarget (whom line)
   line_by None line e = absurd (cc)
   line_by (Some given) line e = named_by given.named (lists_given given) line (few_lists given.positionals) e
 
@@ -157,13 +157,13 @@ module _ {Line : Type 0} (lists : Line → List ListName) (whom : Line → Targe
 abbrev pub SoundTargets : Type 0
 SoundTargets = (named : List (List ℕ × List ℕ)) (asking : Asking) → asking_given named ≡ Some asking → IsTarget (target_of asking)
 
-sound_run : SoundTargets → (words : List (List ℕ)) (line : RunWords) → run_of words ≡ Some line → AreFew line.plan.names × IsTarget line.plan.target
+sound_run : SoundTargets → (words : List (List ℕ)) (line : RunWords) → run_of words ≡ Some line → AreFewNames line.plan.names × IsTarget line.plan.target
 sound_run law words line e =
     line_by (λ (line : RunWords). line.plan.names) (λ (line : RunWords). line.plan.target) run_with
     (λ names named line h. run_by (asking_given named) (rounds_given named) names line (law named) h)
     (given_to (codes "sbupdate") (codes "run") run_shape words) line e
 
-sound_judge : SoundTargets → (words : List (List ℕ)) (line : JudgeWords) → judge_of words ≡ Some line → AreFew line.plan.names × IsTarget line.plan.target × AreWorkers line.plan.workers
+sound_judge : SoundTargets → (words : List (List ℕ)) (line : JudgeWords) → judge_of words ≡ Some line → AreFewNames line.plan.names × IsTarget line.plan.target × AreWorkers line.plan.workers
 sound_judge law words line e =
     let both = line_by (λ (line : JudgeWords). line.plan.names) (λ (line : JudgeWords). line.plan.target) judge_with
     (λ names named line h. judge_by (asking_given named) (updates_given named) (workers_given named) (patience_given named) names line (law named) h)
@@ -188,10 +188,10 @@ pub is_sound : SoundTargets → (words : List (List ℕ)) (command : Command) �
 is_sound law words (Replay names) e = few_replayed words names e
 is_sound law words (Run plan) e =
     let line = planned (run_of words) plan e in
-    subst (λ (plan : Plan). AreFew plan.names × IsTarget plan.target) line.2 (sound_run law words line.0 line.1)
+    subst (λ (plan : Plan). AreFewNames plan.names × IsTarget plan.target) line.2 (sound_run law words line.0 line.1)
 is_sound law words (Judge plan) e =
     let line = judge_planned (judge_of words) plan e in
-    subst (λ (plan : BesidePlan). AreFew plan.names × IsTarget plan.target × AreWorkers plan.workers) line.2 (sound_judge law words line.0 line.1)
+    subst (λ (plan : BesidePlan). AreFewNames plan.names × IsTarget plan.target × AreWorkers plan.workers) line.2 (sound_judge law words line.0 line.1)
 is_sound law words Show e = tt
 is_sound law words Vectors e = tt
 is_sound law words (Tell text) e = tt

@@ -20,7 +20,7 @@ use Rattle.client_laws.specs.Saving.{JudgingsSaveReplicas, UpdatesHold}
 use Rattle.sb_round.specs.Rounds.{RoundsKeepToWaits}
 use Rattle.sb_client.specs.Ending.{judge_status_after, judge_status_of, judgement_status}
 use Rattle.sb_client.specs.Judged.{ReportsRightly}
-use Rattle.sb_client.specs.Runs.{IsFaultOf, IsJudgeRun, IsStatus}
+use Rattle.sb_client.specs.Runs.{IsFaultOfStatus, IsJudgeRun, IsStatus}
 
 -- ---- ends have statuses of their own
 
@@ -75,7 +75,7 @@ judge_stop_of (Err other) stop status told h = ap Err (sym (known_stop other) �
 
 -- a fault that is counted has its status
 pub judge_fault_of : {before after : ℕ} (ending : Ending) (stop : JudgeStop) (status : ℕ) → status ≡ judge_status_of ending
-    → (IsErrOf ending stop → Rose before after) → (ending ≢ Err stop → after ≡ before) → IsFaultOf (judge_status_after stop) status before after
+    → (IsErrOf ending stop → Rose before after) → (ending ≢ Err stop → after ≡ before) → IsFaultOfStatus (judge_status_after stop) status before after
 judge_fault_of ending stop status told rose kept = record {
   rose = λ h. rose (judge_stop_of ending stop status told h);
   kept = λ other. kept (λ is. other (told ∙ ap judge_status_of is));

@@ -17,10 +17,10 @@ use Rattle.sb_client.specs.declared.command.Command.{Command}
 use Rattle.sb_client.specs.declared.command.Command.TheVariants.{Replay, Run, Judge, Show, Vectors, Tell}
 use Rattle.input_lines.specs.declared.stop.Stop.TheVariants.{ReadFault, WriteFault, PastLimits, OutOfMemory}
 use Rattle.sb_client.specs.Show.{IsCounted, IsPartlyCounted}
-use Rattle.input_lines.specs.Ending.{Ending}
+use Rattle.input_lines.specs.Ending.{InputEnding}
 use Rattle.sb_client.specs.Ending.{run_status_after, run_status_of}
 use Rattle.sb_client.specs.Honest.{HoldsWhereHonest, KeepsStores}
-use Rattle.sb_client.specs.Runs.{AreCounted, EndsCounting, IsCountRun, IsFaultOf, IsJudgeRun, IsReplayRun, IsRunOf, IsShowRun, IsStatus, IsTellRun, IsUpdateRun, judging_of}
+use Rattle.sb_client.specs.Runs.{AreCountedWithKeeper, EndsCounting, IsCountRun, IsFaultOfStatus, IsJudgeRun, IsReplayRun, IsRunOf, IsShowRun, IsStatus, IsTellRun, IsUpdateRun, judging_of}
 use Rattle.judge_beside.specs.declared.plan.BesidePlan.{BesidePlan}
 use Rattle.sb_client.proofs.Endings.{known_status, no_fault}
 use Rattle.sb_client.proofs.Judgings.{known_judging}
@@ -45,7 +45,7 @@ keep_stop (Err stop.OutOfMemory) status told h = absurd (cc)
 -- a fault that is counted has its status
 pub run_fault_of : {before after : ℕ} (ending : RunEnding) (stop : RunStop) (status : ℕ) → status ≡ run_status_of ending
     → (status ≡ run_status_after stop → IsErrOf ending stop) → (IsErrOf ending stop → Rose before after) → (ending ≢ Err stop → after ≡ before)
-    → IsFaultOf (run_status_after stop) status before after
+    → IsFaultOfStatus (run_status_after stop) status before after
 run_fault_of ending stop status told is rose kept = record {
   rose = λ h. rose (is h);
   kept = λ other. kept (λ e. other (told ∙ ap run_status_of e));
@@ -132,7 +132,7 @@ run_not_begun plan seen = record { ending = Err stop.OutOfMemory; told = refl; d
 
 -- ---- a count of examples
 
-pub counted : {held held' : Option (List ℕ)} (ending : Ending) → IfOk ending (λ failed. IsCounted (not failed) held held')
+pub counted : {held held' : Option (List ℕ)} (ending : InputEnding) → IfOk ending (λ failed. IsCounted (not failed) held held')
     → (IsErrOf ending WriteFault → IsPartlyCounted held held') → (IsErrOf ending OutOfMemory → held' ≡ held)
     → (ending ≢ Err ReadFault) × (ending ≢ Err PastLimits) → EndsCounting ending held held'
 counted (Ok failed) whole write memory others = whole
@@ -183,7 +183,7 @@ module _ (status : ℕ) (left left' : Option (List (List ℕ))) (faults faults' 
   run_of_tell command text e run = subst (λ (command : Command). IsRunOf command status left left' faults faults' before after) e run
 
 -- where no count changed, none rose
-pub none_counted : {input out keep : ℕ} (status : ℕ) → status ≢ 2 → (status ≢ 1 → status ≢ 3) → status ≢ 4 → AreCounted status input input out out keep keep
+pub none_counted : {input out keep : ℕ} (status : ℕ) → status ≢ 2 → (status ≢ 1 → status ≢ 3) → status ≢ 4 → AreCountedWithKeeper status input input out out keep keep
 none_counted status two three four = record {
   read = no_fault 2 status two refl;
   written = λ other. no_fault 3 status (three other) refl;

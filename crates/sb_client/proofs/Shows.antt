@@ -3,7 +3,7 @@ use Rattle.input_lines.specs.Lines.{numbered}
 use Rattle.std.proofs.Common.{◌≡◌, ◌≢◌, ℕ, ◌+◌, List, [], ◌∷◌, ◌++◌, Bool, true, false, refl, ap, ◌∙◌, append_assoc, codes, Ok, Err, Result}
 use Rattle.std.specs.Prelude.{◌||◌}
 use Rattle.std.specs.List.{flat_map}
-use Rattle.url_canon.specs.Url.{Url, text_of}
+use Rattle.url_canon.specs.Url.{Url, text_of_url}
 use Rattle.url_canon.specs.Canonical.{canonical_of}
 use Rattle.url_canon.specs.Printed.{url_cause}
 use Rattle.url_canon.specs.declared.fault.UrlFault.{UrlFault}
@@ -13,7 +13,7 @@ use Rattle.input_lines.specs.Ways.{numbered_some, some_front}
 
 -- a text has a line
 pub shown_some : (number : ℕ) (found : Result Url UrlFault) → shown_lines number found ≢ []
-shown_some number (Ok url) = some_front (numbered number (text_of url)) (flat_map expression_line (expressions_of url)) (numbered_some number (text_of url))
+shown_some number (Ok url) = some_front (numbered number (text_of_url url)) (flat_map expression_line (expressions_of url)) (numbered_some number (text_of_url url))
 shown_some number (Err fault) = numbered_some number (codes "refused " ++ url_cause fault)
 
 pub shown_step : (number : ℕ) (line : List ℕ) (lines : List (List ℕ)) (done all : List ℕ)

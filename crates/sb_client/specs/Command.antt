@@ -200,17 +200,17 @@ IsCommandOf words (Some Show) = asks_show words ≡ true
 IsCommandOf words (Some Vectors) = asks_vectors words ≡ true
 IsCommandOf words (Some (Tell text)) = asked_text_of words ≡ Some text
 
-abbrev pub AreFew : List ListName → Type 0
-AreFew names = (0 < length names) × (length names ≤ 8)
+abbrev pub AreFewNames : List ListName → Type 0
+AreFewNames names = (0 < length names) × (length names ≤ 8)
 
 abbrev pub AreWorkers : ℕ → Type 0
 AreWorkers workers = (1 ≤ workers) × (workers ≤ 16)
 
 -- What a command keeps to: its lists are 1 to 8, the host and the key that it asks with stand each in one line, and its workers are 1 to 16.
 abbrev pub IsSound : Command → Type 0
-IsSound (Replay names) = AreFew names
-IsSound (Run plan) = AreFew plan.names × IsTarget plan.target
-IsSound (Judge plan) = AreFew plan.names × IsTarget plan.target × AreWorkers plan.workers
+IsSound (Replay names) = AreFewNames names
+IsSound (Run plan) = AreFewNames plan.names × IsTarget plan.target
+IsSound (Judge plan) = AreFewNames plan.names × IsTarget plan.target × AreWorkers plan.workers
 IsSound Show = Unit {0}
 IsSound Vectors = Unit {0}
 IsSound (Tell text) = Unit {0}

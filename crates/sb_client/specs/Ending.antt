@@ -1,6 +1,6 @@
 -- The exit status of each end of a command.
 use Rattle.std.specs.Prelude.{◌≡◌, ℕ, Bool, if◌then◌else◌, List, Option, Ok, Err}
-use Rattle.input_lines.specs.Ending.{Ending, EndsReading}
+use Rattle.input_lines.specs.Ending.{InputEnding, EndsReading}
 use Rattle.input_lines.specs.declared.stop.Stop.{Stop}
 use Rattle.input_lines.specs.declared.stop.Stop.TheVariants.{ReadFault, WriteFault, PastLimits, OutOfMemory}
 use Rattle.update_run.specs.Run.{RunEnding}
@@ -39,9 +39,9 @@ judgement_status judgement.Unsafe = 20
 judgement_status judgement.Open = 21
 
 -- the status of an end, where a refusal has this one
-abbrev pub status_of : ℕ → Ending → ℕ
-status_of refusal (Ok refused) = if refused then refusal else 0
-status_of refusal (Err stop) = status_after stop
+abbrev pub ending_status_of : ℕ → InputEnding → ℕ
+ending_status_of refusal (Ok refused) = if refused then refusal else 0
+ending_status_of refusal (Err stop) = status_after stop
 
 -- and of the end of a run, where a refusal has 5
 abbrev pub run_status_of : RunEnding → ℕ
@@ -58,6 +58,6 @@ judge_status_of (Err stop) = judge_status_after stop
 -- It ended in some way, and this is its exit status.
 pub record IsReadingRun (refusal : ℕ) (Whole : Bool → Type 0) (Part : Type 0) (status : ℕ)
     (left left' : Option (List (List ℕ))) (held held' : Option (List ℕ)) : Type 0 where
-  pub ending : Ending
-  pub told : status ≡ status_of refusal ending
+  pub ending : InputEnding
+  pub told : status ≡ ending_status_of refusal ending
   pub done : EndsReading Whole Part ending left left' held held'

@@ -12,8 +12,8 @@ use Rattle.judge_beside.specs.declared.plan.BesidePlan.{BesidePlan}
 use Rattle.sb_client.specs.declared.command.Command.{Command}
 use Rattle.sb_client.specs.declared.command.Command.TheVariants.{Replay, Run, Judge, Show, Vectors, Tell}
 use Rattle.input_lines.specs.declared.stop.Stop.TheVariants.{WriteFault, OutOfMemory}
-use Rattle.input_lines.specs.Ending.{Ending}
-use Rattle.sb_client.specs.Ending.{status_of, run_status_of, judge_status_of, IsReadingRun}
+use Rattle.input_lines.specs.Ending.{InputEnding}
+use Rattle.sb_client.specs.Ending.{ending_status_of, run_status_of, judge_status_of, IsReadingRun}
 use Rattle.update_replay.specs.Replay.{IsPrinted, IsPartlyPrinted}
 use Rattle.sb_client.specs.Show.{IsShown, IsPartlyShown, IsCounted, IsPartlyCounted}
 
@@ -56,7 +56,7 @@ IsShowRun status left left' held held' =
 
 -- ---- `vectors`
 
-abbrev pub EndsCounting : Ending → (held held' : Option (List ℕ)) → Type 0
+abbrev pub EndsCounting : InputEnding → (held held' : Option (List ℕ)) → Type 0
 EndsCounting (Ok failed) held held' = IsCounted (not failed) held held'
 EndsCounting (Err WriteFault) held held' = IsPartlyCounted held held'
 EndsCounting (Err OutOfMemory) held held' = held' ≡ held
@@ -64,8 +64,8 @@ EndsCounting (Err stop) held held' = ⊥
 
 -- the published examples are counted; 21 tells that one is not met
 pub record IsCountRun (status : ℕ) (held held' : Option (List ℕ)) : Type 0 where
-  pub ending : Ending
-  pub told : status ≡ status_of 21 ending
+  pub ending : InputEnding
+  pub told : status ≡ ending_status_of 21 ending
   pub done : EndsCounting ending held held'
 
 -- ---- `run`
@@ -104,16 +104,16 @@ IsRunOf (Tell text) status left left' faults faults' before after = IsTellRun te
 -- ---- the counts of faults
 
 -- The count rose with this status, and with no other.
-pub record IsFaultOf (fault status faults faults' : ℕ) : Type 0 where
+pub record IsFaultOfStatus (fault status faults faults' : ℕ) : Type 0 where
   pub rose : status ≡ fault → Rose faults faults'
   pub kept : status ≢ fault → faults' ≡ faults
 
 -- With status 2 the count of the input rose, with 3 that of the output, and with 4 that of the keeper. With others no count
 -- did, but for that of the output with 1, which the usage text may raise.
-pub record AreCounted (status : ℕ) (input input' out out' keep keep' : ℕ) : Type 0 where
-  pub read : IsFaultOf 2 status input input'
-  pub written : status ≢ 1 → IsFaultOf 3 status out out'
-  pub saved : IsFaultOf 4 status keep keep'
+pub record AreCountedWithKeeper (status : ℕ) (input input' out out' keep keep' : ℕ) : Type 0 where
+  pub read : IsFaultOfStatus 2 status input input'
+  pub written : status ≢ 1 → IsFaultOfStatus 3 status out out'
+  pub saved : IsFaultOfStatus 4 status keep keep'
 
 -- A count could rise, and did not.
 pub record HasNoFault (faults faults' : ℕ) : Type 0 where

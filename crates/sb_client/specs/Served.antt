@@ -9,7 +9,7 @@ use Rattle.sb_round.specs.Rounds.{entry_of, body_of}
 use Rattle.sb_round.specs.Run.{lists_after}
 use Rattle.client_laws.specs.Met.{IsLogged}
 use Rattle.both_ends_laws.specs.Answered.{AreAnsweredOrLost, AreAnsweredInOrder}
-use Rattle.both_ends_laws.specs.Complete.{AsksServer, AsksWithoutLimits, IsComplete}
+use Rattle.both_ends_laws.specs.Complete.{AsksServer, AsksWithoutLimits, IsCompleteRun}
 use Rattle.both_ends_laws.specs.Versions.{StayOrRise}
 use Rattle.update_run.specs.Opening.{first_lists}
 use Rattle.update_run.specs.Printed.{run_text}
@@ -32,7 +32,7 @@ pub record TellsComplete (history : History) (token_at : Naming) (plan : Plan) (
   pub all : length rounds ≡ plan.rounds
   pub made : HasMade plan kept rounds before.outside after.outside
   pub are : map entry_of rounds ≡ sessions
-  pub complete : IsComplete history token_at plan kept rounds sessions
+  pub complete : IsCompleteRun history token_at plan kept rounds sessions
   pub text : after.held ≡ appended before.held (run_text kept (first_lists plan.names kept) rounds)
 
 -- ---- versions

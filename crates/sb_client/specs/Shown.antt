@@ -3,7 +3,7 @@ use Rattle.std.specs.Prelude.{ℕ, ◌+◌, Bool, true, false, List, [], ◌∷�
 use Rattle.std.specs.List.{flat_map, list_any}
 use Rattle.hex.specs.Hex.{encode_lower}
 use Rattle.sha2.specs.Sha256.{sha256}
-use Rattle.url_canon.specs.Url.{Url, text_of}
+use Rattle.url_canon.specs.Url.{Url, text_of_url}
 use Rattle.url_canon.specs.Canonical.{canonical_of}
 use Rattle.url_canon.specs.declared.fault.UrlFault.{UrlFault}
 use Rattle.url_canon.specs.Printed.{url_cause}
@@ -16,7 +16,7 @@ expression_line expression = codes "  " ++ encode_lower (sha256 expression) ++ c
 
 -- the lines of a text: its canonical URL and its expressions, or why it has none
 abbrev pub shown_lines : ℕ → Result Url UrlFault → List ℕ
-shown_lines number (Ok url) = numbered number (text_of url) ++ flat_map expression_line (expressions_of url)
+shown_lines number (Ok url) = numbered number (text_of_url url) ++ flat_map expression_line (expressions_of url)
 shown_lines number (Err fault) = numbered number (codes "refused " ++ url_cause fault)
 
 -- the lines of texts, which are numbered

@@ -15,15 +15,15 @@ ghost use Rattle.update_run.specs.declared.plan.Plan.{Plan as PlanOf};
 ghost use Rattle.judge_beside.specs.declared.plan.BesidePlan.{BesidePlan};
 ghost use Rattle.judge_run.specs.Run.{seen as judging};
 ghost use Rattle.sb_client.specs.Command.{replay_of, run_of, judge_of, asks_show, asks_vectors, asked_text_of, MakesItsText, IsNoCommand, IsSound, JudgeWords, RunWords};
-ghost use Rattle.input_lines.specs.Lines.{lines_of, IsWithinLimits};
-ghost use Rattle.update_replay.specs.Readings.{Reading, AreReadings, bodies_of};
-ghost use Rattle.sb_client.specs.Ending.{run_status_after, run_status_of, status_after, status_of};
+ghost use Rattle.input_lines.specs.Lines.{lines_of, IsInputWithinLimits};
+ghost use Rattle.update_replay.specs.Readings.{ResponseReading, AreReadings, bodies_of};
+ghost use Rattle.sb_client.specs.Ending.{run_status_after, run_status_of, status_after, ending_status_of};
 ghost use Rattle.update_replay.specs.Replay.{PrintsReplicas};
 ghost use Rattle.sb_client.specs.Honest.{HoldsWhereHonest, KeepsStores};
 ghost use Rattle.sb_client.specs.Served.{MeetsAnswers, TellsComplete, MeetsVersions, TellsVersions};
 ghost use Rattle.both_ends_laws.specs.Answered.{IsAnsweredIn};
 ghost use Rattle.sb_outside.specs.declared.links.Session.{Session};
-ghost use Rattle.sb_client.specs.Runs.{AreCounted, HasNoFault, IsCountRun, IsFaultOf, IsJudgeRun, IsReplayRun, IsRunOf, IsShowRun, IsStatus, IsTellRun, IsUpdateRun, IsUsageRun};
+ghost use Rattle.sb_client.specs.Runs.{AreCountedWithKeeper, HasNoFault, IsCountRun, IsFaultOfStatus, IsJudgeRun, IsReplayRun, IsRunOf, IsShowRun, IsStatus, IsTellRun, IsUpdateRun, IsUsageRun};
 ghost use Rattle.sb_client.specs.Usage.{usage_of};
 ghost use Rattle.client_laws.specs.Saving.{UpdatesHold};
 ghost use Rattle.sb_client.specs.Judged.{ReportsRightly};
@@ -83,7 +83,7 @@ fn status_of_run_stop(stop: RunStop) -> u8
 
 /// The exit status of a command, where a refusal has this one.
 fn exit_status(ending: Result<bool, Stop>, refusal: u8) -> u8
-    ensures { result ≡ status_of refusal ending }
+    ensures { result ≡ ending_status_of refusal ending }
 {
     match ending {
         Ok(refused) => status_with(refused, refusal),
@@ -112,8 +112,8 @@ fn replay_status<S: Source, O: Sink>(
     requires few { length names.now ≤ most_lists }
     ensures replays { IsReplayRun names.now result (S.left input.old) (S.left input.new) (O.contents out.old) (O.contents out.new) }
     ensures unwritten { (result ≡ 2) ⊎ (result ≡ 6) → out.new ≡ out.old }
-    ensures read { IsFaultOf 2 result (S.faults input.old) (S.faults input.new) }
-    ensures written { IsFaultOf 3 result (O.faults out.old) (O.faults out.new) }
+    ensures read { IsFaultOfStatus 2 result (S.faults input.old) (S.faults input.new) }
+    ensures written { IsFaultOfStatus 3 result (O.faults out.old) (O.faults out.new) }
 {
     exit_status(replay(alloc, names, input, out), 5)
 }
@@ -133,8 +133,8 @@ fn run_status<O: Sink, K: Keeper, N: Line, G: Gate>(
     ensures runs { IsUpdateRun plan.now result
         (seen (N.view line.old).told (keeping (K.handed keep.old) (K.kept keep.old)) (O.contents out.old))
         (seen (N.view line.new).told (keeping (K.handed keep.new) (K.kept keep.new)) (O.contents out.new)) }
-    ensures written { IsFaultOf 3 result (O.faults out.old) (O.faults out.new) }
-    ensures saved { IsFaultOf 4 result (K.faults keep.old) (K.faults keep.new) }
+    ensures written { IsFaultOfStatus 3 result (O.faults out.old) (O.faults out.new) }
+    ensures saved { IsFaultOfStatus 4 result (K.faults keep.old) (K.faults keep.new) }
     ensures same { (N.view line.new).objects ≡ (N.view line.old).objects }
 {
     run_exit_status(run(alloc, plan, out, keep, line, gate))
@@ -144,8 +144,8 @@ fn run_status<O: Sink, K: Keeper, N: Line, G: Gate>(
 fn show_status<S: Source, O: Sink>(alloc: Global, input: &mut S, out: &mut O) -> u8
     ensures shows { IsShowRun result (S.left input.old) (S.left input.new) (O.contents out.old) (O.contents out.new) }
     ensures unwritten { (result ≡ 2) ⊎ (result ≡ 6) → out.new ≡ out.old }
-    ensures read { IsFaultOf 2 result (S.faults input.old) (S.faults input.new) }
-    ensures written { IsFaultOf 3 result (O.faults out.old) (O.faults out.new) }
+    ensures read { IsFaultOfStatus 2 result (S.faults input.old) (S.faults input.new) }
+    ensures written { IsFaultOfStatus 3 result (O.faults out.old) (O.faults out.new) }
 {
     exit_status(show(alloc, input, out), 21)
 }
@@ -154,7 +154,7 @@ fn show_status<S: Source, O: Sink>(alloc: Global, input: &mut S, out: &mut O) ->
 fn vectors_status<O: Sink>(alloc: Global, out: &mut O) -> u8
     ensures counts_examples { IsCountRun result (O.contents out.old) (O.contents out.new) }
     ensures memory { result ≡ 8 → out.new ≡ out.old }
-    ensures written { IsFaultOf 3 result (O.faults out.old) (O.faults out.new) }
+    ensures written { IsFaultOfStatus 3 result (O.faults out.old) (O.faults out.new) }
 {
     exit_status(vectors(alloc, out), 21)
 }
@@ -180,7 +180,7 @@ fn run_command<R: Threads + Wait + Sync, S: Source, O: Sink, K: Keeper, N: Line,
     ensures memory { MakesItsText command → result ≡ 8 → out.new ≡ out.old }
     ensures untouched { ((plan : PlanOf) → command ≢ Command.Run plan) → ((plan : BesidePlan) → command ≢ Command.Judge plan)
         → (keep.new ≡ keep.old) × (line.new ≡ line.old) }
-    ensures counts { AreCounted result (S.faults input.old) (S.faults input.new) (O.faults out.old) (O.faults out.new)
+    ensures counts { AreCountedWithKeeper result (S.faults input.old) (S.faults input.new) (O.faults out.old) (O.faults out.new)
         (K.faults keep.old) (K.faults keep.new) }
     ensures same { (N.view line.new).objects ≡ (N.view line.old).objects }
 {
@@ -228,7 +228,7 @@ fn run_lent<
     ensures memory { MakesItsText command → result ≡ 8 → out.new ≡ out.old }
     ensures untouched { ((plan : PlanOf) → command ≢ Command.Run plan) → ((plan : BesidePlan) → command ≢ Command.Judge plan)
         → (keep.new ≡ keep.old) × (link.new ≡ link.old) × (clock.new ≡ clock.old) × (dice.new ≡ dice.old) }
-    ensures counts { AreCounted result (S.faults input.old) (S.faults input.new) (O.faults out.old) (O.faults out.new)
+    ensures counts { AreCountedWithKeeper result (S.faults input.old) (S.faults input.new) (O.faults out.old) (O.faults out.new)
         (K.faults keep.old) (K.faults keep.new) }
 {
     let mut line = LentLine { link, clock, dice };
@@ -335,16 +335,16 @@ pub fn run_client<
         → judge_of (map string_bytes words.now) ≡ None → asks_show (map string_bytes words.now) ≡ false → result ≡ 8 → out.new ≡ out.old }
 
     // A count of faults that rose has its status, and a status of a fault has a count that rose.
-    ensures counts { AreCounted result (S.faults input.old) (S.faults input.new) (O.faults out.old) (O.faults out.new)
+    ensures counts { AreCountedWithKeeper result (S.faults input.old) (S.faults input.new) (O.faults out.old) (O.faults out.new)
         (K.faults keep.old) (K.faults keep.new) }
 
     // Where no count rose, a command comes to its end, unless its input passes a limit or memory was refused.
     ensures complete { (names : List ListName) (pieces : List (List ℕ)) → replay_of (map string_bytes words.now) ≡ Some names
-        → S.left input.old ≡ Some pieces → IsWithinLimits (next_piece pieces)
+        → S.left input.old ≡ Some pieces → IsInputWithinLimits (next_piece pieces)
         → HasNoFault (S.faults input.old) (S.faults input.new) → HasNoFault (O.faults out.old) (O.faults out.new)
         → (result ≡ 0) ⊎ (result ≡ 5) ⊎ (result ≡ 8) }
     ensures complete_show { (pieces : List (List ℕ)) → asks_show (map string_bytes words.now) ≡ true
-        → S.left input.old ≡ Some pieces → IsWithinLimits (next_piece pieces)
+        → S.left input.old ≡ Some pieces → IsInputWithinLimits (next_piece pieces)
         → HasNoFault (S.faults input.old) (S.faults input.new) → HasNoFault (O.faults out.old) (O.faults out.new)
         → (result ≡ 0) ⊎ (result ≡ 21) ⊎ (result ≡ 8) }
     ensures complete_run { (line : RunWords) → run_of (map string_bytes words.now) ≡ Some line
@@ -352,14 +352,14 @@ pub fn run_client<
         → (result ≡ 0) ⊎ (result ≡ 5) ⊎ (result ≡ 8) }
 
     ensures complete_judge { (line : JudgeWords) (pieces : List (List ℕ)) → judge_of (map string_bytes words.now) ≡ Some line
-        → S.left input.old ≡ Some pieces → IsWithinLimits (next_piece pieces)
+        → S.left input.old ≡ Some pieces → IsInputWithinLimits (next_piece pieces)
         → HasNoFault (S.faults input.old) (S.faults input.new) → HasNoFault (O.faults out.old) (O.faults out.new)
         → HasNoFault (K.faults keep.old) (K.faults keep.new)
         → (result ≡ 0) ⊎ (result ≡ 5) ⊎ (result ≡ 20) ⊎ (result ≡ 21) ⊎ (result ≡ 8) }
 
     // The headline: where the bodies that the source tells are honest and no digest collides, each list that a
     // replay prints is the server's at the version that its token names, or is empty without a token.
-    ensures replica { (names : List ListName) (pieces : List (List ℕ)) (readings : List Reading) (history : History) (token_at : Naming)
+    ensures replica { (names : List ListName) (pieces : List (List ℕ)) (readings : List ResponseReading) (history : History) (token_at : Naming)
         → replay_of (map string_bytes words.now) ≡ Some names
         → S.left input.old ≡ Some pieces
         → AreReadings (lines_of (next_piece pieces)) readings

@@ -5,7 +5,7 @@ ghost use Rattle.update_run.specs.Saved.{keeping};
 ghost use Rattle.judge_run.specs.Run.{seen as judging};
 ghost use Rattle.sb_client.specs.Command.{AreWorkers};
 ghost use Rattle.sb_client.specs.Ending.{judge_status_after, judge_status_of, judgement_status};
-ghost use Rattle.sb_client.specs.Runs.{IsFaultOf, IsJudgeRun};
+ghost use Rattle.sb_client.specs.Runs.{IsFaultOfStatus, IsJudgeRun};
 
 use client_line::Line;
 use judge_beside::{BesidePlan, Outcome, judge};
@@ -75,9 +75,9 @@ pub(crate) fn judge_status<
         (judging (S.left input.old) (N.view line.old).told (N.view line.old).faults (keeping (K.handed keep.old) (K.kept keep.old)) (O.contents out.old))
         (judging (S.left input.new) (N.view line.new).told (N.view line.new).faults (keeping (K.handed keep.new) (K.kept keep.new)) (O.contents out.new)) }
     ensures unwritten { (result ≡ 2) ⊎ (result ≡ 6) → out.new ≡ out.old }
-    ensures read { IsFaultOf 2 result (S.faults input.old) (S.faults input.new) }
-    ensures written { IsFaultOf 3 result (O.faults out.old) (O.faults out.new) }
-    ensures saved { IsFaultOf 4 result (K.faults keep.old) (K.faults keep.new) }
+    ensures read { IsFaultOfStatus 2 result (S.faults input.old) (S.faults input.new) }
+    ensures written { IsFaultOfStatus 3 result (O.faults out.old) (O.faults out.new) }
+    ensures saved { IsFaultOfStatus 4 result (K.faults keep.old) (K.faults keep.new) }
     ensures same { (N.view line.new).objects ≡ (N.view line.old).objects }
 {
     judge_exit_status(judge(rt, alloc, plan, input, out, keep, line, gate))

@@ -2,7 +2,7 @@ ghost use Rattle.std.specs.Prelude.{◌≡◌, ◌≢◌, ◌⊎◌, ℕ, List, 
 ghost use Rattle.std.specs.List.{flat_map};
 ghost use Rattle.sb_outside.specs.Outside.{Rose, appended};
 ghost use Rattle.sb_outside.specs.Writing.{IsOnItsWay, HasFront};
-ghost use Rattle.url_canon.specs.Url.{text_of};
+ghost use Rattle.url_canon.specs.Url.{text_of_url};
 ghost use Rattle.url_canon.specs.Canonical.{canonical_of};
 ghost use Rattle.url_canon.specs.Printed.{url_cause};
 ghost use Rattle.url_expressions.specs.Expressions.{expressions_of};
@@ -11,7 +11,7 @@ ghost use Rattle.input_lines.specs.declared.input.TheConstants.{MAX_INPUT};
 ghost use Rattle.sb_client.specs.Shown.{expression_line, shown_lines, all_shown, show_text, is_refused_url, has_refused_url};
 ghost use Rattle.sb_client.specs.Show.{IsShown, IsPartlyShown};
 ghost use Rattle.input_lines.specs.Input.{GivesWithin, GivesPast};
-ghost use Rattle.input_lines.specs.Writing.{IsStopped};
+ghost use Rattle.input_lines.specs.Writing.{IsWritingStopped};
 
 use hash_prefixes::{append_hex, full_hash};
 use input_lines::{Stop, first_line, read_input};
@@ -107,7 +107,7 @@ fn show_line<O: Sink>(
         (page.old ++ shown_lines number (canonical_of line.now))) }
     ensures refused { IfOk result (λ refused. refused ≡ is_refused_url (canonical_of line.now)) }
     ensures kept { OnOk result (O.faults out.new ≡ O.faults out.old) }
-    ensures stopped { IfErr result (λ stop. IsStopped stop (O.faults out.old) (O.faults out.new)) }
+    ensures stopped { IfErr result (λ stop. IsWritingStopped stop (O.faults out.old) (O.faults out.new)) }
     ensures err { OnErr result (HasFront (O.contents out.old) (O.contents out.new)
         (page.old ++ shown_lines number (canonical_of line.now))) }
 {
@@ -132,7 +132,7 @@ fn show_lines<O: Sink>(
     ensures refused { IfOk result (λ refused. refused ≡ has_refused_url (lines_of input.now)) }
     ensures text { OnOk result (IsOnItsWay (O.contents out.old) (O.contents out.new) page.new (show_text input.now)) }
     ensures kept { OnOk result (O.faults out.new ≡ O.faults out.old) }
-    ensures stopped { IfErr result (λ stop. IsStopped stop (O.faults out.old) (O.faults out.new)) }
+    ensures stopped { IfErr result (λ stop. IsWritingStopped stop (O.faults out.old) (O.faults out.new)) }
     ensures err { OnErr result (HasFront (O.contents out.old) (O.contents out.new) (show_text input.now)) }
 {
     let mut refused = false;
@@ -156,7 +156,7 @@ fn show_input<O: Sink>(alloc: Global, input: &[u8], out: &mut O) -> Result<bool,
     ensures refused { IfOk result (λ refused. refused ≡ has_refused_url (lines_of input.now)) }
     ensures text { OnOk result (O.contents out.new ≡ appended (O.contents out.old) (show_text input.now)) }
     ensures kept { OnOk result (O.faults out.new ≡ O.faults out.old) }
-    ensures stopped { IfErr result (λ stop. IsStopped stop (O.faults out.old) (O.faults out.new)) }
+    ensures stopped { IfErr result (λ stop. IsWritingStopped stop (O.faults out.old) (O.faults out.new)) }
     ensures err { OnErr result (HasFront (O.contents out.old) (O.contents out.new) (show_text input.now)) }
 {
     let mut page = Bytes::new(alloc);

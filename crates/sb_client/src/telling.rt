@@ -1,6 +1,6 @@
 ghost use Rattle.std.specs.Prelude.{◌≡◌, ◌⊎◌, IfOk, map, string_bytes};
 ghost use Rattle.sb_client.specs.Command.{asked_text_by as asked_by_words, asked_text_of};
-ghost use Rattle.sb_client.specs.Runs.{IsFaultOf, IsTellRun};
+ghost use Rattle.sb_client.specs.Runs.{IsFaultOfStatus, IsTellRun};
 
 use crate::texts::{CHECK_USAGE, UPDATE_USAGE};
 use sb_model::{Bytes, OutOfMemory};
@@ -42,7 +42,7 @@ pub(crate) fn told(alloc: Global, words: &[String]) -> Result<Option<Bytes>, Out
 pub(crate) fn tell_status<O: Sink>(text: &Bytes, out: &mut O) -> u8
     ensures tells { IsTellRun text.now result (O.contents out.old) (O.contents out.new) }
     ensures ends { (result ≡ 0) ⊎ (result ≡ 3) }
-    ensures written { IsFaultOf 3 result (O.faults out.old) (O.faults out.new) }
+    ensures written { IsFaultOfStatus 3 result (O.faults out.old) (O.faults out.new) }
 {
     match write_all(out, text.as_slice()) {
         Ok(()) => 0,

@@ -1,7 +1,7 @@
 ghost use Rattle.std.specs.Prelude.{◌≡◌, ◌≢◌, ◌⊎◌, ◌↔◌, ◌++◌, ℕ, length, not, IsTrue, All, Ok, Err, IfOk, OnOk, OnErr, IsErrOf};
 ghost use Rattle.sb_outside.specs.Outside.{Rose, appended};
 ghost use Rattle.conformance_vectors.specs.Vectors.{Meets, MeetCount};
-ghost use Rattle.sb_client.specs.Show.{count_text, IsCounted, IsPartlyCounted};
+ghost use Rattle.sb_client.specs.Show.{vectors_met_text, IsCounted, IsPartlyCounted};
 
 use conformance_vectors::{Case, published_cases, run_table};
 use input_lines::Stop;
@@ -11,7 +11,7 @@ use std::alloc::Global;
 
 /// Appends how many cases of so many are met.
 fn push_count(page: &mut Bytes, passed: usize, all: usize) -> Result<(), OutOfMemory>
-    ensures { OnOk result (page.new ≡ page.old ++ count_text passed all) }
+    ensures { OnOk result (page.new ≡ page.old ++ vectors_met_text passed all) }
 {
     page.append(b"vectors ")?;
     page.append_decimal(passed as u64)?;
@@ -23,7 +23,7 @@ fn push_count(page: &mut Bytes, passed: usize, all: usize) -> Result<(), OutOfMe
 /// The text that tells how many of the cases are met, and whether all are.
 fn count(alloc: Global, cases: &[Case]) -> Result<(Bytes, bool), OutOfMemory>
     ensures text { IfOk result (λ counted. (passed : ℕ) × MeetCount cases.now passed
-        × (counted.0 ≡ count_text passed (length cases.now))) }
+        × (counted.0 ≡ vectors_met_text passed (length cases.now))) }
     ensures met { IfOk result (λ counted. IsTrue counted.1 ↔ All Meets cases.now) }
 {
     let outcome = run_table(alloc, cases)?;

@@ -21,7 +21,7 @@ use Rattle.sb_model.specs.Names.{entry_code, platform_code, same_name, threat_co
 use Rattle.sb_model.specs.Prefixes.{IsRising, set_of}
 use Rattle.sb_journal.specs.declared.hash_line.HashLine.{HashLine}
 use Rattle.sb_journal.specs.declared.hash_line.HashLine.TheVariants.{Add, Remove}
-use Rattle.sb_journal.specs.Records.{add_of, adds_in, change_with, leading_lines, lines_at, newest_hashes, record_count, records_of, removes_in, with_changes}
+use Rattle.sb_journal.specs.Records.{add_of, adds_in, change_with, leading_lines, lines_at, newest_hashes, record_count, records_of, removes_in, history_with_changes}
 use Rattle.sb_journal.proofs.RisingSets.{SetLaws}
 
 -- ---- hashes that are alike
@@ -328,7 +328,7 @@ same_set laws xs ys up same =
 -- ---- the newest version
 
 pub newest_then : (history : History) (changes : List Change) (list : ListName)
-    → sizes_at (with_changes history changes) list (version_count (with_changes history changes)) ≡ fold (after_change list) (sizes_at history list (version_count history)) changes
+    → sizes_at (history_with_changes history changes) list (version_count (history_with_changes history changes)) ≡ fold (after_change list) (sizes_at history list (version_count history)) changes
 newest_then history changes list =
     let all = history.changes ++ changes in
     ap (fold (after_change list) []) (take_all (length all) all (omega arith)) ∙ fold-append (after_change list) [] history.changes changes
@@ -336,7 +336,7 @@ newest_then history changes list =
 
 -- What leads from the newest hashes of a list to wanted ones has these be its newest.
 pub leads_to_wanted : SetLaws → (history : History) (list : ListName) (size : ℕ) (wanted : List (List ℕ)) → IsRising wanted
-    → newest_hashes (with_changes history (records_of list (leading_lines size (newest_hashes history list) wanted))) list ≡ wanted
+    → newest_hashes (history_with_changes history (records_of list (leading_lines size (newest_hashes history list) wanted))) list ≡ wanted
 unfolding leading_lines
 leads_to_wanted laws history list size wanted up =
     let held = newest_hashes history list in
@@ -361,7 +361,7 @@ leads_to_wanted laws history list size wanted up =
 
 -- Records of a list leave every other list as it was.
 pub others_stay : (history : History) (list other : ListName) (lines : List HashLine) → same_name list other ≡ false
-    → sizes_at (with_changes history (records_of list lines)) other (version_count (with_changes history (records_of list lines))) ≡ sizes_at history other (version_count history)
+    → sizes_at (history_with_changes history (records_of list lines)) other (version_count (history_with_changes history (records_of list lines))) ≡ sizes_at history other (version_count history)
 others_stay history list other lines apart =
     newest_then history (records_of list lines) other
     ∙ others_leave other (records_of list lines) (sizes_at history other (version_count history)) (records_are (λ (c : Change). same_name c.list other ≡ false) list lines (λ some. apart))

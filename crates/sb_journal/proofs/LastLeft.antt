@@ -9,7 +9,7 @@ use Rattle.sb_model.specs.History.{History, after_change, sizes_at, version_coun
 use Rattle.sb_model.specs.Prefixes.{set_of}
 use Rattle.sb_journal.specs.declared.hash_line.HashLine.{HashLine}
 use Rattle.sb_journal.specs.declared.hash_line.HashLine.TheVariants.{Add, Remove}
-use Rattle.sb_journal.specs.Records.{hash_in, hashes_put_in, last_lines, newest_hashes, records_of, removes_in, with_changes}
+use Rattle.sb_journal.specs.Records.{hash_in, hashes_put_in, last_lines, newest_hashes, records_of, removes_in, history_with_changes}
 use Rattle.sb_journal.proofs.Following.{IsOf, all_adds, all_removes, changes_has, has, has_hashes, hashes_of, newest_then, records_adds, records_are, records_removes, same_bytes, same_self, set_member}
 use Rattle.sb_journal.proofs.LastLines.{is_of}
 use Rattle.sb_journal.proofs.RisingSets.{SetLaws}
@@ -93,7 +93,7 @@ last_apart (line ∷ lines) x = one_more (list_any (is_of (hash_in line)) lines)
 
 -- After the records of last lines a list has what these put in, and what it had and they do not take out.
 pub last_lines_leave : SetLaws → (history : History) (list : ListName) (lines : List HashLine) (x : List ℕ)
-    → has_member (newest_hashes (with_changes history (records_of list (last_lines lines))) list) x
+    → has_member (newest_hashes (history_with_changes history (records_of list (last_lines lines))) list) x
     ≡ ((has_member (newest_hashes history list) x && not (has_member (removes_in (last_lines lines)) x)) || has_member (hashes_put_in (last_lines lines)) x)
 last_lines_leave laws history list lines x =
     let changes = records_of list (last_lines lines) in

@@ -19,14 +19,14 @@ use Rattle.sb_journal.specs.declared.hash_line.HashLine.TheVariants.{Add, Remove
 abbrev pub most_input : ℕ
 most_input = 201326592
 
-abbrev pub most_lines : ℕ
-most_lines = 2097152
+abbrev pub most_feed_lines : ℕ
+most_feed_lines = 2097152
 
 -- The lines of an input are those of its text: LF or CR LF ends one, and what follows the last LF is one if it is not
 -- empty. Every other CR is a byte of its line.
-pub record IsWithinLimits (input : List ℕ) : Type 0 where
+pub record IsFeedWithinLimits (input : List ℕ) : Type 0 where
   pub bytes : length input ≤ most_input
-  pub few : length (lines input) ≤ most_lines
+  pub few : length (lines input) ≤ most_feed_lines
 
 -- ---- the hash of a URL
 

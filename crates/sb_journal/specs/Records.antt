@@ -47,8 +47,8 @@ unfoldable pub records_of : ListName → List HashLine → List Change
 records_of list lines = map (λ place. change_with list (lines_at lines place)) (range_with_len 0 (record_count (length lines)))
 
 -- a history and further changes
-abbrev pub with_changes : History → List Change → History
-with_changes history changes = record history { changes = history.changes ++ changes }
+abbrev pub history_with_changes : History → List Change → History
+history_with_changes history changes = record history { changes = history.changes ++ changes }
 
 -- ---- what leads to the hashes of an input
 

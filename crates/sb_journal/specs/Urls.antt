@@ -4,7 +4,7 @@ use Rattle.url_canon.specs.declared.fault.UrlFault.{UrlFault}
 use Rattle.url_canon.specs.declared.fault.UrlFault.TheVariants.{OutOfMemory}
 
 -- It is what the definition says, unless memory is refused.
-abbrev pub Answers : {A : Type 0} → Result A UrlFault → Result A UrlFault → Type 0
-Answers (Ok a) wanted = wanted ≡ Ok a
-Answers (Err OutOfMemory) wanted = ⊤
-Answers (Err fault) wanted = wanted ≡ Err fault
+abbrev pub IsAsDefined : {A : Type 0} → Result A UrlFault → Result A UrlFault → Type 0
+IsAsDefined (Ok a) wanted = wanted ≡ Ok a
+IsAsDefined (Err OutOfMemory) wanted = ⊤
+IsAsDefined (Err fault) wanted = wanted ≡ Err fault

@@ -11,7 +11,7 @@ ghost use Rattle.sb_journal.specs.declared.hash_line.HashLine.{HashLine};
 ghost use Rattle.sb_journal.specs.Changes.{sync_changes};
 ghost use Rattle.sb_journal.specs.Compacted.{compacted, newest_entries};
 ghost use Rattle.sb_journal.specs.Followed.{HasHash, HasPrefixSize, HasSize};
-ghost use Rattle.sb_journal.specs.Records.{hashes_put_in, last_lines, leading_lines, newest_hashes, records_of, removes_in, with_changes};
+ghost use Rattle.sb_journal.specs.Records.{hashes_put_in, last_lines, leading_lines, newest_hashes, records_of, removes_in, history_with_changes};
 
 use list_versions::full_hashes_stand_once;
 use prefix_set::sets_go_by_members;
@@ -21,10 +21,10 @@ use sb_model::names_go_by_their_codes;
 /// every other list is as it was.
 pub fn synced_lists_have_what_is_wanted()
     ensures wanted { (history : History) (list : ListName) (size : ℕ) (wanted : List (List ℕ)) → IsRising wanted
-        → newest_hashes (with_changes history (sync_changes history list size wanted)) list ≡ wanted }
+        → newest_hashes (history_with_changes history (sync_changes history list size wanted)) list ≡ wanted }
     ensures others { (history : History) (list other : ListName) (size : ℕ) (wanted : List (List ℕ)) → same_name list other ≡ false
-        → sizes_at (with_changes history (sync_changes history list size wanted)) other
-        (version_count (with_changes history (sync_changes history list size wanted)))
+        → sizes_at (history_with_changes history (sync_changes history list size wanted)) other
+        (version_count (history_with_changes history (sync_changes history list size wanted)))
         ≡ sizes_at history other (version_count history) }
 {
     sets_go_by_members();
@@ -43,11 +43,11 @@ pub fn hash_lines_may_follow()
 /// not take out. Every other list is as it was.
 pub fn changed_lists_have_what_lines_say()
     ensures hashes { (history : History) (list : ListName) (lines : List HashLine) (hash : List ℕ)
-        → has_member (newest_hashes (with_changes history (records_of list (last_lines lines))) list) hash
+        → has_member (newest_hashes (history_with_changes history (records_of list (last_lines lines))) list) hash
         ≡ ((has_member (newest_hashes history list) hash && not (has_member (removes_in (last_lines lines)) hash))
         || has_member (hashes_put_in (last_lines lines)) hash) }
     ensures others { (history : History) (list other : ListName) (lines : List HashLine) → same_name list other ≡ false
-        → sizes_at (with_changes history (records_of list lines)) other (version_count (with_changes history (records_of list lines)))
+        → sizes_at (history_with_changes history (records_of list lines)) other (version_count (history_with_changes history (records_of list lines)))
         ≡ sizes_at history other (version_count history) }
 {
     sets_go_by_members();

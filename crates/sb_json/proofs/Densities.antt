@@ -7,7 +7,7 @@ use Rattle.std.proofs.lemmas.Bool.{le-ltb, lt-ltb, ltb-false, false_from_ne_true
 use Rattle.std.proofs.lemmas.List.{append-nil, length-append, drop_more, take_more, drop-drop, take-append-drop, get_or-take, length-take-le}
 use Rattle.std.proofs.lemmas.List.Elements.{filter-append}
 use Rattle.memchr.specs.Find.{is_byte2}
-use Rattle.sb_json.specs.Density.{Place, Outside, Inside, Escaped, place_after, place_behind, outside_from, is_opening, is_value_sign, openings_of, values_of, most_openings, most_values, has_more, first_past, too_dense}
+use Rattle.sb_json.specs.Density.{Place, Outside, Inside, Escaped, place_after, place_behind, outside_from, is_opening, is_value_sign, openings_of, values_of, most_openings, most_values, has_more, first_past_size, too_dense}
 
 pub outside-append : (place : Place) (xs ys : List ℕ) → outside_from place (xs ++ ys) ≡ outside_from place xs ++ outside_from (place_behind place xs) ys
 outside-append place [] ys = refl
@@ -119,8 +119,8 @@ no_more size text o v =
 -- ---- the first byte past
 
 -- A part that counts nothing is passed over.
-pub first_past-quiet : (size : ℕ) (front s rest : List ℕ) → counted is_value_sign (place_behind Outside front) s ≡ 0 → has_more size front ≡ false → first_past size front (s ++ rest) ≡ first_past size (front ++ s) rest
-first_past-quiet size front [] rest none few = ap (λ (f : List ℕ). first_past size f rest) (sym (append-nil front))
+pub first_past-quiet : (size : ℕ) (front s rest : List ℕ) → counted is_value_sign (place_behind Outside front) s ≡ 0 → has_more size front ≡ false → first_past_size size front (s ++ rest) ≡ first_past_size size (front ++ s) rest
+first_past-quiet size front [] rest none few = ap (λ (f : List ℕ). first_past_size size f rest) (sym (append-nil front))
 first_past-quiet size front (x ∷ xs) rest none few =
     let place = place_behind Outside front in
     let next = front ++ x ∷ [] in
@@ -131,9 +131,9 @@ first_past-quiet size front (x ∷ xs) rest none few =
     let openings : openings_of next ≡ openings_of front = counted_both is_opening Outside place front (x ∷ []) 0 refl no_opening ∙ omega arith in
     let values : values_of next ≡ values_of front = counted_both is_value_sign Outside place front (x ∷ []) 0 refl no_value ∙ omega arith in
     let still : has_more size next ≡ false = same_more size next front openings values ∙ few in
-    ap (λ (b : Bool). cond b (Some (length front)) (first_past size next (xs ++ rest))) still
+    ap (λ (b : Bool). cond b (Some (length front)) (first_past_size size next (xs ++ rest))) still
     ∙ (first_past-quiet size next xs rest (ap (λ (q : Place). counted is_value_sign q xs) (behind-append Outside front (x ∷ [])) ∙ none_left) still
-    ∙ ap (λ (f : List ℕ). first_past size f rest) (append_assoc front (x ∷ []) xs))
+    ∙ ap (λ (f : List ℕ). first_past_size size f rest) (append_assoc front (x ∷ []) xs))
 
 -- How far a text is read: what has been counted is what stands before a place outside of strings, and is not too much.
 pub record IsRead (text : List ℕ) (at m n : ℕ) : Type 0 where
@@ -143,7 +143,7 @@ pub record IsRead (text : List ℕ) (at m n : ℕ) : Type 0 where
   pub values : n ≡ values_of (take at text)
   pub few_openings : m ≤ most_openings (length text)
   pub few_values : n ≤ most_values (length text)
-  pub dense : first_past (length text) (take at text) (drop at text) ≡ too_dense text
+  pub dense : first_past_size (length text) (take at text) (drop at text) ≡ too_dense text
 
 pub few_so_far : (text : List ℕ) (at openings values : ℕ) → IsRead text at openings values → has_more (length text) (take at text) ≡ false
 few_so_far text at openings values r =
@@ -170,9 +170,9 @@ string_read text at openings values n r lt is fits none ended =
       few_openings = r.few_openings;
       few_values = r.few_values;
       dense =
-          ap (λ (f : List ℕ). first_past (length text) f (drop (at + (1 + n)) text)) cut
+          ap (λ (f : List ℕ). first_past_size (length text) f (drop (at + (1 + n)) text)) cut
           ∙ (sym (first_past-quiet (length text) front (34 ∷ t) (drop (at + (1 + n)) text) (ap (λ (q : Place). counted is_value_sign q (34 ∷ t)) (r.place lt) ∙ no_value) (few_so_far text at openings values r))
-          ∙ (ap (λ (l : List ℕ). first_past (length text) front l) (sym rest) ∙ r.dense));
+          ∙ (ap (λ (l : List ℕ). first_past_size (length text) front l) (sym rest) ∙ r.dense));
     }
 
 pub one_counted : (b : Bool) (x : ℕ) → length (cond b (x ∷ []) []) ≡ cond b 1 0
@@ -190,10 +190,10 @@ counted_next : (p : ℕ → Bool) (text : List ℕ) (at n : ℕ) → at < length
     → n + cond (p (get_or text at 0)) 1 0 ≡ counted p Outside (take (at + 1) text)
 counted_next p text at n lt h e = ap (λ (m : ℕ). m + cond (p (get_or text at 0)) 1 0) e ∙ sym (counted_byte p text at lt h)
 
-first_past-byte : (text : List ℕ) (at : ℕ) → at < length text → first_past (length text) (take at text) (drop at text) ≡ cond (has_more (length text) (take (at + 1) text)) (Some (length (take at text))) (first_past (length text) (take (at + 1) text) (drop (at + 1) text))
+first_past-byte : (text : List ℕ) (at : ℕ) → at < length text → first_past_size (length text) (take at text) (drop at text) ≡ cond (has_more (length text) (take (at + 1) text)) (Some (length (take at text))) (first_past_size (length text) (take (at + 1) text) (drop (at + 1) text))
 first_past-byte text at lt =
-    ap (λ (l : List ℕ). first_past (length text) (take at text) l) (drop_more text at 0 lt)
-    ∙ ap (λ (f : List ℕ). cond (has_more (length text) f) (Some (length (take at text))) (first_past (length text) f (drop (at + 1) text))) (sym (take_more text at 0 lt))
+    ap (λ (l : List ℕ). first_past_size (length text) (take at text) l) (drop_more text at 0 lt)
+    ∙ ap (λ (f : List ℕ). cond (has_more (length text) f) (Some (length (take at text))) (first_past_size (length text) f (drop (at + 1) text))) (sym (take_more text at 0 lt))
 
 pub not_quote : (x : ℕ) → eqb x 34 ≡ false → place_after Outside x ≡ Outside
 not_quote x h = ap (λ (b : Bool). cond b Inside Outside) h
@@ -214,7 +214,7 @@ byte_read text at openings values r lt other few_openings few_values =
       values = more_values;
       few_openings = few_openings;
       few_values = few_values;
-      dense = sym (first_past-byte text at lt ∙ ap (λ (b : Bool). cond b (Some (length (take at text))) (first_past (length text) (take (at + 1) text) (drop (at + 1) text))) few) ∙ r.dense;
+      dense = sym (first_past-byte text at lt ∙ ap (λ (b : Bool). cond b (Some (length (take at text))) (first_past_size (length text) (take (at + 1) text) (drop (at + 1) text))) few) ∙ r.dense;
     }
 
 any_more : (a b c d : ℕ) → (a < b) ⊎ (c < d) → (ltb a b || ltb c d) ≡ true
@@ -236,11 +236,11 @@ byte_past text at openings values r lt past =
     let many : has_more (length text) (take (at + 1) text) ≡ true = any_more (most_openings (length text)) (openings_of (take (at + 1) text)) (most_values (length text)) (values_of (take (at + 1) text))
     (⊎_elim (λ o. inl (omega (arith, o, more_openings))) (λ v. inr (omega (arith, v, more_values))) past) in
     ap (λ (n : ℕ). Some n) (sym (length-take-le at text (omega (arith, lt))))
-    ∙ (sym (first_past-byte text at lt ∙ ap (λ (b : Bool). cond b (Some (length (take at text))) (first_past (length text) (take (at + 1) text) (drop (at + 1) text))) many) ∙ r.dense)
+    ∙ (sym (first_past-byte text at lt ∙ ap (λ (b : Bool). cond b (Some (length (take at text))) (first_past_size (length text) (take (at + 1) text) (drop (at + 1) text))) many) ∙ r.dense)
 
 -- ---- texts that are not too dense
 
-few_parts : (size : ℕ) (front rest : List ℕ) → openings_of (front ++ rest) ≤ most_openings size → values_of (front ++ rest) ≤ most_values size → first_past size front rest ≡ None
+few_parts : (size : ℕ) (front rest : List ℕ) → openings_of (front ++ rest) ≤ most_openings size → values_of (front ++ rest) ≤ most_values size → first_past_size size front rest ≡ None
 few_parts size front [] o v = refl
 few_parts size front (x ∷ xs) o v =
     let next = front ++ x ∷ [] in
@@ -249,7 +249,7 @@ few_parts size front (x ∷ xs) o v =
     let values : values_of (next ++ xs) ≤ most_values size = subst (λ (t : List ℕ). values_of t ≤ most_values size) (sym whole) v in
     let few : has_more size next ≡ false = no_more size next
     (omega (arith, openings, counted-append is_opening Outside next xs)) (omega (arith, values, counted-append is_value_sign Outside next xs)) in
-    ap (λ (b : Bool). cond b (Some (length front)) (first_past size next xs)) few ∙ few_parts size next xs openings values
+    ap (λ (b : Bool). cond b (Some (length front)) (first_past_size size next xs)) few ∙ few_parts size next xs openings values
 
 -- a text that counts no more than it may
 pub few_pass : (text : List ℕ) → openings_of text ≤ most_openings (length text) → values_of text ≤ most_values (length text) → too_dense text ≡ None
@@ -259,11 +259,11 @@ not_past : (b : Bool) (n : ℕ) (later : Option ℕ) → cond b (Some n) later �
 not_past true n later h = absurd (cc h)
 not_past false n later h = (refl, h)
 
-passed_parts : (size : ℕ) (front rest : List ℕ) → has_more size front ≡ false → first_past size front rest ≡ None → has_more size (front ++ rest) ≡ false
+passed_parts : (size : ℕ) (front rest : List ℕ) → has_more size front ≡ false → first_past_size size front rest ≡ None → has_more size (front ++ rest) ≡ false
 passed_parts size front [] few h = ap (λ (t : List ℕ). has_more size t) (append-nil front) ∙ few
 passed_parts size front (x ∷ xs) few h =
     let next = front ++ x ∷ [] in
-    let both = not_past (has_more size next) (length front) (first_past size next xs) h in
+    let both = not_past (has_more size next) (length front) (first_past_size size next xs) h in
     ap (λ (t : List ℕ). has_more size t) (sym (append_assoc front (x ∷ []) xs)) ∙ passed_parts size next xs both.0 both.1
 
 no_more_at : (a b c d : ℕ) → (ltb a b || ltb c d) ≡ false → (b ≤ a) × (d ≤ c)

@@ -54,10 +54,10 @@ abbrev pub has_more : ℕ → List ℕ → Bool
 has_more size text = nat_lt (most_openings size) (openings_of text) || nat_lt (most_values size) (values_of text)
 
 -- the place, from 0, of the first byte of a rest with which it and all before it have more
-abbrev pub first_past : ℕ → List ℕ → List ℕ → Option ℕ
-first_past size front [] = None
-first_past size front (byte ∷ rest) = if has_more size (front ++ byte ∷ []) then Some (length front) else first_past size (front ++ byte ∷ []) rest
+abbrev pub first_past_size : ℕ → List ℕ → List ℕ → Option ℕ
+first_past_size size front [] = None
+first_past_size size front (byte ∷ rest) = if has_more size (front ++ byte ∷ []) then Some (length front) else first_past_size size (front ++ byte ∷ []) rest
 
 -- the first byte at which a count passes what the text's length allows
 abbrev pub too_dense : List ℕ → Option ℕ
-too_dense text = first_past (length text) [] text
+too_dense text = first_past_size (length text) [] text

@@ -18,9 +18,9 @@ field_fault_text (fault.Duration field) = codes "duration " ++ label_of field
 field_fault_text fault.OutOfMemory = []
 
 -- the cause of a message's fault; the item counts from 1, and is 0 where the fault is in none
-abbrev pub cause_text : MessageFault → List ℕ
-cause_text (message.TooDense place) = codes "too-dense " ++ decimal place
-cause_text message.NotJson = codes "not-json"
-cause_text (message.Field field_fault item) = codes "field " ++ field_fault_text field_fault ++ codes " " ++ decimal item
-cause_text (message.TooManyItems n) = codes "too-many-items " ++ decimal n
-cause_text message.OutOfMemory = []
+abbrev pub message_cause_text : MessageFault → List ℕ
+message_cause_text (message.TooDense place) = codes "too-dense " ++ decimal place
+message_cause_text message.NotJson = codes "not-json"
+message_cause_text (message.Field field_fault item) = codes "field " ++ field_fault_text field_fault ++ codes " " ++ decimal item
+message_cause_text (message.TooManyItems n) = codes "too-many-items " ++ decimal n
+message_cause_text message.OutOfMemory = []

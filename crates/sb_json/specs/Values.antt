@@ -53,12 +53,12 @@ abbrev pub ◌>>=◌ : {A B F : Type 0} → Result A F → (A → Result B F) �
 (Err fault) >>= f = Err fault
 
 -- the value of a field that has to be there
-abbrev pub needed : Field → Option Data → Result Data FieldFault
-needed field None = Err (Missing field)
-needed field (Some value) = Ok value
+abbrev pub needed_value : Field → Option Data → Result Data FieldFault
+needed_value field None = Err (Missing field)
+needed_value field (Some value) = Ok value
 
 abbrev pub needed_of : Field → Data → Result Data FieldFault
-needed_of field value = needed field (field_of field value)
+needed_of field value = needed_value field (field_of field value)
 
 -- whether a text is `0`, or digits that do not begin with 0
 abbrev pub is_numeral : List ℕ → Bool
@@ -73,9 +73,9 @@ abbrev pub at_most : ℕ → Option ℕ → Option ℕ
 at_most most None = None
 at_most most (Some n) = if nat_le n most then Some n else None
 
-abbrev pub or_fault : {A : Type 0} → FieldFault → Option A → Result A FieldFault
-or_fault fault None = Err fault
-or_fault fault (Some a) = Ok a
+abbrev pub or_field_fault : {A : Type 0} → FieldFault → Option A → Result A FieldFault
+or_field_fault fault None = Err fault
+or_field_fault fault (Some a) = Ok a
 
 abbrev pub without_cause : {A E : Type 0} → FieldFault → Result A E → Result A FieldFault
 without_cause fault (Ok a) = Ok a
@@ -85,8 +85,8 @@ without_cause fault (Err cause) = Err fault
 
 -- a whole number from 0 to `most`, as a JSON number without fraction and exponent or as a string
 abbrev pub whole_in : Field → ℕ → Data → Result ℕ FieldFault
-whole_in field most (number n) = or_fault (Number field) (at_most most (as_u64 n))
-whole_in field most (string s) = or_fault (Number field) (at_most most (numeral s))
+whole_in field most (number n) = or_field_fault (Number field) (at_most most (as_u64 n))
+whole_in field most (string s) = or_field_fault (Number field) (at_most most (numeral s))
 whole_in field most value = Err (WrongKind field)
 
 -- the bytes of a string
@@ -125,7 +125,7 @@ base64_of text = decoded_of standard (with_padding (map in_standard_alphabet tex
 
 -- the bytes of a string in base64
 abbrev pub bytes_in : Field → Data → Result (List ℕ) FieldFault
-bytes_in field value = string_in field value >>= λ s. or_fault (Base64 field) (base64_of s)
+bytes_in field value = string_in field value >>= λ s. or_field_fault (Base64 field) (base64_of s)
 
 -- the duration of a string
 abbrev pub duration_in : Field → Data → Result ℕ FieldFault
@@ -141,8 +141,8 @@ abbrev pub string_of : Field → Data → Result (List ℕ) FieldFault
 string_of field value = needed_of field value >>= string_in field
 
 -- the characters of a text
-abbrev pub text_of : Field → Data → Result (List ℕ) FieldFault
-text_of field value = string_of field value >>= λ s. Ok (chars s)
+abbrev pub text_chars_of : Field → Data → Result (List ℕ) FieldFault
+text_chars_of field value = string_of field value >>= λ s. Ok (chars s)
 
 abbrev pub items_of : Field → Data → Result Items FieldFault
 items_of field value = needed_of field value >>= items_in field

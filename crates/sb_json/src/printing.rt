@@ -1,6 +1,6 @@
 ghost use Rattle.std.specs.Prelude.{◌≡◌, ◌++◌, length, take, codes, OnOk, OnErr};
 ghost use Rattle.sb_json.specs.Fields.{label_of};
-ghost use Rattle.sb_json.specs.Printed.{field_fault_text, cause_text};
+ghost use Rattle.sb_json.specs.Printed.{field_fault_text, message_cause_text};
 
 use crate::{Field, FieldFault, MessageFault};
 use sb_model::{Bytes, OutOfMemory};
@@ -44,7 +44,7 @@ fn push_field_fault(text: &mut Bytes, fault: FieldFault) -> Result<(), OutOfMemo
 /// Appends the printed cause of a fault, as `field missing threatType 2`. Want of memory, which is none of
 /// a message's causes, prints nothing. After an `Err` the text begins as it was.
 pub fn push_message_cause(text: &mut Bytes, fault: &MessageFault) -> Result<(), OutOfMemory>
-    ensures ok { OnOk result (text.new ≡ text.old ++ cause_text fault.now) }
+    ensures ok { OnOk result (text.new ≡ text.old ++ message_cause_text fault.now) }
     ensures front { OnErr result (take (length text.old) text.new ≡ text.old) }
 {
     match fault {

@@ -66,9 +66,9 @@ pub fn string<'v>(value: &'v Value, field: Field) -> Result<&'v str, FieldFault>
 
 /// A copy of a string.
 pub fn text(alloc: Global, value: &Value, field: Field) -> Result<Text, FieldFault>
-    ensures ok { IfOk result (λ text. spec.text_of field (view value.now) ≡ Ok text) }
+    ensures ok { IfOk result (λ text. spec.text_chars_of field (view value.now) ≡ Ok text) }
     ensures err { IfErr result (λ fault. (fault ≡ FieldFault.OutOfMemory)
-        ⊎ (spec.text_of field (view value.now) ≡ Err fault)) }
+        ⊎ (spec.text_chars_of field (view value.now) ≡ Err fault)) }
 {
     Ok(Text::from_str(alloc, string(value, field)?)?)
 }

@@ -17,7 +17,7 @@ use Rattle.url_canon.specs.Url.{Url}
 use Rattle.url_canon.specs.declared.fault.UrlFault.{UrlFault}
 use Rattle.sb_model.specs.History.{History}
 use Rattle.url_canon.specs.Canonical.{canonical_of}
-use Rattle.lookup_messages.specs.Lookups.{canonical_of_asked, lists_asked, match_of, matches_of_url}
+use Rattle.lookup_messages.specs.Lookups.{canonical_of_asked, lists_looked_up, match_of, matches_of_url}
 use Rattle.lookup_messages.specs.Messages.{AskedUrls}
 use Rattle.lookup_messages.specs.declared.response.LookupMatch.{LookupMatch}
 use Rattle.lookup_messages.specs.declared.response.LookupResponse.{LookupResponse}
@@ -41,7 +41,7 @@ asked_form url text bytes utf8 spelled same =
 
 -- the answer over the declared lists whose types are asked
 pub served_by : (history : History) (cache : ℕ) (asked : AskedUrls) (matches : List LookupMatch) (declared lists : List ListName) (urls : List (List ℕ))
-    → declared ≡ declared_names history → lists ≡ lists_asked declared asked → urls ≡ asked.urls
+    → declared ≡ declared_names history → lists ≡ lists_looked_up declared asked → urls ≡ asked.urls
     → matches ≡ flat_map (λ url. matches_of_url (has_url history) lists cache url (canonical_of_asked url)) urls
     → made_of matches ≡ served_lookup history cache asked
 served_by history cache asked matches declared lists urls are among of made =
@@ -49,7 +49,7 @@ served_by history cache asked matches declared lists urls are among of made =
     made
     ∙ ap (λ (us : List (List ℕ)). flat_map (λ url. matches_of_url (has_url history) lists cache url (canonical_of_asked url)) us) of
     ∙ ap (λ (ls : List ListName). flat_map (λ url. matches_of_url (has_url history) ls cache url (canonical_of_asked url)) asked.urls)
-    (among ∙ ap (λ (all : List ListName). lists_asked all asked) are)
+    (among ∙ ap (λ (all : List ListName). lists_looked_up all asked) are)
     )
 
 -- ---- no float

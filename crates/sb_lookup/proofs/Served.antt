@@ -17,30 +17,30 @@ use Rattle.hash_messages.specs.Messages.{AskedHashes}
 use Rattle.url_canon.specs.Url.{Url}
 use Rattle.url_expressions.specs.Expressions.{expressions_of}
 use Rattle.url_hashes.specs.Hashes.{full_hash_of, hashes_of}
-use Rattle.lookup_messages.specs.Lookups.{asks_list, canonical_of_asked, lists_asked, lookup_matches, matches_of_url, IsLookupMatch}
+use Rattle.lookup_messages.specs.Lookups.{looks_up_list, canonical_of_asked, lists_looked_up, lookup_matches, matches_of_url, IsLookupMatch}
 use Rattle.lookup_messages.specs.Messages.{AskedUrls}
 use Rattle.lookup_messages.specs.declared.response.LookupMatch.{LookupMatch}
-use Rattle.sb_lookup.specs.Lookups.{newest_hashes, is_listed, has_url, declared_names, IsServedMatch}
+use Rattle.sb_lookup.specs.Lookups.{newest_full_hashes, is_listed, has_url, declared_names, IsServedMatch}
 use Rattle.sb_lookup.proofs.Members.{any_found, any_there, both_filters, filter_again, from_filter, from_map, in_filter, in_map}
 use Rattle.sb_lookup.proofs.Names.{every_name, rising_distinct}
 
 -- ---- a URL that a list has
 
-listed : (history : History) (list : ListName) (expression : List ℕ) → is_listed history list (full_hash_of expression) ≡ true → Contains (newest_hashes history list) (sha256 expression)
-listed history list expression is = Contains-from_any (λ x y same. (bytes_eq-Decides x y).0 same) (sha256 expression) (newest_hashes history list) is
+listed : (history : History) (list : ListName) (expression : List ℕ) → is_listed history list (full_hash_of expression) ≡ true → Contains (newest_full_hashes history list) (sha256 expression)
+listed history list expression is = Contains-from_any (λ x y same. (bytes_eq-Decides x y).0 same) (sha256 expression) (newest_full_hashes history list) is
 
-is_there : (history : History) (list : ListName) (expression : List ℕ) → Contains (newest_hashes history list) (sha256 expression) → is_listed history list (full_hash_of expression) ≡ true
-is_there history list expression has = list_any-from_Contains nat_list_eq_equiv (sha256 expression) (newest_hashes history list) has
+is_there : (history : History) (list : ListName) (expression : List ℕ) → Contains (newest_full_hashes history list) (sha256 expression) → is_listed history list (full_hash_of expression) ≡ true
+is_there history list expression has = list_any-from_Contains nat_list_eq_equiv (sha256 expression) (newest_full_hashes history list) has
 
 pub listed_by : (history : History) (list : ListName) (url : Url) → has_url history list url ≡ true
-    → (expression : List ℕ) × Contains (expressions_of url) expression × Contains (newest_hashes history list) (sha256 expression)
+    → (expression : List ℕ) × Contains (expressions_of url) expression × Contains (newest_full_hashes history list) (sha256 expression)
 listed_by history list url has =
     let found = any_found (is_listed history list) (hashes_of url) has in
     let of = from_map full_hash_of (expressions_of url) found.0 found.1 in
     (of.0, of.1, listed history list of.0 (subst (λ (hash : FullHash). is_listed history list hash ≡ true) (sym of.2) found.2))
 
 pub lists_it : (history : History) (list : ListName) (url : Url) (expression : List ℕ) → Contains (expressions_of url) expression
-    → Contains (newest_hashes history list) (sha256 expression) → has_url history list url ≡ true
+    → Contains (newest_full_hashes history list) (sha256 expression) → has_url history list url ≡ true
 lists_it history list url expression of has =
     any_there (is_listed history list) (hashes_of url) (full_hash_of expression) (in_map full_hash_of (expressions_of url) expression of) (is_there history list expression has)
 
@@ -80,32 +80,32 @@ matched history cache asked found is = record {
 types_of : AskedUrls → AskedHashes
 types_of asked = record { client = asked.client; states = []; threats = asked.threats; platforms = asked.platforms; entries = asked.entries; prefixes = [] }
 
-asked_twice : (history : History) (asked : AskedUrls) → lists_asked (declared_names history) asked ≡ find_lists history (types_of asked)
+asked_twice : (history : History) (asked : AskedUrls) → lists_looked_up (declared_names history) asked ≡ find_lists history (types_of asked)
 unfolding types_of
-asked_twice history asked = both_filters (declares history) (asks_list asked) all_names
+asked_twice history asked = both_filters (declares history) (looks_up_list asked) all_names
 
 -- the asked lists are distinct, where lists that are asked rise
 pub asked_distinct : ((history : History) (asked : AskedHashes) → IsStrictlySortedBy name_cmp (find_lists history asked))
-    → (history : History) (asked : AskedUrls) → AllPairs (λ a b. a ≢ b) (lists_asked (declared_names history) asked)
+    → (history : History) (asked : AskedUrls) → AllPairs (λ a b. a ≢ b) (lists_looked_up (declared_names history) asked)
 asked_distinct rise history asked =
-    rising_distinct (lists_asked (declared_names history) asked)
+    rising_distinct (lists_looked_up (declared_names history) asked)
     (subst (IsStrictlySortedBy name_cmp) (sym (asked_twice history asked)) (rise history (types_of asked)))
 
 -- lists that are asked can stand in place of all
 pub asked_alone : (has : ListName → Url → Bool) (lists : List ListName) (cache : ℕ) (asked : AskedUrls)
-    → lookup_matches has (lists_asked lists asked) cache asked ≡ lookup_matches has lists cache asked
+    → lookup_matches has (lists_looked_up lists asked) cache asked ≡ lookup_matches has lists cache asked
 asked_alone has lists cache asked =
-    ap (λ (ls : List ListName). flat_map (λ url. matches_of_url has ls cache url (canonical_of_asked url)) asked.urls) (filter_again (asks_list asked) lists)
+    ap (λ (ls : List ListName). flat_map (λ url. matches_of_url has ls cache url (canonical_of_asked url)) asked.urls) (filter_again (looks_up_list asked) lists)
 
 pub matched_alone : (history : History) (cache : ℕ) (asked : AskedUrls) (found : LookupMatch) → IsServedMatch history cache asked found
-    → IsLookupMatch (has_url history) (lists_asked (declared_names history) asked) cache asked found
+    → IsLookupMatch (has_url history) (lists_looked_up (declared_names history) asked) cache asked found
 matched_alone history cache asked found is =
     let whole = matched history cache asked found is in
     record {
       url_asked = whole.url_asked;
       canonical = whole.canonical;
       canonical_form = whole.canonical_form;
-      list_given = in_filter (asks_list asked) (declared_names history) found.name whole.list_given whole.list_asked;
+      list_given = in_filter (looks_up_list asked) (declared_names history) found.name whole.list_given whole.list_asked;
       list_asked = whole.list_asked;
       has_url = whole.has_url;
       cache_told = whole.cache_told;

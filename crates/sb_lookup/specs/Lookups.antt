@@ -7,7 +7,7 @@ use Rattle.sha2.specs.Sha256.{sha256}
 use Rattle.serde_json.specs.Data.{Data, object, no_members}
 use Rattle.serde_json.specs.Written.{compact_text}
 use Rattle.sb_json.specs.declared.fields.Field.TheVariants as field
-use Rattle.sb_members.specs.Writing.{with_member, list_written}
+use Rattle.sb_members.specs.Writing.{with_member_if_any, list_written}
 use Rattle.sb_model.specs.declared.names.ListName.{ListName}
 use Rattle.sb_model.specs.History.{History, declares, full_hashes_at, version_count}
 use Rattle.hash_prefixes.specs.declared.hashes.FullHash.{FullHash}
@@ -16,18 +16,18 @@ use Rattle.hash_messages.specs.Writing.{threat_written, platform_written, entry_
 use Rattle.url_canon.specs.Url.{Url}
 use Rattle.url_expressions.specs.Expressions.{expressions_of}
 use Rattle.url_hashes.specs.Hashes.{hashes_of}
-use Rattle.lookup_messages.specs.Lookups.{asks_list, canonical_of_asked, lookup_answer}
+use Rattle.lookup_messages.specs.Lookups.{looks_up_list, canonical_of_asked, lookup_answer}
 use Rattle.lookup_messages.specs.Messages.{AskedUrls}
 use Rattle.lookup_messages.specs.declared.response.LookupMatch.{LookupMatch}
 use Rattle.lookup_messages.specs.declared.response.LookupResponse.{LookupResponse}
 
 -- the newest full hashes of a list
-abbrev pub newest_hashes : History → ListName → List (List ℕ)
-newest_hashes history list = full_hashes_at history list (version_count history)
+abbrev pub newest_full_hashes : History → ListName → List (List ℕ)
+newest_full_hashes history list = full_hashes_at history list (version_count history)
 
 -- whether a full hash is one of a list's newest
 abbrev pub is_listed : History → ListName → FullHash → Bool
-is_listed history list hash = list_any (bytes_eq hash.bytes) (newest_hashes history list)
+is_listed history list hash = list_any (bytes_eq hash.bytes) (newest_full_hashes history list)
 
 -- whether a list has a URL: the full hash of one of its expressions is one of the list's newest
 abbrev pub has_url : History → ListName → Url → Bool
@@ -48,22 +48,22 @@ pub record IsServedMatch (history : History) (cache : ℕ) (asked : AskedUrls) (
   pub canonical : Url
   pub canonical_form : canonical_of_asked found.url ≡ Ok canonical
   pub declared : declares history found.name ≡ true
-  pub list_asked : asks_list asked found.name ≡ true
+  pub list_asked : looks_up_list asked found.name ≡ true
   pub expression : List ℕ
   pub of_url : Contains (expressions_of canonical) expression
-  pub listed : Contains (newest_hashes history found.name) (sha256 expression)
+  pub listed : Contains (newest_full_hashes history found.name) (sha256 expression)
   pub cache_told : found.cache ≡ cache * 1000000000
 
 -- ---- the names of lists
 
 abbrev pub name_written : ListName → Data
 name_written name = object (
-    with_member field.PlatformType (Some (platform_written name.platform)) (
-    with_member field.ThreatEntryType (Some (entry_written name.entry)) (
-    with_member field.ThreatType (Some (threat_written name.threat)) no_members)))
+    with_member_if_any field.PlatformType (Some (platform_written name.platform)) (
+    with_member_if_any field.ThreatEntryType (Some (entry_written name.entry)) (
+    with_member_if_any field.ThreatType (Some (threat_written name.threat)) no_members)))
 
 abbrev pub names_written : List ListName → Data
-names_written names = object (with_member field.ThreatLists (list_written name_written names) no_members)
+names_written names = object (with_member_if_any field.ThreatLists (list_written name_written names) no_members)
 
 -- the compact JSON of the declared lists, in the order of names
 unfoldable pub lists_text : History → List ℕ

@@ -2,7 +2,7 @@ ghost use Rattle.std.specs.Prelude.{◌≡◌, ◌++◌, ◌∷◌, [], map, fil
 ghost use Rattle.std.specs.List.{flat_map, list_any};
 ghost use Rattle.url_canon.specs.Url.{Url};
 ghost use Rattle.url_hashes.specs.Hashes.{hashes_of};
-ghost use Rattle.lookup_messages.specs.Lookups.{canonical_of_asked, lists_asked, match_of, matches_of_url};
+ghost use Rattle.lookup_messages.specs.Lookups.{canonical_of_asked, lists_looked_up, match_of, matches_of_url};
 ghost use Rattle.sb_lookup.specs.Lookups.{has_url, is_listed, served_lookup};
 
 use delta_server::{Settings, declared_lists, has_types};
@@ -107,7 +107,7 @@ fn asked_lists(
     request: &LookupRequest,
     lists: &[ListName],
 ) -> Result<Row<ListName>, OutOfMemory>
-    ensures { IfOk result (λ asked. asked ≡ lists_asked lists.now request.now) }
+    ensures { IfOk result (λ asked. asked ≡ lists_looked_up lists.now request.now) }
 {
     let mut asked = Row::new(alloc);
     for list in lists {

@@ -7,7 +7,7 @@ use Rattle.serde_json.specs.Data.{Data, Members, no_members, member, put}
 use Rattle.serde_json.specs.Written.{has_float, members_have_float}
 use Rattle.sb_json.specs.Fields.{key_of}
 use Rattle.sb_json.specs.declared.fields.Field.{Field}
-use Rattle.sb_members.specs.Writing.{with_member}
+use Rattle.sb_members.specs.Writing.{with_member_if_any}
 use Rattle.sb_members.specs.Parts.{Parts, made, HasNoFloat, AllHaveNoFloat}
 
 member_none : (k : List ℕ) (d : Data) (ms : Members) → has_float d ≡ false → members_have_float ms ≡ false → members_have_float (member k d ms) ≡ false
@@ -32,7 +32,7 @@ put_none k d (member l e ms) h m =
     let r = rest_none l e ms m in
     put_at _ k l d e ms h r.0 r.1 (put_none k d ms h r.1)
 
-with_none : (f : Field) (o : Option Data) (ms : Members) → HasNoFloat o → members_have_float ms ≡ false → members_have_float (with_member f o ms) ≡ false
+with_none : (f : Field) (o : Option Data) (ms : Members) → HasNoFloat o → members_have_float ms ≡ false → members_have_float (with_member_if_any f o ms) ≡ false
 with_none f None ms h m = m
 with_none f (Some d) ms h m = put_none (key_of f) d ms h m
 

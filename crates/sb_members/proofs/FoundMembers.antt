@@ -10,8 +10,8 @@ use Rattle.serde_json.specs.Find.{get_member}
 use Rattle.serde_json.proofs.Views.{get_member-put, get_member-put_other}
 use Rattle.sb_json.specs.Fields.{key_of}
 use Rattle.sb_json.specs.declared.fields.Field.{Field}
-use Rattle.sb_members.specs.Writing.{with_member}
-use Rattle.sb_members.specs.Parts.{Parts, made, or_later, found, IsWithin, AllWithin}
+use Rattle.sb_members.specs.Writing.{with_member_if_any}
+use Rattle.sb_members.specs.Parts.{Parts, made, or_later, found, NestsWithin, AllWithin}
 
 none_first : (later : Option Data) → or_later None later ≡ later
 none_first None = refl
@@ -30,7 +30,7 @@ put_there true k l d ms e = rw ((bytes_eq-Decides k l).0 e) (get_member-put l d 
 put_there false k l d ms e = get_member-put_other k l d ms (λ h. cc (e, (bytes_eq-Decides k l).1 h))
 
 get_with : (f g : Field) (o : Option Data) (ms : Members)
-    → get_member (key_of f) (with_member g o ms) ≡ if bytes_eq (key_of f) (key_of g) then or_later o (get_member (key_of f) ms) else get_member (key_of f) ms
+    → get_member (key_of f) (with_member_if_any g o ms) ≡ if bytes_eq (key_of f) (key_of g) then or_later o (get_member (key_of f) ms) else get_member (key_of f) ms
 get_with f g None ms = same _ _
 get_with f g (Some d) ms = put_there _ (key_of f) (key_of g) d ms refl
 
@@ -52,7 +52,7 @@ put_depth k d no_members n p q = omega arith
 put_depth k d (member l e ms) n p q =
     ordered_depth _ (member k d (member l e ms)) (member l d ms) (member l e (put k d ms)) n (omega arith) (omega arith) (omega (arith, put_depth k d ms n p (omega arith)))
 
-with_depth : (f : Field) (o : Option Data) (ms : Members) (n : ℕ) → IsWithin n o → members_depth ms ≤ n → members_depth (with_member f o ms) ≤ n
+with_depth : (f : Field) (o : Option Data) (ms : Members) (n : ℕ) → NestsWithin n o → members_depth ms ≤ n → members_depth (with_member_if_any f o ms) ≤ n
 with_depth f None ms n h m = m
 with_depth f (Some d) ms n h m = put_depth (key_of f) d ms n h m
 

@@ -1,7 +1,7 @@
 -- The words of types are read as them.
 use Rattle.std.proofs.Common.{◌≡◌, Some, Ok, refl, ap, ◌∙◌}
 use Rattle.serde_json.specs.Data.{string, object}
-use Rattle.sb_json.specs.Values.{◌>>=◌, or_fault}
+use Rattle.sb_json.specs.Values.{◌>>=◌, or_field_fault}
 use Rattle.sb_json.specs.declared.fields.Field.TheVariants as field
 use Rattle.sb_json.specs.declared.faults.FieldFault.TheVariants.{Name}
 use Rattle.sb_model.specs.Names.{threat_word, threat_of, platform_word, platform_of, entry_word, entry_of}
@@ -41,18 +41,18 @@ entry_back entry.Executable = refl
 
 threat_found : (ps : Parts) (t : ThreatType) → found field.ThreatType ps ≡ Some (string (threat_word t)) → threat_row (object (made ps)) ≡ Ok t
 threat_found ps t e =
-    ap (λ r. r >>= λ word. or_fault (Name field.ThreatType) (threat_of word)) (string_found field.ThreatType ps (threat_word t) e)
-    ∙ ap (or_fault (Name field.ThreatType)) (threat_back t)
+    ap (λ r. r >>= λ word. or_field_fault (Name field.ThreatType) (threat_of word)) (string_found field.ThreatType ps (threat_word t) e)
+    ∙ ap (or_field_fault (Name field.ThreatType)) (threat_back t)
 
 platform_found : (ps : Parts) (p : PlatformType) → found field.PlatformType ps ≡ Some (string (platform_word p)) → platform_row (object (made ps)) ≡ Ok p
 platform_found ps p e =
-    ap (λ r. r >>= λ word. or_fault (Name field.PlatformType) (platform_of word)) (string_found field.PlatformType ps (platform_word p) e)
-    ∙ ap (or_fault (Name field.PlatformType)) (platform_back p)
+    ap (λ r. r >>= λ word. or_field_fault (Name field.PlatformType) (platform_of word)) (string_found field.PlatformType ps (platform_word p) e)
+    ∙ ap (or_field_fault (Name field.PlatformType)) (platform_back p)
 
 entry_found : (ps : Parts) (e : EntryType) → found field.ThreatEntryType ps ≡ Some (string (entry_word e)) → entry_row (object (made ps)) ≡ Ok e
 entry_found ps e h =
-    ap (λ r. r >>= λ word. or_fault (Name field.ThreatEntryType) (entry_of word)) (string_found field.ThreatEntryType ps (entry_word e) h)
-    ∙ ap (or_fault (Name field.ThreatEntryType)) (entry_back e)
+    ap (λ r. r >>= λ word. or_field_fault (Name field.ThreatEntryType) (entry_of word)) (string_found field.ThreatEntryType ps (entry_word e) h)
+    ∙ ap (or_field_fault (Name field.ThreatEntryType)) (entry_back e)
 
 pub names_again : NamesReadAgain
 names_again = record {

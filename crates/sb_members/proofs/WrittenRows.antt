@@ -13,7 +13,7 @@ use Rattle.serde_json.specs.Data.{Data, null, number, string, object, unsigned, 
 use Rattle.serde_json.specs.View.{items_of}
 use Rattle.base64.specs.Engines.{standard}
 use Rattle.base64.specs.GeneralPurpose.{IsBytes, encode_of}
-use Rattle.sb_json.specs.Values.{◌>>=◌, there, field_of, needed, or_fault, at_most, numeral, is_numeral, base64_of, whole_in, whole_of, string_in, string_of, items_in, object_in, object_of, bytes_in, bytes_of, duration_in, without_cause}
+use Rattle.sb_json.specs.Values.{◌>>=◌, there, field_of, needed_value, or_field_fault, at_most, numeral, is_numeral, base64_of, whole_in, whole_of, string_in, string_of, items_in, object_in, object_of, bytes_in, bytes_of, duration_in, without_cause}
 use Rattle.sb_json.specs.declared.fields.Field.{Field}
 use Rattle.sb_json.specs.declared.faults.FieldFault.{FieldFault}
 use Rattle.sb_json.specs.declared.faults.FieldFault.TheVariants as fault
@@ -28,8 +28,8 @@ use Rattle.sb_members.proofs.FoundMembers.{get_made}
 -- ---- needed fields
 
 needed_found : (f : Field) (ps : Parts) (d : Data) {A : Type 0} (read : Data → Result A FieldFault) → found f ps ≡ Some d → there (Some d) ≡ Some d
-    → (needed f (field_of f (object (made ps))) >>= read) ≡ read d
-needed_found f ps d read e stands = ap (λ (o : Option Data). needed f o >>= read) (ap there (get_made f ps ∙ e) ∙ stands)
+    → (needed_value f (field_of f (object (made ps))) >>= read) ≡ read d
+needed_found f ps d read e stands = ap (λ (o : Option Data). needed_value f o >>= read) (ap there (get_made f ps ∙ e) ∙ stands)
 
 pub string_found : (f : Field) (ps : Parts) (w : List ℕ) → found f ps ≡ Some (string w) → string_of f (object (made ps)) ≡ Ok w
 string_found f ps w e = needed_found f ps (string w) (string_in f) e refl
@@ -59,7 +59,7 @@ abbrev EncodedBack : Type 0
 EncodedBack = (bs : List ℕ) → IsBytes bs → base64_of (encode_of standard bs) ≡ Some bs
 
 string_back : EncodedBack → (f : Field) (bs : List ℕ) → IsBytes bs → bytes_in f (string (encode_of standard bs)) ≡ Ok bs
-string_back back f bs h = ap (or_fault (fault.Base64 f)) (back bs h)
+string_back back f bs h = ap (or_field_fault (fault.Base64 f)) (back bs h)
 
 bytes_there : EncodedBack → (f : Field) (bs : List ℕ) → IsBytes bs → or_absent [] (bytes_in f) (there (bytes_written bs)) ≡ Ok bs
 bytes_there back f [] h = refl
@@ -115,7 +115,7 @@ long_there : (f : Field) (most n : ℕ) (b : Bool) → (n == 0) ≡ b → n ≤ 
 long_there f most n true e h m = ap Ok (sym (eqb-true n 0 e))
 long_there f most n false e h m =
     let some : 0 < n = grind (arith, nat_tests, e) in
-    ap (λ (o : Option ℕ). or_fault (fault.Number f) (at_most most o)) (decimal_back n some (omega arith)) ∙ rw (within n most h) refl
+    ap (λ (o : Option ℕ). or_field_fault (fault.Number f) (at_most most o)) (decimal_back n some (omega arith)) ∙ rw (within n most h) refl
 
 long_found : (f : Field) (most : ℕ) (ps : Parts) (n : ℕ) → n ≤ most → most < 2 ^ 64 → found f ps ≡ long_written n → whole_or_zero f most (object (made ps)) ≡ Ok n
 long_found f most ps n h m e = absent_found f ps (long_written n) 0 (whole_in f most) e ∙ long_there f most n _ refl h m

@@ -20,9 +20,9 @@ ReadsList Reads (Err fault) values = ⊥
 -- ---- faults
 
 -- the fault of a row, where it has one
-abbrev pub fault_of : {A : Type 0} → Result A FieldFault → Option FieldFault
-fault_of (Ok a) = None
-fault_of (Err fault) = Some fault
+abbrev pub fault_of_row : {A : Type 0} → Result A FieldFault → Option FieldFault
+fault_of_row (Ok a) = None
+fault_of_row (Err fault) = Some fault
 
 -- the first that is there
 abbrev pub first : {F : Type 0} → List (Option F) → Option F

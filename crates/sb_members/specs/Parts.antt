@@ -5,7 +5,7 @@ use Rattle.serde_json.specs.Data.{Data, null, object, Members, no_members, membe
 use Rattle.serde_json.specs.Written.{has_float}
 use Rattle.sb_json.specs.Fields.{key_of}
 use Rattle.sb_json.specs.declared.fields.Field.{Field}
-use Rattle.sb_members.specs.Writing.{with_member}
+use Rattle.sb_members.specs.Writing.{with_member_if_any}
 
 abbrev pub Parts : Type 0
 Parts = List (Field × Option Data)
@@ -13,7 +13,7 @@ Parts = List (Field × Option Data)
 -- the members of such fields
 abbrev pub made : Parts → Members
 made [] = no_members
-made (part ∷ parts) = with_member part.0 part.1 (made parts)
+made (part ∷ parts) = with_member_if_any part.0 part.1 (made parts)
 
 -- the first of two values, and the other where the first is absent
 abbrev pub or_later : Option Data → Option Data → Option Data
@@ -34,13 +34,13 @@ or_null (member key value members) = object (member key value members)
 -- ---- how deep the values nest, and whether one is a float
 
 -- whether a value that may be absent nests no deeper
-abbrev pub IsWithin : ℕ → Option Data → Type 0
-IsWithin n None = Unit {0}
-IsWithin n (Some value) = depth value ≤ n
+abbrev pub NestsWithin : ℕ → Option Data → Type 0
+NestsWithin n None = Unit {0}
+NestsWithin n (Some value) = depth value ≤ n
 
 abbrev pub AllWithin : ℕ → Parts → Type 0
 AllWithin n [] = Unit {0}
-AllWithin n (part ∷ parts) = IsWithin n part.1 × AllWithin n parts
+AllWithin n (part ∷ parts) = NestsWithin n part.1 × AllWithin n parts
 
 -- whether a value that may be absent has no float
 abbrev pub HasNoFloat : Option Data → Type 0

@@ -2,7 +2,7 @@
 use Rattle.std.specs.Prelude.{ℕ, List, [], Option, Some, None, Result, Ok}
 use Rattle.std.specs.Str.{chars}
 use Rattle.serde_json.specs.Data.{Data, null, Items, no_items}
-use Rattle.sb_json.specs.Values.{◌>>=◌, field_of, or_fault, whole_in, string_in, items_in, object_in, bytes_in, duration_in, string_of}
+use Rattle.sb_json.specs.Values.{◌>>=◌, field_of, or_field_fault, whole_in, string_in, items_in, object_in, bytes_in, duration_in, string_of}
 use Rattle.sb_json.specs.declared.fields.Field.{Field}
 use Rattle.sb_json.specs.declared.fields.Field.TheVariants as field
 use Rattle.sb_json.specs.declared.faults.FieldFault.{FieldFault}
@@ -45,12 +45,12 @@ duration_or_zero field holder = or_absent 0 (duration_in field) (field_of field 
 
 -- `threatType`: a name that the table of threat types has
 abbrev pub threat_row : Data → Result ThreatType FieldFault
-threat_row holder = string_of field.ThreatType holder >>= λ word. or_fault (Name field.ThreatType) (threat_of word)
+threat_row holder = string_of field.ThreatType holder >>= λ word. or_field_fault (Name field.ThreatType) (threat_of word)
 
 -- `platformType`
 abbrev pub platform_row : Data → Result PlatformType FieldFault
-platform_row holder = string_of field.PlatformType holder >>= λ word. or_fault (Name field.PlatformType) (platform_of word)
+platform_row holder = string_of field.PlatformType holder >>= λ word. or_field_fault (Name field.PlatformType) (platform_of word)
 
 -- `threatEntryType`
 abbrev pub entry_row : Data → Result EntryType FieldFault
-entry_row holder = string_of field.ThreatEntryType holder >>= λ word. or_fault (Name field.ThreatEntryType) (entry_of word)
+entry_row holder = string_of field.ThreatEntryType holder >>= λ word. or_field_fault (Name field.ThreatEntryType) (entry_of word)

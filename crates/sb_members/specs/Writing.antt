@@ -9,9 +9,9 @@ use Rattle.sb_json.specs.declared.fields.Field.{Field}
 use Rattle.sb_model.specs.Time.{duration_text}
 
 -- members with one more, at its place in the byte order, where there is something to write
-abbrev pub with_member : Field → Option Data → Members → Members
-with_member name None members = members
-with_member name (Some value) members = put (key_of name) value members
+abbrev pub with_member_if_any : Field → Option Data → Members → Members
+with_member_if_any name None members = members
+with_member_if_any name (Some value) members = put (key_of name) value members
 
 -- ---- what is left out: empty texts, bytes and lists, zero numbers and durations, and objects that are bare
 

@@ -20,7 +20,7 @@ pub fn put_member(
     value: Option<Value>,
 ) -> Result<(), OutOfMemory>
     ensures { OnOk result (members_view members.new.entries
-        ≡ spec.with_member name (option_map view value) (members_view members.old.entries)) }
+        ≡ spec.with_member_if_any name (option_map view value) (members_view members.old.entries)) }
 {
     match value {
         Some(value) => Ok(serde_json::put(members, alloc, name.key(), value)?),

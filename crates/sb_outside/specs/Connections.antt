@@ -18,8 +18,8 @@ connected NoMore = None
 connected TimedOut = None
 
 -- the pieces of a wire that gives these bytes: there is one end of input
-abbrev pub pieces_of : List ℕ → List (List ℕ)
-pieces_of bytes = bytes ∷ []
+abbrev pub pieces_of_wire : List ℕ → List (List ℕ)
+pieces_of_wire bytes = bytes ∷ []
 
 -- The first of the connections that were to come is taken: these are its pieces. There is one at least, which may be
 -- empty: bytes and the end of input after them, or that end alone.

@@ -5,7 +5,7 @@ use Rattle.sb_model.specs.declared.names.ListName.{ListName}
 use Rattle.sb_model.specs.Names.{text_of}
 use Rattle.update_client.specs.declared.fault.ListResult.{ListResult}
 use Rattle.update_client.specs.declared.fault.ListResult.TheVariants.{Installed, Refused, NotKept}
-use Rattle.update_client.specs.Printed.{cause_text}
+use Rattle.update_client.specs.Printed.{update_cause_text}
 use Rattle.http_edge.specs.Printed as exchange
 use Rattle.sb_json.specs.Printed as message
 use Rattle.sb_round.specs.declared.rounds.RoundEnd.{RoundEnd}
@@ -15,7 +15,7 @@ use Rattle.sb_round.specs.declared.rounds.Taken.{Taken}
 
 abbrev pub result_text : ListResult → List ℕ
 result_text (Installed entries) = codes "installed " ++ decimal entries
-result_text (Refused fault) = codes "refused " ++ cause_text fault
+result_text (Refused fault) = codes "refused " ++ update_cause_text fault
 result_text NotKept = codes "not-kept"
 
 -- a list's name and what became of its update
@@ -28,8 +28,8 @@ round_line number text = codes "round " ++ decimal number ++ codes " " ++ text +
 
 -- why a round brought no message
 abbrev pub fault_text : RoundFault → List ℕ
-fault_text (Exchange fault) = codes "failed " ++ exchange.cause_text fault
-fault_text (Message fault) = codes "unreadable " ++ message.cause_text fault
+fault_text (Exchange fault) = codes "failed " ++ exchange.exchange_cause_text fault
+fault_text (Message fault) = codes "unreadable " ++ message.message_cause_text fault
 
 -- how a round ended
 abbrev pub ending_text : Result (List Taken) RoundFault → List ℕ

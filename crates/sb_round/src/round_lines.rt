@@ -1,6 +1,6 @@
 ghost use Rattle.std.specs.Prelude.{◌≡◌, ◌++◌, codes, decimal, length, take, OnOk, OnErr};
 ghost use Rattle.std.specs.List.{flat_map};
-ghost use Rattle.sb_json.specs.Printed.{cause_text};
+ghost use Rattle.sb_json.specs.Printed.{message_cause_text};
 ghost use Rattle.sb_round.specs.Printed.{round_line, fault_text, ending_text, end_text, update_line, update_lines, round_lines, taken_text};
 
 use crate::printing::push_taken;
@@ -21,7 +21,7 @@ fn push_round_number(page: &mut Bytes, number: u64) -> Result<(), OutOfMemory>
 
 // Appends why a body is no message.
 fn push_unreadable(page: &mut Bytes, fault: &MessageFault) -> Result<(), OutOfMemory>
-    ensures ok { OnOk result (page.new ≡ page.old ++ (codes "unreadable " ++ cause_text fault.now)) }
+    ensures ok { OnOk result (page.new ≡ page.old ++ (codes "unreadable " ++ message_cause_text fault.now)) }
     ensures front { OnErr result (take (length page.old) page.new ≡ page.old) }
 {
     page.append(b"unreadable ")?;

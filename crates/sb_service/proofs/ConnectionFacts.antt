@@ -16,7 +16,7 @@ use Rattle.http_serving.specs.Routes.{AsksAt, HasNoRoute, HasOtherMethod, Route}
 use Rattle.http_serving.specs.Serving.{AnswersAtMost, IsComplete}
 use Rattle.http_serving.specs.declared.ends.ConnectionEnd.{ConnectionEnd}
 use Rattle.http_serving.specs.declared.responses.Response.{Response}
-use Rattle.sb_json.specs.Printed.{cause_text as message_cause}
+use Rattle.sb_json.specs.Printed.{message_cause_text as message_cause}
 use Rattle.sb_json.specs.Values.{value_of}
 use Rattle.sb_json.specs.declared.faults.MessageFault.{MessageFault}
 use Rattle.sb_json.specs.declared.faults.MessageFault.TheVariants.{OutOfMemory as no_memory}

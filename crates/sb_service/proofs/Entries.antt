@@ -6,7 +6,7 @@ use Rattle.sb_outside.specs.Outside.{IfTold, with_entry}
 use Rattle.sb_outside.specs.Connections.{open_connection}
 use Rattle.sb_outside.specs.declared.doors.Connection.{Connection}
 use Rattle.http_serving.specs.Returning.{IsReturned}
-use Rattle.sb_service.specs.Serving.{IsLogged, IsOpened}
+use Rattle.sb_service.specs.Serving.{IsEntryLogged, IsOpened}
 
 some_of : {A : Type 0} (a b : A) → Some a ≡ Some b → a ≡ b
 some_of a b e = cc
@@ -26,7 +26,7 @@ with_one before None (Some told) number entry here opens log = absurd (cc)
 with_one None (Some entries) (Some told) number entry here opens log = absurd (cc)
 with_one (Some first) (Some entries) (Some told) number entry here opens log = some_entry first entries told number entry here (sym (some_of _ _ opens)) log
 
-pub logged : (Says : Connection → Type 0) (before opened after : Option (List Connection)) (number : ℕ) → IsOpened before opened number → IsReturned Says number opened after → IsLogged Says before after
+pub logged : (Says : Connection → Type 0) (before opened after : Option (List Connection)) (number : ℕ) → IsOpened before opened number → IsReturned Says number opened after → IsEntryLogged Says before after
 logged Says before opened after number opening returned = record {
   entry = returned.entry;
   logged = with_one before opened after number returned.entry opening.numbered opening.opens returned.logged;

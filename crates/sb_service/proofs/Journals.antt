@@ -8,9 +8,9 @@ use Rattle.list_versions.specs.Journal.{Kept, kept_of, read_on}
 use Rattle.list_versions.specs.Loaded.{Gives, IsBadRest, FurtherFault, JournalOutcome}
 use Rattle.list_versions.specs.declared.fault.JournalFault.{JournalFault}
 use Rattle.list_versions.specs.declared.fault.JournalFault.TheVariants as journal
-use Rattle.sb_service.specs.Answer.{AfterFault, IsSilent}
+use Rattle.sb_service.specs.Answer.{AfterJournalFault, IsSilent}
 use Rattle.sb_service.specs.declared.serve.ServePlan.{ServePlan}
-use Rattle.sb_service.specs.Serving.{Turn, Gains, Grows, gained_in, AreOfJournal, HasHeld, HasNoBadLine, HasNotGrown, HasRun, IsLined, IsRefusal, IsServeRun, IsTurn, Seen, ServeView, Stops, HasBegun, AfterLoad, seen_with}
+use Rattle.sb_service.specs.Serving.{Turn, GainsByTurns, GrowsByTurns, gained_in, AreOfJournal, HasHeld, HasNoBadLine, HasNotGrown, HasRun, IsLined, IsJournalRefusal, IsServeRun, IsTurn, ServingSeen, ServeView, Stops, HasServedTurns, AfterLoad, serving_with}
 use Rattle.http_serving.specs.declared.ends.ConnectionEnd.{ConnectionEnd}
 use Rattle.sb_service.proofs.Loads.{told_front, IsLoadedAs, loaded_as}
 use Rattle.sb_outside.specs.declared.doors.Connection.{Connection}
@@ -52,7 +52,7 @@ begins pieces left kept is told = record {
   tells = ap kept_of (one_further 0 pieces) ∙ told;
 }
 
-pub after_turns : CutsLaw → (pieces : List (List ℕ)) (turns : List Turn) (read left : Option (List (List ℕ))) (kept last : Kept) → IsAfter pieces 0 read kept → Gains turns read left → Grows kept turns last
+pub after_turns : CutsLaw → (pieces : List (List ℕ)) (turns : List Turn) (read left : Option (List (List ℕ))) (kept last : Kept) → IsAfter pieces 0 read kept → GainsByTurns turns read left → GrowsByTurns kept turns last
     → IsAfter pieces (length turns) left last
 after_turns law pieces [] read left kept last first gains grows = record {
   remains = gains ∙ first.remains;
@@ -91,7 +91,7 @@ harmless kept further bytes more piece (journal.TooLarge n) because is told = ab
 
 -- ---- each history is that of the journal's bytes so far
 
-journal_so_far : CutsLaw → (bytes : List ℕ) (kept : Kept) (turns : List Turn) (last : Kept) → kept_of bytes ≡ Ok kept → Grows kept turns last
+journal_so_far : CutsLaw → (bytes : List ℕ) (kept : Kept) (turns : List Turn) (last : Kept) → kept_of bytes ≡ Ok kept → GrowsByTurns kept turns last
     → AreOfJournal bytes turns × (kept_of (bytes ++ gained_in turns) ≡ Ok last)
 journal_so_far law bytes kept [] last told grows = (tt, ap kept_of (append-nil bytes) ∙ told ∙ ap Ok (sym grows))
 journal_so_far law bytes kept (turn ∷ before) last told grows =
@@ -101,7 +101,7 @@ journal_so_far law bytes kept (turn ∷ before) last told grows =
     ∙ sym (law (bytes ++ gained_in before) turn.gained grows.0 so_far.1) ∙ grows.2 in
     ((tells, so_far.0), tells ∙ ap Ok (sym grows.3))
 
-pub of_journal : CutsLaw → (bytes : List ℕ) (kept : Kept) (turns : List Turn) (last : Kept) → kept_of bytes ≡ Ok kept → Grows kept turns last → AreOfJournal bytes turns
+pub of_journal : CutsLaw → (bytes : List ℕ) (kept : Kept) (turns : List Turn) (last : Kept) → kept_of bytes ≡ Ok kept → GrowsByTurns kept turns last → AreOfJournal bytes turns
 of_journal law bytes kept turns last told grows = (journal_so_far law bytes kept turns last told grows).0
 
 -- ---- a run over a journal without a bad line
@@ -113,12 +113,12 @@ pub record IsOther (status : ℕ) : Type 0 where
   pub no_write : status ≢ 3
   pub no_door : status ≢ 9
 
-faultless : (fault : JournalFault) (status : ℕ) (held held' : Option (List ℕ)) → IsOther status → (fault ≡ journal.ReadFault) ⊎ (fault ≡ journal.OutOfMemory) → IsRefusal fault status held held' → ⊥
+faultless : (fault : JournalFault) (status : ℕ) (held held' : Option (List ℕ)) → IsOther status → (fault ≡ journal.ReadFault) ⊎ (fault ≡ journal.OutOfMemory) → IsJournalRefusal fault status held held' → ⊥
 faultless fault status held held' other why (inl silent) = other.no_memory silent.ends
 faultless fault status held held' other (inl is) (inr after) =
-    let read : IsSilent 2 status held held' = subst (λ (f : JournalFault). AfterFault f status held held') is after in
+    let read : IsSilent 2 status held held' = subst (λ (f : JournalFault). AfterJournalFault f status held held') is after in
     other.no_read read.ends
-faultless fault status held held' other (inr is) (inr after) = subst (λ (f : JournalFault). AfterFault f status held held') is after
+faultless fault status held held' other (inr is) (inr after) = subst (λ (f : JournalFault). AfterJournalFault f status held held') is after
 
 read_further : CutsLaw → (pieces : List (List ℕ)) (n : ℕ) (last : Kept) → HasNoBadLine pieces → kept_of (concat (take (suc n) pieces)) ≡ Ok last
     → (further : Kept) × (read_on last (next_piece (drop (suc n) pieces)) ≡ Ok further)
@@ -128,7 +128,7 @@ read_further law pieces n last none tells =
       law (concat (take (suc n) pieces)) (next_piece (drop (suc n) pieces)) last tells ∙ ap kept_of (sym (one_further (suc n) pieces)) ∙ further.1,
     )
 
-not_refused : CutsLaw → (pieces : List (List ℕ)) (hold : Bool) (n status : ℕ) (before after : Seen) → HasNoBadLine pieces → IsAfter pieces n before.left before.kept → IsOther status
+not_refused : CutsLaw → (pieces : List (List ℕ)) (hold : Bool) (n status : ℕ) (before after : ServingSeen) → HasNoBadLine pieces → IsAfter pieces n before.left before.kept → IsOther status
     → HasNotGrown hold status before after → ⊥
 not_refused law pieces hold n status before after none at other stop =
     let front = front_of_told before.left (drop (suc n) pieces) stop.gained stop.ended after.left at.remains stop.gives in
@@ -136,14 +136,14 @@ not_refused law pieces hold n status before after none at other stop =
     faultless stop.fault status before.held after.held other
     (harmless before.kept further.0 stop.gained front.0 (next_piece (drop (suc n) pieces)) stop.fault stop.because front.1 further.1) stop.refusal
 
-no_cause : (fault : JournalFault) (held held' : Option (List ℕ)) → (fault ≡ journal.ReadFault) ⊎ (fault ≡ journal.OutOfMemory) → IsRefusal fault 7 held held' → ⊥
+no_cause : (fault : JournalFault) (held held' : Option (List ℕ)) → (fault ≡ journal.ReadFault) ⊎ (fault ≡ journal.OutOfMemory) → IsJournalRefusal fault 7 held held' → ⊥
 no_cause fault held held' is (inl silent) = let ends = silent.ends in omega (arith, ends)
 no_cause fault held held' (inl is) (inr after) =
-    let silent : IsSilent 2 7 held held' = subst (λ (f : JournalFault). AfterFault f 7 held held') is after in
+    let silent : IsSilent 2 7 held held' = subst (λ (f : JournalFault). AfterJournalFault f 7 held held') is after in
     let ends = silent.ends in omega (arith, ends)
-no_cause fault held held' (inr is) (inr after) = subst (λ (f : JournalFault). AfterFault f 7 held held') is after
+no_cause fault held held' (inr is) (inr after) = subst (λ (f : JournalFault). AfterJournalFault f 7 held held') is after
 
-not_held : CutsLaw → (pieces : List (List ℕ)) (n : ℕ) (plan : ServePlan) (number status : ℕ) (before after : Seen) → HasNoBadLine pieces → IsAfter pieces n before.left before.kept
+not_held : CutsLaw → (pieces : List (List ℕ)) (n : ℕ) (plan : ServePlan) (number status : ℕ) (before after : ServingSeen) → HasNoBadLine pieces → IsAfter pieces n before.left before.kept
     → HasHeld plan number status before after → ⊥
 not_held law pieces n plan number status before after none at held =
     let front = front_of_told before.left (drop (suc n) pieces) held.gained held.ended after.left at.remains held.gives in
@@ -156,14 +156,14 @@ not_lined quiet number how status held held' other some (inl line) = some line.0
 not_lined quiet number how status held held' other some (inr (inl cut)) = other.no_write cut.0
 not_lined quiet number how status held held' other some (inr (inr silent)) = other.no_memory silent.2.ends
 
-no_last_turn : CutsLaw → (pieces : List (List ℕ)) (hold : Bool) (n : ℕ) (plan : ServePlan) (number status : ℕ) (before after : Seen) → HasNoBadLine pieces → IsAfter pieces n before.left before.kept → IsOther status → status ≢ 0
+no_last_turn : CutsLaw → (pieces : List (List ℕ)) (hold : Bool) (n : ℕ) (plan : ServePlan) (number status : ℕ) (before after : ServingSeen) → HasNoBadLine pieces → IsAfter pieces n before.left before.kept → IsOther status → status ≢ 0
     → IsTurn hold plan number status before after → ⊥
 no_last_turn law pieces hold n plan number status before after none at other some (inl grown) =
     not_lined plan.quiet number grown.told.how status before.held after.held other some grown.told.lined
 no_last_turn law pieces hold n plan number status before after none at other some (inr (inl stop)) = not_refused law pieces hold n status before after none at other stop
 no_last_turn law pieces hold n plan number status before after none at other some (inr (inr held)) = not_held law pieces n plan number status before after none at held.2
 
-ends_with_0 : CutsLaw → (pieces : List (List ℕ)) (hold : Bool) (n : ℕ) (plan : ServePlan) (connections status : ℕ) (before after : Seen) → HasNoBadLine pieces → IsAfter pieces n before.left before.kept
+ends_with_0 : CutsLaw → (pieces : List (List ℕ)) (hold : Bool) (n : ℕ) (plan : ServePlan) (connections status : ℕ) (before after : ServingSeen) → HasNoBadLine pieces → IsAfter pieces n before.left before.kept
     → IsOther status → Stops hold plan connections n status before after → status ≡ 0
 ends_with_0 law pieces hold n plan connections status before after none at other (inl done) = done.1.ends
 ends_with_0 law pieces hold n plan connections status before after none at other (inr (inl (inl no_more))) = no_more.0.ends
@@ -174,16 +174,16 @@ ends_with_0 law pieces hold n plan connections status before after none at other
     let rest = holds.1 in
     absurd (not_held law pieces n plan (n + 1) 0 before rest.between none at rest.held)
 
-run_ends : CutsLaw → (pieces : List (List ℕ)) (hold : Bool) (plan : ServePlan) (connections status : ℕ) (first after : Seen) → HasNoBadLine pieces → IsAfter pieces 0 first.left first.kept
+run_ends : CutsLaw → (pieces : List (List ℕ)) (hold : Bool) (plan : ServePlan) (connections status : ℕ) (first after : ServingSeen) → HasNoBadLine pieces → IsAfter pieces 0 first.left first.kept
     → IsOther status → HasRun hold plan connections status first after → status ≡ 0
 run_ends law pieces hold plan connections status first after none at other run =
     ends_with_0 law pieces hold (length run.turns) plan connections status run.last after none
     (after_turns law pieces run.turns first.left run.last.left first.kept run.last.kept at run.turned.gains run.turned.grows) other run.stops
 
 begun_ends : CutsLaw → (pieces : List (List ℕ)) (plan : ServePlan) (status : ℕ) (bytes : List ℕ) (kept : Kept) (before after : ServeView) → HasNoBadLine pieces → IsAfter pieces 0 before.left kept
-    → IsOther status → HasBegun plan status bytes kept before after → status ≡ 0
+    → IsOther status → HasServedTurns plan status bytes kept before after → status ≡ 0
 begun_ends law pieces plan status bytes kept before after none at other begun =
-    run_ends law pieces plan.hold plan plan.connections status (seen_with kept before) (seen_with begun.last after) none at other begun.run
+    run_ends law pieces plan.hold plan plan.connections status (serving_with kept before) (serving_with begun.last after) none at other begun.run
 
 load_ends : CutsLaw → (pieces : List (List ℕ)) (plan : ServePlan) (status : ℕ) (bytes : List ℕ) (ended : Bool) (before after : ServeView) (kept : Kept) → HasNoBadLine pieces
     → kept_of (next_piece pieces) ≡ Ok kept → IsOther status → Gives bytes ended (Some pieces) before.left

@@ -24,7 +24,7 @@ use Rattle.lookup_messages.specs.Reading.{ReadsLookup}
 use Rattle.sb_service.specs.declared.command.MessageKind.TheVariants.{Fetch, Find, Lookup}
 use Rattle.delta_server.specs.declared.answering.Settings.{Settings}
 use Rattle.sb_service.specs.Printed.{Reply, answer_line, reply_to_fetch, reply_to_find, reply_to_lookup, reply_with}
-use Rattle.sb_service.specs.Answer.{IsAnswerOf, AfterInput, AfterJournal, InputOutcome, IsAnswerRun, IsFetchOf, IsFindOf, IsLookupOf, IsInputRun, IsReplied, IsReplyTo, IsWritten, HasNoFault, IsStatus, most_body}
+use Rattle.sb_service.specs.Answer.{IsMessageAnswerOf, AfterBody, AfterJournalOfAnswer, BodyOutcome, IsAnswerRun, IsFetchOf, IsFindOf, IsLookupOf, IsBodyRun, IsReplied, IsReplyTo, IsWritten, HasNoFault, IsServerStatus, most_body}
 use Rattle.sb_service.proofs.ConnectionFacts.{ReadsOneWay, one_message}
 use Rattle.sb_service.proofs.Loads.{IsLoadedAs, loaded_as}
 
@@ -57,7 +57,7 @@ one_lookup law body request (Ok other) reads h = ap Ok (one_message ReadsLookup 
 one_lookup law body request (Err fault) reads h = absurd (no_fault ReadsLookup fault_of_lookup law.lookup body request fault reads h)
 
 -- the reply to a body that has an answer
-reply_is : ReadsOrFails → (versions : History) (times : Settings) (asked : MessageKind) (body text : List ℕ) (reply : Reply) → IsAnswerOf versions times asked body text → IsReplyTo versions times asked body reply
+reply_is : ReadsOrFails → (versions : History) (times : Settings) (asked : MessageKind) (body text : List ℕ) (reply : Reply) → IsMessageAnswerOf versions times asked body text → IsReplyTo versions times asked body reply
     → reply ≡ reply_with text
 reply_is law versions times Fetch body text reply (message, reads, is) (reading, read, same) =
     same ∙ ap (reply_to_fetch versions times) (one_fetch law body message reading reads read) ∙ ap reply_with (sym is)
@@ -72,37 +72,37 @@ text_served : (text : List ℕ) (status : ℕ) (held held' : Option (List ℕ)) 
 text_served text status held held' (inl whole) e = whole.whole
 text_served text status held held' (inr cut) e = absurd (omega (arith, cut.ends, e))
 
-replied : ReadsOrFails → (versions : History) (times : Settings) (asked : MessageKind) (status : ℕ) (body text : List ℕ) (held held' : Option (List ℕ)) → IsAnswerOf versions times asked body text
+replied : ReadsOrFails → (versions : History) (times : Settings) (asked : MessageKind) (status : ℕ) (body text : List ℕ) (held held' : Option (List ℕ)) → IsMessageAnswerOf versions times asked body text
     → IsReplied versions times asked body status held held' → IsWritten (reply_with text) status held held'
 replied law versions times asked status body text held held' answer after =
     subst (λ (reply : Reply). IsWritten reply status held held') (reply_is law versions times asked body text after.reply answer after.right) after.written
 
 -- a body that the input tells
 told_body : ReadsOrFails → (versions : History) (times : Settings) (asked : MessageKind) (status : ℕ) (bodies : List (List ℕ)) (left' : Option (List (List ℕ))) (held held' : Option (List ℕ)) (text : List ℕ)
-    → IsAnswerOf versions times asked (next_piece bodies) text → (given : Result (List ℕ) InputFault) → InputOutcome given (Some bodies) left'
-    → AfterInput versions times asked given status held held' → status ≡ 0 → held' ≡ appended held (answer_line text)
+    → IsMessageAnswerOf versions times asked (next_piece bodies) text → (given : Result (List ℕ) InputFault) → BodyOutcome given (Some bodies) left'
+    → AfterBody versions times asked given status held held' → status ≡ 0 → held' ≡ appended held (answer_line text)
 told_body law versions times asked status bodies left' held held' text answer (Ok body) outcome after e =
     let whole : next_piece bodies ≡ body = outcome.0.whole in
-    text_served text status held held' (replied law versions times asked status body text held held' (subst (λ (b : List ℕ). IsAnswerOf versions times asked b text) whole answer) after) e
+    text_served text status held held' (replied law versions times asked status body text held held' (subst (λ (b : List ℕ). IsMessageAnswerOf versions times asked b text) whole answer) after) e
 told_body law versions times asked status bodies left' held held' text answer (Err input.Failed) outcome after e = absurd (omega (arith, after.ends, e))
 told_body law versions times asked status bodies left' held held' text answer (Err input.PastLimit) outcome after e = absurd (omega (arith, after.ends, e))
 told_body law versions times asked status bodies left' held held' text answer (Err input.OutOfMemory) outcome after e = absurd after
 
 by_loaded : ReadsOrFails → (times : Settings) (asked : MessageKind) (status : ℕ) (bodies : List (List ℕ)) (left' : Option (List (List ℕ))) (held held' : Option (List ℕ)) (kept : Kept) (text : List ℕ)
-    → IsAnswerOf kept.versions times asked (next_piece bodies) text → (loaded : Result Kept JournalFault) → IsLoadedAs kept loaded
-    → AfterJournal times asked loaded status (Some bodies) left' held held' → status ≡ 0 → held' ≡ appended held (answer_line text)
+    → IsMessageAnswerOf kept.versions times asked (next_piece bodies) text → (loaded : Result Kept JournalFault) → IsLoadedAs kept loaded
+    → AfterJournalOfAnswer times asked loaded status (Some bodies) left' held held' → status ≡ 0 → held' ≡ appended held (answer_line text)
 by_loaded law times asked status bodies left' held held' kept text answer loaded (inl is) after e =
-    let run : IsInputRun kept.versions times asked status (Some bodies) left' held held' = subst (λ (l : Result Kept JournalFault). AfterJournal times asked l status (Some bodies) left' held held') is after in
+    let run : IsBodyRun kept.versions times asked status (Some bodies) left' held held' = subst (λ (l : Result Kept JournalFault). AfterJournalOfAnswer times asked l status (Some bodies) left' held held') is after in
     told_body law kept.versions times asked status bodies left' held held' text answer run.given run.outcome run.after e
 by_loaded law times asked status bodies left' held held' kept text answer loaded (inr (inl is)) after e =
-    let run = subst (λ (l : Result Kept JournalFault). AfterJournal times asked l status (Some bodies) left' held held') is after in
+    let run = subst (λ (l : Result Kept JournalFault). AfterJournalOfAnswer times asked l status (Some bodies) left' held held') is after in
     absurd (omega (arith, run.after.ends, e))
 by_loaded law times asked status bodies left' held held' kept text answer loaded (inr (inr is)) after e =
-    let run = subst (λ (l : Result Kept JournalFault). AfterJournal times asked l status (Some bodies) left' held held') is after in
+    let run = subst (λ (l : Result Kept JournalFault). AfterJournalOfAnswer times asked l status (Some bodies) left' held held') is after in
     absurd run.after
 
 pub served : ReadsOrFails → (times : Settings) (asked : MessageKind) (status : ℕ) (pieces bodies : List (List ℕ)) (journal journal' left left' : Option (List (List ℕ))) (held held' : Option (List ℕ)) (kept : Kept) (text : List ℕ)
-    → journal ≡ Some pieces → kept_of (next_piece pieces) ≡ Ok kept → left ≡ Some bodies → IsAnswerOf kept.versions times asked (next_piece bodies) text
+    → journal ≡ Some pieces → kept_of (next_piece pieces) ≡ Ok kept → left ≡ Some bodies → IsMessageAnswerOf kept.versions times asked (next_piece bodies) text
     → IsAnswerRun times asked status journal journal' left left' held held' → status ≡ 0 → held' ≡ appended held (answer_line text)
 served law times asked status pieces bodies journal journal' left left' held held' kept text told is given answer run e =
     let run : IsAnswerRun times asked status (Some pieces) journal' (Some bodies) left' held held' =
@@ -128,33 +128,33 @@ short_input : (bodies : List (List ℕ)) (after : Option (List (List ℕ))) → 
 short_input bodies after short more = by_left more.given (next_piece bodies) after more.gives.front short more.past
 
 whole_body : ReadsOrFails → (versions : History) (times : Settings) (asked : MessageKind) (status : ℕ) (bodies : List (List ℕ)) (left' : Option (List (List ℕ))) (held held' : Option (List ℕ)) (text : List ℕ)
-    → IsAnswerOf versions times asked (next_piece bodies) text → length (next_piece bodies) ≤ most_body
-    → (given : Result (List ℕ) InputFault) → InputOutcome given (Some bodies) left' → AfterInput versions times asked given status held held'
+    → IsMessageAnswerOf versions times asked (next_piece bodies) text → length (next_piece bodies) ≤ most_body
+    → (given : Result (List ℕ) InputFault) → BodyOutcome given (Some bodies) left' → AfterBody versions times asked given status held held'
     → status ≢ 2 → status ≢ 3 → status ≡ 0
 whole_body law versions times asked status bodies left' held held' text answer short (Ok body) outcome after two three =
     let whole : next_piece bodies ≡ body = outcome.0.whole in
-    text_whole text status held held' (replied law versions times asked status body text held held' (subst (λ (b : List ℕ). IsAnswerOf versions times asked b text) whole answer) after) three
+    text_whole text status held held' (replied law versions times asked status body text held held' (subst (λ (b : List ℕ). IsMessageAnswerOf versions times asked b text) whole answer) after) three
 whole_body law versions times asked status bodies left' held held' text answer short (Err input.Failed) outcome after two three = absurd (two after.ends)
 whole_body law versions times asked status bodies left' held held' text answer short (Err input.PastLimit) outcome after two three = absurd (short_input bodies left' short outcome)
 whole_body law versions times asked status bodies left' held held' text answer short (Err input.OutOfMemory) outcome after two three = absurd after
 
 whole_loaded : ReadsOrFails → (times : Settings) (asked : MessageKind) (status : ℕ) (bodies : List (List ℕ)) (left' : Option (List (List ℕ))) (held held' : Option (List ℕ)) (kept : Kept) (text : List ℕ)
-    → IsAnswerOf kept.versions times asked (next_piece bodies) text → length (next_piece bodies) ≤ most_body
-    → (loaded : Result Kept JournalFault) → IsLoadedAs kept loaded → AfterJournal times asked loaded status (Some bodies) left' held held'
+    → IsMessageAnswerOf kept.versions times asked (next_piece bodies) text → length (next_piece bodies) ≤ most_body
+    → (loaded : Result Kept JournalFault) → IsLoadedAs kept loaded → AfterJournalOfAnswer times asked loaded status (Some bodies) left' held held'
     → status ≢ 2 → status ≢ 3 → status ≡ 0
 whole_loaded law times asked status bodies left' held held' kept text answer short loaded (inl is) after two three =
-    let run : IsInputRun kept.versions times asked status (Some bodies) left' held held' = subst (λ (l : Result Kept JournalFault). AfterJournal times asked l status (Some bodies) left' held held') is after in
+    let run : IsBodyRun kept.versions times asked status (Some bodies) left' held held' = subst (λ (l : Result Kept JournalFault). AfterJournalOfAnswer times asked l status (Some bodies) left' held held') is after in
     whole_body law kept.versions times asked status bodies left' held held' text answer short run.given run.outcome run.after two three
 whole_loaded law times asked status bodies left' held held' kept text answer short loaded (inr (inl is)) after two three =
-    let run = subst (λ (l : Result Kept JournalFault). AfterJournal times asked l status (Some bodies) left' held held') is after in
+    let run = subst (λ (l : Result Kept JournalFault). AfterJournalOfAnswer times asked l status (Some bodies) left' held held') is after in
     absurd (two run.after.ends)
 whole_loaded law times asked status bodies left' held held' kept text answer short loaded (inr (inr is)) after two three =
-    let run = subst (λ (l : Result Kept JournalFault). AfterJournal times asked l status (Some bodies) left' held held') is after in
+    let run = subst (λ (l : Result Kept JournalFault). AfterJournalOfAnswer times asked l status (Some bodies) left' held held') is after in
     absurd run.after
 
 pub answered : ReadsOrFails → (times : Settings) (asked : MessageKind) (status : ℕ) (pieces bodies : List (List ℕ)) (journal journal' left left' : Option (List (List ℕ))) (held held' : Option (List ℕ)) (kept : Kept) (text : List ℕ)
     → journal ≡ Some pieces → kept_of (next_piece pieces) ≡ Ok kept → left ≡ Some bodies → length (next_piece bodies) ≤ most_body
-    → IsAnswerOf kept.versions times asked (next_piece bodies) text
+    → IsMessageAnswerOf kept.versions times asked (next_piece bodies) text
     → IsAnswerRun times asked status journal journal' left left' held held' → status ≢ 2 → status ≢ 3 → status ≡ 0
 answered law times asked status pieces bodies journal journal' left left' held held' kept text told is given short answer run two three =
     let run : IsAnswerRun times asked status (Some pieces) journal' (Some bodies) left' held held' =
@@ -169,7 +169,7 @@ pub not_risen : (faults faults' : ℕ) → HasNoFault faults faults' → Rose fa
 not_risen faults faults' h rose = omega (arith, h.kept, h.low, rose)
 
 -- where some status but one is ruled out, it is this one or want of memory
-pub zero_or_memory : (status : ℕ) → IsStatus status → (status ≢ 8 → status ≡ 0) → (status ≡ 0) ⊎ (status ≡ 8)
+pub zero_or_memory : (status : ℕ) → IsServerStatus status → (status ≢ 8 → status ≡ 0) → (status ≡ 0) ⊎ (status ≡ 8)
 zero_or_memory status (inl h) only = inl h
 zero_or_memory status (inr (inl h)) only = inl (only (λ e. omega (arith, e, h)))
 zero_or_memory status (inr (inr (inl h))) only = inl (only (λ e. omega (arith, e, h)))

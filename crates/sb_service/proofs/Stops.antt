@@ -1,12 +1,12 @@
 -- What ended a run, by its exit status.
 use Rattle.std.proofs.Common.{◌≡◌, ◌≢◌, ◌⊎◌, inl, inr, ℕ, refl, sym, ap, ◌∙◌, arith, Option, Some}
 use Rattle.std.specs.Prelude.{◌==◌, if◌then◌else◌, Result, Ok}
-use Rattle.sb_service.specs.Answer.{IsStatus}
+use Rattle.sb_service.specs.Answer.{IsServerStatus}
 use Rattle.sb_service.specs.Stops.{status_of}
 use Rattle.sb_service.specs.declared.stop.Stop.{Stop}
 use Rattle.sb_service.specs.declared.stop.Stop.TheVariants as stop
 
-pub is_status : (s : Stop) → IsStatus (status_of s)
+pub is_status : (s : Stop) → IsServerStatus (status_of s)
 is_status stop.Done = inl refl
 is_status stop.NoCommand = inr (inl refl)
 is_status stop.ReadFault = inr (inr (inl refl))

@@ -26,11 +26,11 @@ use Rattle.sb_service.specs.declared.command.MessageKind.{MessageKind}
 use Rattle.sb_service.specs.declared.command.MessageKind.TheVariants.{Fetch, Find, Lookup}
 use Rattle.delta_server.specs.declared.answering.Settings.{Settings}
 use Rattle.sb_service.specs.Connection.{IsUpdatesText, IsMatchesText, IsLookupsText}
-use Rattle.sb_service.specs.Printed.{Reply, refusal_of, reply_to_fetch, reply_to_find, reply_to_lookup}
+use Rattle.sb_service.specs.Printed.{Reply, journal_refusal, reply_to_fetch, reply_to_find, reply_to_lookup}
 
 -- each exit status that a run of the server can have
-abbrev pub IsStatus : ℕ → Type 0
-IsStatus status =
+abbrev pub IsServerStatus : ℕ → Type 0
+IsServerStatus status =
     (status ≡ 0) ⊎ (status ≡ 1) ⊎ (status ≡ 2) ⊎ (status ≡ 3) ⊎ (status ≡ 5) ⊎ (status ≡ 6) ⊎ (status ≡ 7) ⊎ (status ≡ 8)
     ⊎ (status ≡ 9)
 
@@ -67,11 +67,11 @@ abbrev pub most_body : ℕ
 most_body = 1048576
 
 -- what an input gave: a whole body, or some bytes of one
-abbrev pub InputOutcome : Result (List ℕ) InputFault → (left left' : Option (List (List ℕ))) → Type 0
-InputOutcome (Ok body) left left' = ReadsToEnd body left left' × (length body ≤ most_body)
-InputOutcome (Err input.Failed) left left' = GivesAtMost most_body left left'
-InputOutcome (Err input.PastLimit) left left' = GivesMoreThan most_body left left'
-InputOutcome (Err input.OutOfMemory) left left' = ⊥
+abbrev pub BodyOutcome : Result (List ℕ) InputFault → (left left' : Option (List (List ℕ))) → Type 0
+BodyOutcome (Ok body) left left' = ReadsToEnd body left left' × (length body ≤ most_body)
+BodyOutcome (Err input.Failed) left left' = GivesAtMost most_body left left'
+BodyOutcome (Err input.PastLimit) left left' = GivesMoreThan most_body left left'
+BodyOutcome (Err input.OutOfMemory) left left' = ⊥
 
 -- A body is read as a request for updates, or has a first fault.
 abbrev pub IsFetchOf : List ℕ → Result Request MessageFault → Type 0
@@ -89,10 +89,10 @@ IsLookupOf body (Ok request) = IsTextOf ReadsLookup body request
 IsLookupOf body (Err fault) = fault_of_text fault_of_lookup (value_of body) ≡ Some fault
 
 -- The answer to the body of a message is the one that a connection gives.
-abbrev pub IsAnswerOf : History → Settings → MessageKind → List ℕ → List ℕ → Type 0
-IsAnswerOf versions times Fetch body text = IsUpdatesText versions times body text
-IsAnswerOf versions times Find body text = IsMatchesText versions times body text
-IsAnswerOf versions times Lookup body text = IsLookupsText versions times body text
+abbrev pub IsMessageAnswerOf : History → Settings → MessageKind → List ℕ → List ℕ → Type 0
+IsMessageAnswerOf versions times Fetch body text = IsUpdatesText versions times body text
+IsMessageAnswerOf versions times Find body text = IsMatchesText versions times body text
+IsMessageAnswerOf versions times Lookup body text = IsLookupsText versions times body text
 
 -- the reply to a body that asks for this, by a server that has this history and these times
 abbrev pub IsReplyTo : History → Settings → MessageKind → List ℕ → Reply → Type 0
@@ -111,39 +111,39 @@ pub record IsReplied (versions : History) (times : Settings) (asked : MessageKin
   pub written : IsWritten reply status held held'
 
 -- what the input led to: a reply, 2 where it failed, 6 where it is too long
-abbrev pub AfterInput : History → Settings → MessageKind → Result (List ℕ) InputFault → ℕ
+abbrev pub AfterBody : History → Settings → MessageKind → Result (List ℕ) InputFault → ℕ
     → (held held' : Option (List ℕ)) → Type 0
-AfterInput versions times asked (Ok body) status held held' = IsReplied versions times asked body status held held'
-AfterInput versions times asked (Err input.Failed) status held held' = IsSilent 2 status held held'
-AfterInput versions times asked (Err input.PastLimit) status held held' = IsSilent 6 status held held'
-AfterInput versions times asked (Err input.OutOfMemory) status held held' = ⊥
+AfterBody versions times asked (Ok body) status held held' = IsReplied versions times asked body status held held'
+AfterBody versions times asked (Err input.Failed) status held held' = IsSilent 2 status held held'
+AfterBody versions times asked (Err input.PastLimit) status held held' = IsSilent 6 status held held'
+AfterBody versions times asked (Err input.OutOfMemory) status held held' = ⊥
 
 -- The input was read, and decided.
-pub record IsInputRun (versions : History) (times : Settings) (asked : MessageKind) (status : ℕ) (left left' : Option (List (List ℕ)))
+pub record IsBodyRun (versions : History) (times : Settings) (asked : MessageKind) (status : ℕ) (left left' : Option (List (List ℕ)))
     (held held' : Option (List ℕ)) : Type 0 where
   pub given : Result (List ℕ) InputFault
-  pub outcome : InputOutcome given left left'
-  pub after : AfterInput versions times asked given status held held'
+  pub outcome : BodyOutcome given left left'
+  pub after : AfterBody versions times asked given status held held'
 
 -- ---- the journal
 
 -- what a journal that is no history led to: 2 where it failed, and else its cause was told
-abbrev pub AfterFault : JournalFault → ℕ → (held held' : Option (List ℕ)) → Type 0
-AfterFault journal.ReadFault status held held' = IsSilent 2 status held held'
-AfterFault journal.OutOfMemory status held held' = ⊥
-AfterFault fault status held held' = IsWritten (refusal_of fault) status held held'
+abbrev pub AfterJournalFault : JournalFault → ℕ → (held held' : Option (List ℕ)) → Type 0
+AfterJournalFault journal.ReadFault status held held' = IsSilent 2 status held held'
+AfterJournalFault journal.OutOfMemory status held held' = ⊥
+AfterJournalFault fault status held held' = IsWritten (journal_refusal fault) status held held'
 
 -- The journal is no history, and nothing was read of the input.
 pub record IsFaultRun (fault : JournalFault) (status : ℕ) (left left' : Option (List (List ℕ)))
     (held held' : Option (List ℕ)) : Type 0 where
   pub unread : left' ≡ left
-  pub after : AfterFault fault status held held'
+  pub after : AfterJournalFault fault status held held'
 
 -- what the journal led to
-abbrev pub AfterJournal : Settings → MessageKind → Result Kept JournalFault → ℕ → (left left' : Option (List (List ℕ)))
+abbrev pub AfterJournalOfAnswer : Settings → MessageKind → Result Kept JournalFault → ℕ → (left left' : Option (List (List ℕ)))
     → (held held' : Option (List ℕ)) → Type 0
-AfterJournal times asked (Ok kept) status left left' held held' = IsInputRun kept.versions times asked status left left' held held'
-AfterJournal times asked (Err fault) status left left' held held' = IsFaultRun fault status left left' held held'
+AfterJournalOfAnswer times asked (Ok kept) status left left' held held' = IsBodyRun kept.versions times asked status left left' held held'
+AfterJournalOfAnswer times asked (Err fault) status left left' held held' = IsFaultRun fault status left left' held held'
 
 -- A run of `answer`, for a body that asks for this, of a server with these times: the journal gave these bytes, with its end or without,
 -- and what they come to decided what became of the input and of the output.
@@ -154,13 +154,13 @@ pub record IsAnswerRun (times : Settings) (asked : MessageKind) (status : ℕ) (
   pub gives : Gives bytes ended journal journal'
   pub loaded : Result Kept JournalFault
   pub outcome : JournalOutcome bytes ended loaded
-  pub after : AfterJournal times asked loaded status left left' held held'
+  pub after : AfterJournalOfAnswer times asked loaded status left left' held held'
 
 -- ---- the counts of faults
 
 -- With status 2 the count of the journal or that of the input rose, with 3 that of the output, and with 9 that of the door.
 -- With others no count did, but for that of the output with 1, which the usage text may raise.
-pub record AreCounted (status : ℕ) (journal journal' input input' out out' door door' : ℕ) : Type 0 where
+pub record AreCountedWithDoor (status : ℕ) (journal journal' input input' out out' door door' : ℕ) : Type 0 where
   pub read : status ≡ 2 → (Rose journal journal' × (input' ≡ input)) ⊎ (Rose input input' × (journal' ≡ journal))
   pub read_kept : status ≢ 2 → (journal' ≡ journal) × (input' ≡ input)
   pub written : status ≡ 3 → Rose out out'

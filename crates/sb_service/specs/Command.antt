@@ -52,10 +52,10 @@ abbrev pub exercise_shape : CommandShape
 exercise_shape = record { options = []; takes_positionals = true }
 
 -- what the words after a command give, where the first words are the program's name and the command's
-abbrev pub given_to : Text → CommandShape → List Text → Option Given
-given_to command shape (first ∷ second ∷ words) =
+abbrev pub given_to_command : Text → CommandShape → List Text → Option Given
+given_to_command command shape (first ∷ second ∷ words) =
     if bytes_eq first (codes "sblistd") && bytes_eq second command then given_of shape words else None
-given_to command shape words = None
+given_to_command command shape words = None
 
 -- a duration in seconds, at most a day, which has a default
 abbrev pub seconds_of : ℕ → Option Text → Option ℕ
@@ -105,7 +105,7 @@ answer_given given =
 
 -- what the words of `sblistd answer --journal PATH --kind fetch ..` say, where they are such words
 abbrev pub answer_of : List Text → Option AnswerWords
-answer_of words = option_and_then answer_given (given_to (codes "answer") answer_shape words)
+answer_of words = option_and_then answer_given (given_to_command (codes "answer") answer_shape words)
 
 -- What a command line of `serve` says: the path of the journal, the address, the room of the door, and the plan: times, how many
 -- connections, whether a bad line of the journal holds the lists as they are, and whether connections have no lines.
@@ -167,7 +167,7 @@ serve_given given =
 
 -- what the words of `sblistd serve --journal PATH --listen ADDRESS ..` say, where they are such words
 abbrev pub serve_of : List Text → Option ServeWords
-serve_of words = option_and_then serve_given (given_to (codes "serve") serve_shape words)
+serve_of words = option_and_then serve_given (given_to_command (codes "serve") serve_shape words)
 
 -- the load that two positional words say: how many changes or URLs, 1 to 65,536, and a seed of 64 bits
 abbrev pub load_given : List Text → Option Load
@@ -186,23 +186,23 @@ exercise_given given = load_given given.positionals
 
 -- what the words of `sblistd generate [--urls] N SEED` say, where they are such words
 abbrev pub generate_of : List Text → Option GenerateLine
-generate_of words = option_and_then generate_given (given_to (codes "generate") generate_shape words)
+generate_of words = option_and_then generate_given (given_to_command (codes "generate") generate_shape words)
 
 -- and what those of `sblistd exercise N SEED` say
 abbrev pub exercise_of : List Text → Option Load
-exercise_of words = option_and_then exercise_given (given_to (codes "exercise") exercise_shape words)
+exercise_of words = option_and_then exercise_given (given_to_command (codes "exercise") exercise_shape words)
 
 -- what the words `sblistd --help`, `sblistd -h` or `sblistd --version` ask about the program
 abbrev pub tell_of : List Text → Option About
 tell_of words = about_of (codes "sblistd") words
 
 -- where the words have a journal: those of `answer`, or else those of `serve`
-abbrev pub path_of : Option AnswerWords → Option ServeWords → Option Text
-path_of (Some answer) serve = Some answer.journal
-path_of None serve = option_map (λ (serve : ServeWords). serve.journal) serve
+abbrev pub journal_path_of : Option AnswerWords → Option ServeWords → Option Text
+journal_path_of (Some answer) serve = Some answer.journal
+journal_path_of None serve = option_map (λ (serve : ServeWords). serve.journal) serve
 
-abbrev pub journal_of : List Text → Option Text
-journal_of words = path_of (answer_of words) (serve_of words)
+abbrev pub journal_of_words : List Text → Option Text
+journal_of_words words = journal_path_of (answer_of words) (serve_of words)
 
 -- and where connections come in, and the room of the door there
 abbrev pub listen_of : List Text → Option Text
@@ -212,7 +212,7 @@ abbrev pub room_of : List Text → Option DoorRoom
 room_of words = option_map (λ (serve : ServeWords). serve.room) (serve_of words)
 
 -- The words are no command line.
-pub record IsNoCommand (words : List Text) : Type 0 where
+pub record IsNoServerCommand (words : List Text) : Type 0 where
   pub answer : answer_of words ≡ None
   pub serve : serve_of words ≡ None
   pub generate : generate_of words ≡ None
@@ -233,13 +233,13 @@ pub record AsksServe (words : List Text) (plan : ServePlan) : Type 0 where
   pub asked : line.plan ≡ plan
 
 -- What the code makes of the words: the command that they are.
-abbrev pub IsCommandOf : List Text → Option Command → Type 0
-IsCommandOf words None = IsNoCommand words
-IsCommandOf words (Some (Answer kind settings)) = AsksAnswer words kind settings
-IsCommandOf words (Some (Serve plan)) = AsksServe words plan
-IsCommandOf words (Some (Generate urls load)) = generate_of words ≡ Some (record { urls = urls; load = load })
-IsCommandOf words (Some (Exercise load)) = exercise_of words ≡ Some load
-IsCommandOf words (Some (Tell about)) = tell_of words ≡ Some about
+abbrev pub IsServerCommandOf : List Text → Option Command → Type 0
+IsServerCommandOf words None = IsNoServerCommand words
+IsServerCommandOf words (Some (Answer kind settings)) = AsksAnswer words kind settings
+IsServerCommandOf words (Some (Serve plan)) = AsksServe words plan
+IsServerCommandOf words (Some (Generate urls load)) = generate_of words ≡ Some (record { urls = urls; load = load })
+IsServerCommandOf words (Some (Exercise load)) = exercise_of words ≡ Some load
+IsServerCommandOf words (Some (Tell about)) = tell_of words ≡ Some about
 
 -- a command that serves no connection, and one that makes what it prints from its words alone
 abbrev pub IsNoService : Command → Type 0

@@ -1,12 +1,12 @@
 -- What a list server answers to a request, over the history that it was lent.
 use Rattle.std.specs.Prelude.{◌≡◌, ℕ, zero, suc, List, [], ◌∷◌, Option, Some, None, option_map, codes}
-use Rattle.sb_json.specs.Printed.{cause_text as message_cause}
+use Rattle.sb_json.specs.Printed.{message_cause_text as message_cause}
 use Rattle.sb_json.specs.Values.{value_of}
 use Rattle.sb_json.specs.declared.faults.MessageFault.{MessageFault}
 use Rattle.sb_outside.specs.declared.links.Kind.TheVariants.{Update, Find}
 use Rattle.sb_model.specs.History.{History}
-use Rattle.http_edge.specs.Exchanges.{path_of}
-use Rattle.http_edge.specs.Requests.{ReadsAs}
+use Rattle.http_edge.specs.Exchanges.{path_of_kind}
+use Rattle.http_edge.specs.Requests.{ReadsAsRequest}
 use Rattle.http_edge.specs.declared.messages.Allow.{Allow}
 use Rattle.http_edge.specs.declared.messages.Allow.TheVariants.{Get, Post}
 use Rattle.http_edge.specs.declared.messages.HttpRequest.{HttpRequest}
@@ -74,7 +74,7 @@ lists_path = codes "/v4/threatLists"
 -- The routes of a list server: updates, full hashes, look-ups, and the names of its lists.
 abbrev pub list_routes : List Route
 list_routes =
-    record { path = path_of Update; allow = Post } ∷ record { path = path_of Find; allow = Post }
+    record { path = path_of_kind Update; allow = Post } ∷ record { path = path_of_kind Find; allow = Post }
     ∷ record { path = lookups_path; allow = Post } ∷ record { path = lists_path; allow = Get } ∷ []
 
 -- the route at a place
@@ -133,7 +133,7 @@ IsResponseTo history times = RoutedAnswer list_routes (IsResponseAt history time
 -- The bytes begin with a whole request that asks for a route, and its body has this answer.
 pub record HasGoodRequest (history : History) (times : Settings) (bytes text : List ℕ) : Type 0 where
   pub request : HttpRequest
-  pub reads : ReadsAs bytes request
+  pub reads : ReadsAsRequest bytes request
   pub place : ℕ
   pub asks : AsksAt list_routes request place
   pub answer : IsTextAt history times place request.body text

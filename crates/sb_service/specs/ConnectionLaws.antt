@@ -16,8 +16,8 @@ abbrev pub HasOneResponse : History → Settings → HttpRequest → Type 0
 HasOneResponse history times request = serving.HasOneAnswer (IsResponseTo history times) request
 
 -- Bytes that begin with a whole request are answered as that request is, and never as a refusal.
-abbrev pub IsAnsweredAsRead : History → Settings → List ℕ → HttpRequest → Type 0
-IsAnsweredAsRead history times bytes request = serving.IsAnsweredAsRead (IsResponseTo history times) bytes request
+abbrev pub IsResponseAsRead : History → Settings → List ℕ → HttpRequest → Type 0
+IsResponseAsRead history times bytes request = serving.IsAnsweredAsRead (IsResponseTo history times) bytes request
 
 -- A request for a route whose body has no answer is answered 400 without a body, and its cause is the body's first fault.
 abbrev pub TellsFirstFault : History → Settings → HttpRequest → Type 0

@@ -1,6 +1,6 @@
 -- A step on the way to a response: a body that is no message.
 use Rattle.std.specs.Prelude.{◌≡◌, ◌≢◌, ℕ, List, []}
-use Rattle.sb_json.specs.Printed.{cause_text as message_cause}
+use Rattle.sb_json.specs.Printed.{message_cause_text as message_cause}
 use Rattle.sb_json.specs.declared.faults.MessageFault.{MessageFault}
 use Rattle.sb_json.specs.declared.faults.MessageFault.TheVariants as message
 use Rattle.http_edge.specs.declared.messages.Status.{Status}

@@ -5,7 +5,7 @@ use Rattle.std.specs.Cmp.Lexicographic.{pointwise}
 use Rattle.std.specs.List.{list_all}
 use Rattle.sb_model.specs.History.{History}
 use Rattle.http_edge.specs.declared.messages.Status.TheVariants.{Success}
-use Rattle.http_serving.specs.Kept.{AreKept, KeptLists}
+use Rattle.http_serving.specs.Kept.{HoldsOfAnswers, KeptLists}
 use Rattle.http_serving.specs.Written.{IsTextOfRight}
 use Rattle.http_serving.specs.declared.kept.KeptAnswer.{KeptAnswer}
 use Rattle.delta_server.specs.declared.answering.Settings.{Settings}
@@ -21,7 +21,7 @@ pub record IsKeptOf (history : History) (times : Settings) (kept : KeptAnswer (L
 
 -- Each kept answer is one.
 abbrev pub AreKeptOf : History → Settings → KeptLists (List Wish) → Type 0
-AreKeptOf history times kept = AreKept (IsKeptOf history times) kept
+AreKeptOf history times kept = HoldsOfAnswers (IsKeptOf history times) kept
 
 -- whether two requests wish the same, item by item
 abbrev pub same_wishes : (wishes others : List Wish) → Bool

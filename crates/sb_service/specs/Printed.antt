@@ -1,11 +1,11 @@
 -- What a run prints, and the status that goes with it.
 use Rattle.std.specs.Prelude.{ℕ, List, [], ◌∷◌, ◌++◌, Result, Ok, Err, codes}
 use Rattle.sb_json.specs.declared.faults.MessageFault.{MessageFault}
-use Rattle.sb_json.specs.Printed.{cause_text as message_cause}
+use Rattle.sb_json.specs.Printed.{message_cause_text as message_cause}
 use Rattle.sb_model.specs.History.{History}
 use Rattle.list_versions.specs.Lines.{newline}
 use Rattle.list_versions.specs.declared.fault.JournalFault.{JournalFault}
-use Rattle.list_versions.specs.Printed.{cause_text as journal_cause}
+use Rattle.list_versions.specs.Printed.{journal_cause_text as journal_cause}
 use Rattle.update_messages.specs.Messages.{Request}
 use Rattle.hash_messages.specs.Messages.{AskedHashes}
 use Rattle.lookup_messages.specs.Messages.{AskedUrls}
@@ -13,8 +13,8 @@ use Rattle.delta_server.specs.declared.answering.Settings.{Settings}
 use Rattle.sb_service.specs.Connection.{updates_text, matches_text, lookups_text}
 
 -- why a journal is refused
-abbrev pub journal_line : JournalFault → List ℕ
-journal_line fault = codes "journal " ++ journal_cause fault ++ newline ∷ []
+abbrev pub journal_refusal_line : JournalFault → List ℕ
+journal_refusal_line fault = codes "journal " ++ journal_cause fault ++ newline ∷ []
 
 -- why a request is refused
 abbrev pub request_line : List ℕ → List ℕ
@@ -30,8 +30,8 @@ pub record Reply : Type 0 where
   pub status : ℕ
 
 -- the reply to one whose journal is refused
-abbrev pub refusal_of : JournalFault → Reply
-refusal_of fault = record { text = journal_line fault; status = 7 }
+abbrev pub journal_refusal : JournalFault → Reply
+journal_refusal fault = record { text = journal_refusal_line fault; status = 7 }
 
 -- the reply to one whose request is answered, and to one whose request is refused
 abbrev pub reply_with : List ℕ → Reply

@@ -12,9 +12,9 @@ use Rattle.list_versions.specs.Loaded.{Gives, JournalOutcome, FurtherFault}
 use Rattle.list_versions.specs.declared.fault.JournalFault.{JournalFault}
 use Rattle.delta_server.specs.declared.answering.Settings.{Settings}
 use Rattle.sb_service.specs.declared.serve.ServePlan.{ServePlan}
-use Rattle.sb_service.specs.Answer.{AfterFault, IsSilent}
+use Rattle.sb_service.specs.Answer.{AfterJournalFault, IsSilent}
 use Rattle.http_serving.specs.Printed.{connection_line}
-use Rattle.http_serving.specs.Serving.{IsServed, IsUntouched}
+use Rattle.http_serving.specs.Serving.{IsServed, IsConnectionUntouched}
 use Rattle.http_serving.specs.declared.ends.ConnectionEnd.{ConnectionEnd}
 use Rattle.http_serving.specs.declared.ends.ConnectionEnd.TheVariants as end
 use Rattle.sb_service.specs.Connection.{IsResponseTo}
@@ -22,7 +22,7 @@ use Rattle.sb_service.specs.Connection.{IsResponseTo}
 -- ---- a connection
 
 -- The log has one more entry than before, where it is told, and the entry is such a one.
-pub record IsLogged (Says : Connection → Type 0) (log log' : Option (List Connection)) : Type 0 where
+pub record IsEntryLogged (Says : Connection → Type 0) (log log' : Option (List Connection)) : Type 0 where
   pub entry : Connection
   pub logged : IfTold log' (with_entry log entry)
   pub says : IfSome log' (λ _. Says entry)
@@ -42,16 +42,16 @@ pub record Turn : Type 0 where
 -- The last of several turns stands first, so that each stands before those that came before it.
 
 -- The journal gave its bytes turn by turn, each up to an end.
-abbrev pub Gains : List Turn → (left left' : Option (List (List ℕ))) → Type 0
-Gains [] left left' = left' ≡ left
-Gains (turn ∷ before) left left' =
-    (between : Option (List (List ℕ))) × Gains before left between × Gives turn.gained true between left'
+abbrev pub GainsByTurns : List Turn → (left left' : Option (List (List ℕ))) → Type 0
+GainsByTurns [] left left' = left' ≡ left
+GainsByTurns (turn ∷ before) left left' =
+    (between : Option (List (List ℕ))) × GainsByTurns before left between × Gives turn.gained true between left'
 
 -- The history grew with these bytes.
-abbrev pub Grows : Kept → List Turn → Kept → Type 0
-Grows kept [] last = last ≡ kept
-Grows kept (turn ∷ before) last =
-    (between : Kept) × Grows kept before between × (read_on between turn.gained ≡ Ok turn.kept) × (last ≡ turn.kept)
+abbrev pub GrowsByTurns : Kept → List Turn → Kept → Type 0
+GrowsByTurns kept [] last = last ≡ kept
+GrowsByTurns kept (turn ∷ before) last =
+    (between : Kept) × GrowsByTurns kept before between × (read_on between turn.gained ≡ Ok turn.kept) × (last ≡ turn.kept)
 
 -- the bytes that the journal gave in all of them
 abbrev pub gained_in : List Turn → List ℕ
@@ -69,14 +69,14 @@ abbrev pub printed_of : Bool → ℕ → ConnectionEnd → List ℕ
 printed_of quiet number how = if quiet then [] else connection_line number how
 
 -- that of each, with its number counted from 1
-abbrev pub lines_of : Bool → List Turn → List ℕ
-lines_of quiet [] = []
-lines_of quiet (turn ∷ before) = lines_of quiet before ++ printed_of quiet (length before + 1) turn.how
+abbrev pub printed_lines_of : Bool → List Turn → List ℕ
+printed_lines_of quiet [] = []
+printed_lines_of quiet (turn ∷ before) = printed_lines_of quiet before ++ printed_of quiet (length before + 1) turn.how
 
 -- what each of the connections had to give, in the order in which they came
-abbrev pub pieces_of : List Turn → List (List (List ℕ))
-pieces_of [] = []
-pieces_of (turn ∷ before) = pieces_of before ++ turn.pieces ∷ []
+abbrev pub pieces_of_turns : List Turn → List (List (List ℕ))
+pieces_of_turns [] = []
+pieces_of_turns (turn ∷ before) = pieces_of_turns before ++ turn.pieces ∷ []
 
 -- the log with an entry for each
 abbrev pub with_entries : Option (List Connection) → List Turn → Option (List Connection)
@@ -92,7 +92,7 @@ AreServed times (turn ∷ before) =
 
 -- What a run is seen by at one moment: what the journal has left, what it tells, what the output holds, the log, and what the
 -- connections that have not been taken have to give.
-pub record Seen : Type 0 where
+pub record ServingSeen : Type 0 where
   pub left : Option (List (List ℕ))
   pub kept : Kept
   pub held : Option (List ℕ)
@@ -100,11 +100,11 @@ pub record Seen : Type 0 where
   pub coming : Option (List (List (List ℕ)))
 
 -- From one moment to another there were these turns.
-pub record HasTurns (plan : ServePlan) (turns : List Turn) (before after : Seen) : Type 0 where
-  pub gains : Gains turns before.left after.left
-  pub grows : Grows before.kept turns after.kept
-  pub printed : after.held ≡ appended before.held (lines_of plan.quiet turns)
-  pub came : before.coming ≡ option_map (λ later. pieces_of turns ++ later) after.coming
+pub record HasTurns (plan : ServePlan) (turns : List Turn) (before after : ServingSeen) : Type 0 where
+  pub gains : GainsByTurns turns before.left after.left
+  pub grows : GrowsByTurns before.kept turns after.kept
+  pub printed : after.held ≡ appended before.held (printed_lines_of plan.quiet turns)
+  pub came : before.coming ≡ option_map (λ later. pieces_of_turns turns ++ later) after.coming
   pub logged : IfTold after.log (with_entries before.log turns)
   pub served : IfSome after.log (λ _. AreServed plan.settings turns)
 
@@ -120,10 +120,10 @@ IsLined quiet number how status held held' =
     ⊎ ((quiet ≡ false) × (how ≢ end.OutOfMemory) × IsSilent 8 status held held')
 
 -- A connection that had these pieces to give was served by the plan, and its line printed unless the plan is quiet.
-pub record IsTold (versions : History) (plan : ServePlan) (number status : ℕ) (pieces : List (List ℕ)) (log log' : Option (List Connection))
+pub record IsConnectionTold (versions : History) (plan : ServePlan) (number status : ℕ) (pieces : List (List ℕ)) (log log' : Option (List Connection))
     (held held' : Option (List ℕ)) : Type 0 where
   pub how : ConnectionEnd
-  pub logged : IsLogged (IsServed (IsResponseTo versions plan.settings) how pieces) log log'
+  pub logged : IsEntryLogged (IsServed (IsResponseTo versions plan.settings) how pieces) log log'
   pub lined : IsLined plan.quiet number how status held held'
 
 -- The first of the connections that were to come, which had these pieces to give, was taken.
@@ -131,34 +131,34 @@ abbrev pub IsTaken : List (List ℕ) → (coming coming' : Option (List (List (L
 IsTaken pieces coming coming' = coming ≡ option_map (λ later. pieces ∷ later) coming'
 
 -- The history grew, and the connection was served over it.
-pub record HasGrown (plan : ServePlan) (number status : ℕ) (before after : Seen) : Type 0 where
+pub record HasGrown (plan : ServePlan) (number status : ℕ) (before after : ServingSeen) : Type 0 where
   pub gained : List ℕ
   pub gives : Gives gained true before.left after.left
   pub grows : read_on before.kept gained ≡ Ok after.kept
   pub pieces : List (List ℕ)
   pub taken : IsTaken pieces before.coming after.coming
-  pub told : IsTold after.kept.versions plan number status pieces before.log after.log before.held after.held
+  pub told : IsConnectionTold after.kept.versions plan number status pieces before.log after.log before.held after.held
 
 -- what a journal that is refused led to: 8 for want of memory, 2 where it failed, and else its cause was told
-abbrev pub IsRefusal : JournalFault → ℕ → (held held' : Option (List ℕ)) → Type 0
-IsRefusal fault status held held' = IsSilent 8 status held held' ⊎ AfterFault fault status held held'
+abbrev pub IsJournalRefusal : JournalFault → ℕ → (held held' : Option (List ℕ)) → Type 0
+IsJournalRefusal fault status held held' = IsSilent 8 status held held' ⊎ AfterJournalFault fault status held held'
 
 -- The history did not grow, and the connection went back as it came. A run that holds is ended so by no bad line of which the
 -- cause was told.
-pub record HasNotGrown (hold : Bool) (status : ℕ) (before after : Seen) : Type 0 where
+pub record HasNotGrown (hold : Bool) (status : ℕ) (before after : ServingSeen) : Type 0 where
   pub gained : List ℕ
   pub ended : Bool
   pub gives : Gives gained ended before.left after.left
   pub fault : JournalFault
   pub because : FurtherFault before.kept gained fault
-  pub refusal : IsRefusal fault status before.held after.held
+  pub refusal : IsJournalRefusal fault status before.held after.held
   pub other : hold ≡ true → status ≢ 7
   pub pieces : List (List ℕ)
   pub taken : IsTaken pieces before.coming after.coming
-  pub logged : IsLogged IsUntouched before.log after.log
+  pub logged : IsEntryLogged IsConnectionUntouched before.log after.log
 
 -- The cause of a bad line was told, and the connection was served over the history as it was.
-pub record HasHeld (plan : ServePlan) (number status : ℕ) (before after : Seen) : Type 0 where
+pub record HasHeld (plan : ServePlan) (number status : ℕ) (before after : ServingSeen) : Type 0 where
   pub gained : List ℕ
   pub ended : Bool
   pub gives : Gives gained ended before.left after.left
@@ -166,14 +166,14 @@ pub record HasHeld (plan : ServePlan) (number status : ℕ) (before after : Seen
   pub because : FurtherFault before.kept gained fault
   -- what the output held then
   pub between : Option (List ℕ)
-  pub refusal : IsRefusal fault 7 before.held between
+  pub refusal : IsJournalRefusal fault 7 before.held between
   pub same : after.kept ≡ before.kept
   pub pieces : List (List ℕ)
   pub taken : IsTaken pieces before.coming after.coming
-  pub told : IsTold before.kept.versions plan number status pieces before.log after.log between after.held
+  pub told : IsConnectionTold before.kept.versions plan number status pieces before.log after.log between after.held
 
 -- a turn with a connection that the door gave, which ended the run or, with status 0, did not
-abbrev pub IsTurn : Bool → ServePlan → ℕ → ℕ → Seen → Seen → Type 0
+abbrev pub IsTurn : Bool → ServePlan → ℕ → ℕ → ServingSeen → ServingSeen → Type 0
 IsTurn hold plan number status before after =
     HasGrown plan number status before after
     ⊎ HasNotGrown hold status before after
@@ -182,23 +182,23 @@ IsTurn hold plan number status before after =
 -- ---- connections once the lists are held
 
 -- The journal was not looked at, and the connection was served over the history as it was.
-pub record HasStayed (plan : ServePlan) (number status : ℕ) (before after : Seen) : Type 0 where
+pub record HasStayed (plan : ServePlan) (number status : ℕ) (before after : ServingSeen) : Type 0 where
   pub unread : after.left ≡ before.left
   pub same : after.kept ≡ before.kept
   pub pieces : List (List ℕ)
   pub taken : IsTaken pieces before.coming after.coming
-  pub told : IsTold before.kept.versions plan number status pieces before.log after.log before.held after.held
+  pub told : IsConnectionTold before.kept.versions plan number status pieces before.log after.log before.held after.held
 
 -- So many connections, behind the one with a number, were served so.
-abbrev pub Stays : ServePlan → ℕ → ℕ → Seen → Seen → Type 0
-Stays plan number zero before after = after ≡ before
-Stays plan number (suc count) before after =
-    (between : Seen) × Stays plan number count before between × HasStayed plan (number + suc count) 0 between after
+abbrev pub HaveStayed : ServePlan → ℕ → ℕ → ServingSeen → ServingSeen → Type 0
+HaveStayed plan number zero before after = after ≡ before
+HaveStayed plan number (suc count) before after =
+    (between : ServingSeen) × HaveStayed plan number count before between × HasStayed plan (number + suc count) 0 between after
 
 -- ---- a run
 
 -- The run ended with a status, and nothing changed after its last turn.
-pub record EndsWith (wanted status : ℕ) (before after : Seen) : Type 0 where
+pub record EndsWithStatus (wanted status : ℕ) (before after : ServingSeen) : Type 0 where
   pub ends : status ≡ wanted
   pub left : after.left ≡ before.left
   pub held : after.held ≡ before.held
@@ -206,46 +206,46 @@ pub record EndsWith (wanted status : ℕ) (before after : Seen) : Type 0 where
   pub coming : after.coming ≡ before.coming
 
 -- How a run ended in place of a further turn: no connection was to come, the door failed, or the turn ended it.
-abbrev pub StopsAt : Bool → ServePlan → ℕ → ℕ → Seen → Seen → Type 0
-StopsAt hold plan number status before after =
-    (EndsWith 0 status before after × IfTold after.coming (Some []))
-    ⊎ EndsWith 9 status before after
+abbrev pub StopsAtTurn : Bool → ServePlan → ℕ → ℕ → ServingSeen → ServingSeen → Type 0
+StopsAtTurn hold plan number status before after =
+    (EndsWithStatus 0 status before after × IfTold after.coming (Some []))
+    ⊎ EndsWithStatus 9 status before after
     ⊎ ((status ≢ 0) × IsTurn hold plan number status before after)
 
 -- How a run ended that held its lists, after the connection with a number: with 7 in place of 0, if these were all or no connection
 -- was to come; or the door failed, or a further connection ended it.
-abbrev pub HeldEnds : ServePlan → ℕ → ℕ → ℕ → Seen → Seen → Type 0
+abbrev pub HeldEnds : ServePlan → ℕ → ℕ → ℕ → ServingSeen → ServingSeen → Type 0
 HeldEnds plan connections number status before after =
-    ((number ≡ connections) × EndsWith 7 status before after)
-    ⊎ (EndsWith 7 status before after × IfTold after.coming (Some []))
-    ⊎ EndsWith 9 status before after
+    ((number ≡ connections) × EndsWithStatus 7 status before after)
+    ⊎ (EndsWithStatus 7 status before after × IfTold after.coming (Some []))
+    ⊎ EndsWithStatus 9 status before after
     ⊎ ((status ≢ 0) × HasStayed plan (number + 1) status before after)
 
 -- Behind the connection with a number, some were served over the lists that are held, and then the run ended.
-pub record HasHeldOn (plan : ServePlan) (connections number status : ℕ) (before after : Seen) : Type 0 where
+pub record HasHeldOn (plan : ServePlan) (connections number status : ℕ) (before after : ServingSeen) : Type 0 where
   pub count : ℕ
   pub few : number + count ≤ connections
-  pub last : Seen
-  pub stays : Stays plan number count before last
+  pub last : ServingSeen
+  pub stays : HaveStayed plan number count before last
   pub ends : HeldEnds plan connections (number + count) status last after
 
 -- The connection with a number was the first that was served over lists that are held, and others followed.
-pub record Holds (plan : ServePlan) (connections number status : ℕ) (before after : Seen) : Type 0 where
-  pub between : Seen
+pub record BeginsHolding (plan : ServePlan) (connections number status : ℕ) (before after : ServingSeen) : Type 0 where
+  pub between : ServingSeen
   pub held : HasHeld plan number 0 before between
   pub rest : HasHeldOn plan connections number status between after
 
 -- The same after so many turns, or these were all, or the next one held the lists.
-abbrev pub Stops : Bool → ServePlan → ℕ → ℕ → ℕ → Seen → Seen → Type 0
+abbrev pub Stops : Bool → ServePlan → ℕ → ℕ → ℕ → ServingSeen → ServingSeen → Type 0
 Stops hold plan connections turns status before after =
-    ((turns ≡ connections) × EndsWith 0 status before after)
-    ⊎ StopsAt hold plan (turns + 1) status before after
-    ⊎ ((hold ≡ true) × Holds plan connections (turns + 1) status before after)
+    ((turns ≡ connections) × EndsWithStatus 0 status before after)
+    ⊎ StopsAtTurn hold plan (turns + 1) status before after
+    ⊎ ((hold ≡ true) × BeginsHolding plan connections (turns + 1) status before after)
 
 -- The turns with a journal that was loaded, and the end.
-pub record HasRun (hold : Bool) (plan : ServePlan) (connections status : ℕ) (before after : Seen) : Type 0 where
+pub record HasRun (hold : Bool) (plan : ServePlan) (connections status : ℕ) (before after : ServingSeen) : Type 0 where
   pub turns : List Turn
-  pub last : Seen
+  pub last : ServingSeen
   pub few : length turns ≤ connections
   pub turned : HasTurns plan turns before last
   pub stops : Stops hold plan connections (length turns) status last after
@@ -262,26 +262,26 @@ abbrev pub serve_view : Option (List (List ℕ)) → Option (List ℕ) → Optio
 serve_view left output log coming = record { left = left; output = output; log = log; coming = coming }
 
 -- the same with what the journal tells
-abbrev pub seen_with : Kept → ServeView → Seen
-seen_with kept view = record { left = view.left; kept = kept; held = view.output; log = view.log; coming = view.coming }
+abbrev pub serving_with : Kept → ServeView → ServingSeen
+serving_with kept view = record { left = view.left; kept = kept; held = view.output; log = view.log; coming = view.coming }
 
 -- A journal that was not loaded ends the run before any connection.
-pub record HasNotBegun (fault : JournalFault) (status : ℕ) (before after : ServeView) : Type 0 where
+pub record EndsBeforeServing (fault : JournalFault) (status : ℕ) (before after : ServeView) : Type 0 where
   pub unread : after.left ≡ before.left
-  pub refusal : IsRefusal fault status before.output after.output
+  pub refusal : IsJournalRefusal fault status before.output after.output
   pub untouched : after.log ≡ before.log
   pub untaken : after.coming ≡ before.coming
 
 -- One that was loaded grew from turn to turn, and each history that was lent is the one of its bytes so far.
-pub record HasBegun (plan : ServePlan) (status : ℕ) (bytes : List ℕ) (kept : Kept) (before after : ServeView) : Type 0 where
+pub record HasServedTurns (plan : ServePlan) (status : ℕ) (bytes : List ℕ) (kept : Kept) (before after : ServeView) : Type 0 where
   pub last : Kept
-  pub run : HasRun plan.hold plan plan.connections status (seen_with kept before) (seen_with last after)
+  pub run : HasRun plan.hold plan plan.connections status (serving_with kept before) (serving_with last after)
   pub journal : AreOfJournal bytes run.turns
 
 -- what the journal led to
 abbrev pub AfterLoad : ServePlan → List ℕ → Result Kept JournalFault → ℕ → (before after : ServeView) → Type 0
-AfterLoad plan bytes (Ok kept) status before after = HasBegun plan status bytes kept before after
-AfterLoad plan bytes (Err fault) status before after = HasNotBegun fault status before after
+AfterLoad plan bytes (Ok kept) status before after = HasServedTurns plan status bytes kept before after
+AfterLoad plan bytes (Err fault) status before after = EndsBeforeServing fault status before after
 
 -- A run of `serve`, by this plan: the journal gave these bytes, with its end or without, and what they come to decided what became
 -- of the rest.

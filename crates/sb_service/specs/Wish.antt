@@ -54,8 +54,8 @@ state_for history list None = []
 state_for history list (Some held) = server_naming history list held
 
 -- an item without limits that wishes so
-abbrev pub asked_by : History → Wish → AskedList
-asked_by history wish = record {
+abbrev pub asked_by_wish : History → Wish → AskedList
+asked_by_wish history wish = record {
   name = wish.list;
   state = state_for history wish.list wish.held;
   max_update = 0;
@@ -66,7 +66,7 @@ asked_by history wish = record {
 
 -- the update that brings it to the newest version
 abbrev pub wished_update : History → Wish → UpdatedList
-wished_update history wish = update_to history (server_naming history) (asked_by history wish) wish.held (version_count history)
+wished_update history wish = update_to history (server_naming history) (asked_by_wish history wish) wish.held (version_count history)
 
 -- the answer to a request that wishes so
 abbrev pub wished_answer : History → ℕ → List Wish → FetchResponse

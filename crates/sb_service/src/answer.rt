@@ -1,7 +1,7 @@
 ghost use Rattle.std.specs.Prelude.{◌≡◌, ◌≢◌, ◌⊎◌, Ok, IfOk, OnErr};
 ghost use Rattle.sb_outside.specs.Outside.{Rose};
 ghost use Rattle.list_versions.specs.declared.fault.JournalFault.{JournalFault};
-ghost use Rattle.sb_service.specs.Answer.{AfterFault, IsAnswerRun, IsInputRun, IsReplied, IsWritten};
+ghost use Rattle.sb_service.specs.Answer.{AfterJournalFault, IsAnswerRun, IsBodyRun, IsReplied, IsWritten};
 ghost use Rattle.sb_service.specs.Stops.{status_of};
 
 use crate::command::MessageKind;
@@ -59,7 +59,7 @@ fn answer_input<S: Source, O: Sink>(
     input: &mut S,
     out: &mut O,
 ) -> Result<Stop, OutOfMemory>
-    ensures run { IfOk result (λ stop. IsInputRun history.now.versions settings.now kind (status_of stop)
+    ensures run { IfOk result (λ stop. IsBodyRun history.now.versions settings.now kind (status_of stop)
         (S.left input.old) (S.left input.new) (O.contents out.old) (O.contents out.new)) }
     ensures ends { IfOk result (λ stop. (stop ≡ Stop.Done) ⊎ (stop ≡ Stop.ReadFault) ⊎ (stop ≡ Stop.WriteFault)
         ⊎ (stop ≡ Stop.BadRequest) ⊎ (stop ≡ Stop.LongInput)) }
@@ -84,7 +84,7 @@ pub(crate) fn answer_fault<O: Sink>(
     fault: JournalFault,
     out: &mut O,
 ) -> Result<Stop, OutOfMemory>
-    ensures after { IfOk result (λ stop. AfterFault fault (status_of stop) (O.contents out.old) (O.contents out.new)) }
+    ensures after { IfOk result (λ stop. AfterJournalFault fault (status_of stop) (O.contents out.old) (O.contents out.new)) }
     ensures ends { IfOk result (λ stop. (stop ≡ Stop.ReadFault) ⊎ (stop ≡ Stop.WriteFault) ⊎ (stop ≡ Stop.BadJournal)) }
     ensures journal_failed { result ≡ Ok Stop.ReadFault → fault ≡ JournalFault.ReadFault }
     ensures journal_kept { result ≢ Ok Stop.ReadFault → fault ≢ JournalFault.ReadFault }

@@ -2,7 +2,7 @@ ghost use Rattle.std.specs.Prelude.{◌≡◌, ◌≤◌, ◌&&◌, IfOk, IfSome
 ghost use Rattle.std.specs.Str.{bytes_eq};
 ghost use Rattle.sb_words.specs.About.{about_of};
 ghost use Rattle.sb_words.specs.CommandLine.{given_of};
-ghost use Rattle.sb_service.specs.Command.{amount_given, answer_given, answer_of, answer_shape, connections_given, exercise_given, exercise_of, exercise_shape, generate_given, generate_of, generate_shape, kind_given, kind_of, listen_given, load_given, plan_given, room_given, seconds_given, serve_given, serve_of, serve_shape, settings_given, AnswerWords, IsCommandOf, ServeWords};
+ghost use Rattle.sb_service.specs.Command.{amount_given, answer_given, answer_of, answer_shape, connections_given, exercise_given, exercise_of, exercise_shape, generate_given, generate_of, generate_shape, kind_given, kind_of, listen_given, load_given, plan_given, room_given, seconds_given, serve_given, serve_of, serve_shape, settings_given, AnswerWords, IsServerCommandOf, ServeWords};
 
 use crate::serve::ServePlan;
 use delta_server::Settings;
@@ -512,7 +512,7 @@ fn load_command(alloc: Global, words: &[String]) -> Result<Option<Command>, OutO
     requires about { about_of (codes "sblistd") (map string_bytes words.now) ≡ None }
     requires answer { answer_of (map string_bytes words.now) ≡ None }
     requires serve { serve_of (map string_bytes words.now) ≡ None }
-    ensures { IfOk result (λ command. IsCommandOf (map string_bytes words.now) command) }
+    ensures { IfOk result (λ command. IsServerCommandOf (map string_bytes words.now) command) }
 {
     if let Some(line) = generate_line(alloc, words)? {
         let GenerateLine { urls, load } = line;
@@ -528,7 +528,7 @@ fn load_command(alloc: Global, words: &[String]) -> Result<Option<Command>, OutO
 fn serve_command(alloc: Global, words: &[String]) -> Result<Option<Command>, OutOfMemory>
     requires about { about_of (codes "sblistd") (map string_bytes words.now) ≡ None }
     requires answer { answer_of (map string_bytes words.now) ≡ None }
-    ensures { IfOk result (λ command. IsCommandOf (map string_bytes words.now) command) }
+    ensures { IfOk result (λ command. IsServerCommandOf (map string_bytes words.now) command) }
 {
     match serve_line(alloc, words) {
         Ok(Some(line)) => Ok(Some(Command::Serve(line.plan))),
@@ -540,7 +540,7 @@ fn serve_command(alloc: Global, words: &[String]) -> Result<Option<Command>, Out
 /// The command that words are which ask nothing about the program; `None` where they are none.
 fn answer_command(alloc: Global, words: &[String]) -> Result<Option<Command>, OutOfMemory>
     requires about { about_of (codes "sblistd") (map string_bytes words.now) ≡ None }
-    ensures { IfOk result (λ command. IsCommandOf (map string_bytes words.now) command) }
+    ensures { IfOk result (λ command. IsServerCommandOf (map string_bytes words.now) command) }
 {
     match answer_line(alloc, words) {
         Ok(Some(line)) => Ok(Some(Command::Answer {
@@ -554,7 +554,7 @@ fn answer_command(alloc: Global, words: &[String]) -> Result<Option<Command>, Ou
 
 /// The command that the words are; `None` where they are none.
 pub(crate) fn command_of(alloc: Global, words: &[String]) -> Result<Option<Command>, OutOfMemory>
-    ensures { IfOk result (λ command. IsCommandOf (map string_bytes words.now) command) }
+    ensures { IfOk result (λ command. IsServerCommandOf (map string_bytes words.now) command) }
 {
     match asked_about(words, "sblistd") {
         Some(about) => Ok(Some(Command::Tell(about))),

@@ -1,6 +1,6 @@
 ghost use Rattle.std.specs.Prelude.{◌≡◌, ◌≢◌, ◌≤◌, ℕ, List, [], IfOk, IfSome, refl};
 ghost use Rattle.sb_outside.specs.Outside.{Rose, next_piece};
-ghost use Rattle.sb_json.specs.Printed.{cause_text as message_cause};
+ghost use Rattle.sb_json.specs.Printed.{message_cause_text as message_cause};
 ghost use Rattle.sb_model.specs.History.{History as Versions};
 ghost use Rattle.http_edge.specs.declared.messages.Allow.{Allow};
 ghost use Rattle.http_edge.specs.declared.messages.HttpRequest.{HttpRequest};
@@ -11,7 +11,7 @@ ghost use Rattle.http_serving.specs.Written.{IsRightAnswer};
 ghost use Rattle.delta_server.specs.declared.answering.Settings.{Settings as Times};
 ghost use Rattle.sb_lookup.specs.Lookups.{lists_text};
 ghost use Rattle.sb_service.specs.Connection.{list_routes, lists_path, lookups_path, lookups_text, matches_text, route_at, updates_text, HasGoodRequest, IsResponseAt, IsResponseFor, IsResponseTo, ListServed};
-ghost use Rattle.sb_service.specs.ConnectionLaws.{AlwaysTellsLists, HasOneResponse, IsAnsweredAsRead, TellsFirstFault};
+ghost use Rattle.sb_service.specs.ConnectionLaws.{AlwaysTellsLists, HasOneResponse, IsResponseAsRead, TellsFirstFault};
 ghost use Rattle.sb_service.specs.ConnectionSteps.{IsBareRefusal};
 ghost use Rattle.update_messages.specs.Messages.{Request};
 ghost use Rattle.update_messages.specs.Reading.{ReadsRequest, IsTextOf};
@@ -465,7 +465,7 @@ pub fn serve_connection<T: Wire>(
 pub fn requests_have_one_response()
     ensures one { (history : Versions) (times : Times) (request : HttpRequest) → HasOneResponse history times request }
     ensures whole { (history : Versions) (times : Times) (bytes : List ℕ) (request : HttpRequest)
-        → IsAnsweredAsRead history times bytes request }
+        → IsResponseAsRead history times bytes request }
     ensures told { (history : Versions) (times : Times) (request : HttpRequest) → TellsFirstFault history times request }
     ensures lists { (history : Versions) (times : Times) (request : HttpRequest) → AlwaysTellsLists history times request }
 {

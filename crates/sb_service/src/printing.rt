@@ -1,10 +1,10 @@
 ghost use Rattle.std.specs.Prelude.{◌≡◌, ◌++◌, ◌∷◌, [], IfOk, codes};
-ghost use Rattle.sb_json.specs.Printed.{cause_text as message_cause};
+ghost use Rattle.sb_json.specs.Printed.{message_cause_text as message_cause};
 ghost use Rattle.list_versions.specs.Lines.{newline};
 ghost use Rattle.update_messages.specs.Writing.{spelling_of_response};
 ghost use Rattle.hash_messages.specs.Writing.{spelling_of_find_response};
 ghost use Rattle.lookup_messages.specs.Writing.{spelling_of_lookup_response};
-ghost use Rattle.sb_service.specs.Printed.{answer_line, journal_line as line_of_journal, request_line};
+ghost use Rattle.sb_service.specs.Printed.{answer_line, journal_refusal_line as line_of_journal, request_line};
 
 use hash_messages::{FindResponse, write_matches};
 use list_versions::{JournalFault, push_journal_cause};

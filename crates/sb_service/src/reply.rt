@@ -1,6 +1,6 @@
 ghost use Rattle.std.specs.Prelude.{◌≡◌, ◌≢◌, IfOk};
-ghost use Rattle.sb_json.specs.Printed.{cause_text as message_cause};
-ghost use Rattle.sb_service.specs.Printed.{refusal_of, reply_because, reply_with};
+ghost use Rattle.sb_json.specs.Printed.{message_cause_text as message_cause};
+ghost use Rattle.sb_service.specs.Printed.{journal_refusal, reply_because, reply_with};
 ghost use Rattle.sb_service.specs.Answer.{IsReplyTo};
 ghost use Rattle.sb_service.specs.Connection.{lookups_text, matches_text, updates_text};
 
@@ -36,7 +36,7 @@ impl Model for Reply {
 
 /// The reply to one whose journal is refused. Want of memory is no cause that is told.
 pub(crate) fn refuse_journal(alloc: Global, fault: JournalFault) -> Result<Reply, OutOfMemory>
-    ensures { IfOk result (λ reply. reply ≡ refusal_of fault) }
+    ensures { IfOk result (λ reply. reply ≡ journal_refusal fault) }
 {
     let text = journal_line(alloc, fault)?;
     Ok(Reply {

@@ -4,7 +4,7 @@ ghost use Rattle.sb_outside.specs.declared.doors.Connection.{Connection};
 ghost use Rattle.list_versions.specs.declared.fault.JournalFault.{JournalFault};
 ghost use Rattle.http_serving.specs.Returning.{IsFresh};
 ghost use Rattle.sb_service.specs.Kept.{AreKeptOf};
-ghost use Rattle.sb_service.specs.Serving.{HasGrown, HasHeld, HasHeldOn, HasRun, HasStayed, HeldEnds, IsLined, IsOpened, IsRefusal, IsServeRun, IsTaken, IsTold, IsTurn, StopsAt, serve_view};
+ghost use Rattle.sb_service.specs.Serving.{HasGrown, HasHeld, HasHeldOn, HasRun, HasStayed, HeldEnds, IsLined, IsOpened, IsJournalRefusal, IsServeRun, IsTaken, IsConnectionTold, IsTurn, StopsAtTurn, serve_view};
 ghost use Rattle.sb_service.specs.Stops.{status_of};
 ghost use Rattle.sb_service.specs.declared.serve.Further.{Further as Goes};
 
@@ -97,7 +97,7 @@ fn serve_taken<O: Sink, D: Door>(
     ensures told { (before : Option (List Connection)) (pieces : List (List ℕ))
         → IsOpened before (D.log door.old) (D.Wire.number wire)
         → IsFresh pieces (D.Wire.start wire) (D.Wire.left wire) (D.Wire.contents wire) (D.Wire.Source.faults wire) (D.Wire.Sink.faults wire)
-        → IsTold history.now.versions plan.now number (status_of result) pieces before (D.log door.new)
+        → IsConnectionTold history.now.versions plan.now number (status_of result) pieces before (D.log door.new)
         (O.contents out.old) (O.contents out.new) }
     ensures ends { (result ≡ Stop.Done) ⊎ (result ≡ Stop.WriteFault) ⊎ (result ≡ Stop.OutOfMemory) }
     ensures failed { result ≡ Stop.WriteFault → Rose (O.faults out.old) (O.faults out.new) }
@@ -118,7 +118,7 @@ fn serve_taken<O: Sink, D: Door>(
 
 /// Says why the journal was refused, and answers what ends the run.
 fn refuse<O: Sink>(alloc: Global, fault: JournalFault, out: &mut O) -> Stop
-    ensures refusal { IsRefusal fault (status_of result) (O.contents out.old) (O.contents out.new) }
+    ensures refusal { IsJournalRefusal fault (status_of result) (O.contents out.old) (O.contents out.new) }
     ensures ends { (result ≡ Stop.ReadFault) ⊎ (result ≡ Stop.WriteFault) ⊎ (result ≡ Stop.BadJournal) ⊎ (result ≡ Stop.OutOfMemory) }
     ensures journal_failed { result ≡ Stop.ReadFault → fault ≡ JournalFault.ReadFault }
     ensures journal_kept { result ≢ Stop.ReadFault → fault ≢ JournalFault.ReadFault }
@@ -198,13 +198,31 @@ fn take_turn<J: Source, O: Sink, D: Door>(
     match served.history.grow_if_more(alloc, journal) {
         Ok(grown) => {
             served.kept.forget_if(grown);
-            let stop = serve_taken(alloc, &served.history, plan, &mut served.kept, number, out, door, wire);
+            let stop = serve_taken(
+                alloc,
+                &served.history,
+                plan,
+                &mut served.kept,
+                number,
+                out,
+                door,
+                wire,
+            );
             goes_on(stop, Further::Looking)
         }
         Err(fault) => {
             let stop = refuse(alloc, fault, out);
             if plan.hold && is_bad_journal(stop) {
-                let stop = serve_taken(alloc, &served.history, plan, &mut served.kept, number, out, door, wire);
+                let stop = serve_taken(
+                    alloc,
+                    &served.history,
+                    plan,
+                    &mut served.kept,
+                    number,
+                    out,
+                    door,
+                    wire,
+                );
                 return goes_on(stop, Further::Holding);
             }
             give_back(door, wire);
@@ -230,7 +248,7 @@ fn take_next<J: Source, O: Sink, D: Door>(
     ensures holding { result ≡ Ok Further.Holding → (plan.now.hold ≡ true) × HasHeld plan.now number 0
         (record { left = J.left journal.old; kept = served.old.history; held = O.contents out.old; log = D.log door.old; coming = D.coming door.old })
         (record { left = J.left journal.new; kept = served.new.history; held = O.contents out.new; log = D.log door.new; coming = D.coming door.new }) }
-    ensures stops { IfErr result (λ stop. StopsAt plan.now.hold plan.now number (status_of stop)
+    ensures stops { IfErr result (λ stop. StopsAtTurn plan.now.hold plan.now number (status_of stop)
         (record { left = J.left journal.old; kept = served.old.history; held = O.contents out.old; log = D.log door.old; coming = D.coming door.old })
         (record { left = J.left journal.new; kept = served.new.history; held = O.contents out.new; log = D.log door.new; coming = D.coming door.new })) }
     ensures ends { IfErr result (λ stop.
@@ -344,7 +362,15 @@ fn serve_connections<J: Source, O: Sink, D: Door>(
         match take_next(alloc, served, plan, taken + 1, journal, out, door) {
             Ok(Further::Looking) => {}
             Ok(Further::Holding) => {
-                return serve_held(alloc, &served.history, plan, &mut served.kept, taken + 1, out, door);
+                return serve_held(
+                    alloc,
+                    &served.history,
+                    plan,
+                    &mut served.kept,
+                    taken + 1,
+                    out,
+                    door,
+                );
             }
             Err(stop) => return stop,
         }

@@ -8,11 +8,11 @@ ghost use Rattle.sb_words.specs.declared.asking.About.{About as Asked};
 ghost use Rattle.sb_service.specs.declared.command.GenerateLine.{GenerateLine};
 ghost use Rattle.sb_service.specs.declared.command.Load.{Load};
 ghost use Rattle.sb_service.specs.declared.command.MessageKind.{MessageKind};
-ghost use Rattle.sb_service.specs.Command.{AnswerWords, IsMade, IsNoCommand, IsNoService, ServeWords, answer_of, exercise_of, generate_of, serve_of, tell_of};
+ghost use Rattle.sb_service.specs.Command.{AnswerWords, IsMade, IsNoServerCommand, IsNoService, ServeWords, answer_of, exercise_of, generate_of, serve_of, tell_of};
 ghost use Rattle.sb_service.specs.declared.serve.ServePlan.{ServePlan};
 ghost use Rattle.sb_service.specs.Made.{generated_text, printed_whole};
 ghost use Rattle.sb_service.specs.Printed.{answer_line};
-ghost use Rattle.sb_service.specs.Answer.{AreCounted, HasNoFault, IsAnswerOf, IsAnswerRun, IsStatus, IsWritten, TellsUsage, most_body};
+ghost use Rattle.sb_service.specs.Answer.{AreCountedWithDoor, HasNoFault, IsMessageAnswerOf, IsAnswerRun, IsServerStatus, IsWritten, TellsUsage, most_body};
 ghost use Rattle.sb_service.specs.Serving.{HasNoBadLine, IsServeRun, serve_view};
 
 use crate::answer::answer;
@@ -66,7 +66,7 @@ fn run_command<J: Source, S: Source, O: Sink, D: Door>(
     out: &mut O,
     door: &mut D,
 ) -> u8
-    ensures statuses { IsStatus result }
+    ensures statuses { IsServerStatus result }
     ensures some { result ≢ 1 }
     ensures answers { (kind : MessageKind) (settings : Settings) → command ≡ Command.Answer kind settings → result ≢ 8
         → IsAnswerRun settings kind result (J.left journal.old) (J.left journal.new)
@@ -88,7 +88,7 @@ fn run_command<J: Source, S: Source, O: Sink, D: Door>(
     ensures tells { (about : Asked) → command ≡ Command.Tell about → result ≢ 8
         → IsWritten (printed_whole (about_text about (codes "sblistd") USAGE.now)) result (O.contents out.old) (O.contents out.new) }
     ensures nothing_read { IsMade command → (journal.new ≡ journal.old) × (input.new ≡ input.old) }
-    ensures counts { AreCounted result (J.faults journal.old) (J.faults journal.new) (S.faults input.old) (S.faults input.new)
+    ensures counts { AreCountedWithDoor result (J.faults journal.old) (J.faults journal.new) (S.faults input.old) (S.faults input.new)
         (O.faults out.old) (O.faults out.new) (D.faults door.old) (D.faults door.new) }
 {
     match command {
@@ -148,12 +148,12 @@ pub fn run_server<J: Source, S: Source, O: Sink, D: Door>(
     out: &mut O,
     door: &mut D,
 ) -> u8
-    ensures statuses { IsStatus result }
+    ensures statuses { IsServerStatus result }
 
     // Words that are no command line: the usage text alone is written, and nothing is read.
-    ensures words { result ≡ 1 → IsNoCommand (map string_bytes words.now) }
-    ensures other_words { IsNoCommand (map string_bytes words.now) → (result ≡ 1) ⊎ (result ≡ 8) }
-    ensures unread { IsNoCommand (map string_bytes words.now) → (journal.new ≡ journal.old) × (input.new ≡ input.old) }
+    ensures words { result ≡ 1 → IsNoServerCommand (map string_bytes words.now) }
+    ensures other_words { IsNoServerCommand (map string_bytes words.now) → (result ≡ 1) ⊎ (result ≡ 8) }
+    ensures unread { IsNoServerCommand (map string_bytes words.now) → (journal.new ≡ journal.old) × (input.new ≡ input.old) }
     ensures usage { result ≡ 1 → TellsUsage USAGE.now (O.contents out.old) (O.contents out.new)
         (O.faults out.old) (O.faults out.new) }
 
@@ -200,7 +200,7 @@ pub fn run_server<J: Source, S: Source, O: Sink, D: Door>(
         → (result ≡ 0) ⊎ (result ≡ 8) }
 
     // A count that rose names its fault.
-    ensures counts { AreCounted result (J.faults journal.old) (J.faults journal.new) (S.faults input.old) (S.faults input.new)
+    ensures counts { AreCountedWithDoor result (J.faults journal.old) (J.faults journal.new) (S.faults input.old) (S.faults input.new)
         (O.faults out.old) (O.faults out.new) (D.faults door.old) (D.faults door.new) }
 
     // A body that has an answer gets it, where the journal has no fault and no count rose.
@@ -208,7 +208,7 @@ pub fn run_server<J: Source, S: Source, O: Sink, D: Door>(
         → answer_of (map string_bytes words.now) ≡ Some answer
         → J.left journal.old ≡ Some pieces → kept_of (next_piece pieces) ≡ Ok kept
         → S.left input.old ≡ Some bodies → length (next_piece bodies) ≤ most_body
-        → IsAnswerOf kept.versions answer.settings answer.kind (next_piece bodies) text
+        → IsMessageAnswerOf kept.versions answer.settings answer.kind (next_piece bodies) text
         → HasNoFault (J.faults journal.old) (J.faults journal.new)
         → HasNoFault (S.faults input.old) (S.faults input.new)
         → HasNoFault (O.faults out.old) (O.faults out.new)
@@ -219,7 +219,7 @@ pub fn run_server<J: Source, S: Source, O: Sink, D: Door>(
         → answer_of (map string_bytes words.now) ≡ Some answer
         → J.left journal.old ≡ Some pieces → kept_of (next_piece pieces) ≡ Ok kept
         → S.left input.old ≡ Some bodies
-        → IsAnswerOf kept.versions answer.settings answer.kind (next_piece bodies) text
+        → IsMessageAnswerOf kept.versions answer.settings answer.kind (next_piece bodies) text
         → result ≡ 0
         → O.contents out.new ≡ appended (O.contents out.old) (answer_line text) }
 {

@@ -1,6 +1,6 @@
 ghost use Rattle.std.specs.Prelude.{◌≡◌, IfOk, IfSome, IfNone, None, Some, map, option_map, string_bytes};
 ghost use Rattle.std.specs.Str.{chars};
-ghost use Rattle.sb_service.specs.Command.{answer_of, journal_of, listen_of, room_of};
+ghost use Rattle.sb_service.specs.Command.{answer_of, journal_of_words, listen_of, room_of};
 
 use crate::command::{DoorRoom, answer_line, serve_line};
 use sb_model::{OutOfMemory, Text};
@@ -20,7 +20,7 @@ pub struct ServerTargets {
 /// Where `serve` has its objects, of words that are none of `answer`.
 fn serve_targets(alloc: Global, words: &[String]) -> Result<ServerTargets, OutOfMemory>
     requires { answer_of (map string_bytes words.now) ≡ None }
-    ensures journal { IfOk result (λ targets. targets.journal ≡ option_map chars (journal_of (map string_bytes words.now))) }
+    ensures journal { IfOk result (λ targets. targets.journal ≡ option_map chars (journal_of_words (map string_bytes words.now))) }
     ensures listen { IfOk result (λ targets. targets.listen ≡ option_map chars (listen_of (map string_bytes words.now))) }
     ensures room { IfOk result (λ targets. targets.room ≡ room_of (map string_bytes words.now)) }
 {
@@ -41,7 +41,7 @@ fn serve_targets(alloc: Global, words: &[String]) -> Result<ServerTargets, OutOf
 /// Where the command that the words are has its objects: `None` of what it does not use, and of all where the words are
 /// no command line.
 pub fn server_targets(alloc: Global, words: &[String]) -> Result<ServerTargets, OutOfMemory>
-    ensures journal { IfOk result (λ targets. targets.journal ≡ option_map chars (journal_of (map string_bytes words.now))) }
+    ensures journal { IfOk result (λ targets. targets.journal ≡ option_map chars (journal_of_words (map string_bytes words.now))) }
     ensures listen { IfOk result (λ targets. targets.listen ≡ option_map chars (listen_of (map string_bytes words.now))) }
     ensures room { IfOk result (λ targets. targets.room ≡ room_of (map string_bytes words.now)) }
 {

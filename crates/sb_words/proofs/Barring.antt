@@ -7,7 +7,7 @@ use Rattle.std.proofs.lemmas.Bool.{false≢true}
 use lib.Dec.{leb-suc-suc, leb-zero}
 use Rattle.sb_words.specs.declared.shape.OptionKind.{OptionKind}
 use Rattle.sb_words.specs.declared.shape.OptionKind.TheVariants.{Needed, Optional, Flag}
-use Rattle.sb_words.specs.CommandLine.{after_dash, awaits, CommandOption, dashed_meaning, ends, first_piece, found_meaning, is_equals, is_value, kind_meaning, Meaning, meaning_of, name_in, option, option_named, Piece, pieces_after, pieces_from, positional, refused, says, Text, value_in, word_meaning}
+use Rattle.sb_words.specs.CommandLine.{after_dash, awaits, CommandOption, dashed_meaning, ends, first_piece, found_meaning, is_equals, is_value, kind_meaning, Meaning, meaning_of_word, name_in, option, option_named, Piece, pieces_after, pieces_from, positional, refused, says, Text, value_in, word_meaning}
 use Rattle.sb_words.specs.Barred.{ends_options, has_barred, is_barred, is_barred_after}
 use Rattle.sb_words.proofs.Dashes.{by_dashes}
 
@@ -38,8 +38,8 @@ refused_found None name v e = refl
 refused_found (Some o) name v e = refused_kind o.kind name v e
 
 -- a barred word is no value, and is refused
-barred_means : (options : List CommandOption) (word : Text) → is_barred word ≡ true → (is_value word ≡ false) × (meaning_of options word ≡ refused)
-barred_means options = by_dashes (λ word. is_barred word ≡ true → (is_value word ≡ false) × (meaning_of options word ≡ refused))
+barred_means : (options : List CommandOption) (word : Text) → is_barred word ≡ true → (is_value word ≡ false) × (meaning_of_word options word ≡ refused)
+barred_means options = by_dashes (λ word. is_barred word ≡ true → (is_value word ≡ false) × (meaning_of_word options word ≡ refused))
     (λ word e bar. absurd (false≢true (sym (ap (λ o. option_map_or (λ rest. is_barred_after (after_dash rest)) o false) e) ∙ bar)))
     (λ rest e bar. (refl, ap (dashed_meaning options) e))
     (λ bar. absurd (false≢true bar))
@@ -62,8 +62,8 @@ found_does_not_end : (found : Option CommandOption) (name : Text) (v : Option Te
 found_does_not_end None name v e = cc
 found_does_not_end (Some o) name v e = kind_does_not_end o.kind name v e
 
-does_not_end : (options : List CommandOption) (word : Text) → ends_options word ≡ false → meaning_of options word ≡ ends → ⊥
-does_not_end options = by_dashes (λ word. ends_options word ≡ false → meaning_of options word ≡ ends → ⊥)
+does_not_end : (options : List CommandOption) (word : Text) → ends_options word ≡ false → meaning_of_word options word ≡ ends → ⊥
+does_not_end options = by_dashes (λ word. ends_options word ≡ false → meaning_of_word options word ≡ ends → ⊥)
     (λ word e two is. let bad : says (positional word) ≡ ends = sym (ap (word_meaning options word) e) ∙ is in cc)
     (λ rest e two is. let bad : refused ≡ ends = sym (ap (dashed_meaning options) e) ∙ is in cc)
     (λ two is. absurd (false≢true (sym two)))
@@ -81,7 +81,7 @@ barred_says_nothing options (word ∷ words) awaited bar = step (λ a. barred_sa
     after_value name true e = nothing_first (option name word) _ e
     after_value name false e = refl
 
-    after_meaning : (m : Meaning) → bytes_eq word (codes "--") ≡ false → meaning_of options word ≡ m → ((a : Option Text) → pieces_after options a words ≡ None)
+    after_meaning : (m : Meaning) → bytes_eq word (codes "--") ≡ false → meaning_of_word options word ≡ m → ((a : Option Text) → pieces_after options a words ≡ None)
         → pieces_from m words (λ a. pieces_after options a words) ≡ None
     after_meaning (says piece) two is later = nothing_first piece _ (later None)
     after_meaning (awaits name) two is later = later (Some name)
@@ -94,7 +94,7 @@ barred_says_nothing options (word ∷ words) awaited bar = step (λ a. barred_sa
         ap (λ b. if b then first_piece (option name word) (pieces_after options None words) else None) (barred_means options word f).0
 
     barred_later : (a : Option Text) → ends_options word ≡ false → ((w : Option Text) → pieces_after options w words ≡ None) → pieces_after options a (word ∷ words) ≡ None
-    barred_later None e later = after_meaning (meaning_of options word) e refl later
+    barred_later None e later = after_meaning (meaning_of_word options word) e refl later
     barred_later (Some name) e later = after_value name (is_value word) (later None)
 
     step : ((a : Option Text) → has_barred words ≡ true → pieces_after options a words ≡ None) → (b c : Bool) → ends_options word ≡ b → is_barred word ≡ c

@@ -16,7 +16,7 @@ use Rattle.clap.specs.Faults.{built_fault, check_fault, defaults_fault, settle_f
 use Rattle.clap.proofs.FaultLemmas.{leaf_fault}
 use Rattle.sb_words.specs.declared.shape.OptionKind.{OptionKind}
 use Rattle.sb_words.specs.declared.shape.OptionKind.TheVariants.{Needed, Optional, Flag}
-use Rattle.sb_words.specs.CommandLine.{after_dash, awaits, CommandOption, CommandShape, dashed_meaning, ends, first_piece, found_meaning, Given, given_by, given_of, has_no_repeat, has_none, has_plain_names, is_supplied, is_value, kind_meaning, Meaning, meaning_of, name_in, named_of, option, option_meaning, option_named, Piece, pieces_after, pieces_from, positional, positionals_of, refused, says, Text, value_in, word_meaning}
+use Rattle.sb_words.specs.CommandLine.{after_dash, awaits, CommandOption, CommandShape, dashed_meaning, ends, first_piece, found_meaning, Given, given_by, given_of, has_no_repeat, has_none, has_plain_names, is_supplied, is_value, kind_meaning, Meaning, meaning_of_word, name_in, named_of, option, option_meaning, option_named, Piece, pieces_after, pieces_from, positional, positionals_of, refused, says, Text, value_in, word_meaning}
 use Rattle.sb_words.specs.Barred.{has_barred}
 use Rattle.sb_words.specs.Rows.{FindsValues, given_in, positional_id, row_named}
 use Rattle.sb_words.specs.ClapCommand.{app_for}
@@ -117,7 +117,7 @@ module _ (options : List CommandOption) (plain : list_all (λ o. is_value o.name
           → all_plain (if b then first_piece (option name word) (pieces_after options None words) else None) ≡ true
       go true later = plain_first (option name word) _ (ap not p) later
       go false later = refl
-  plain_pieces (word ∷ words) None p = go (meaning_of options word) (plain_word word (after_dash word)) (λ a q. plain_pieces words a q)
+  plain_pieces (word ∷ words) None p = go (meaning_of_word options word) (plain_word word (after_dash word)) (λ a q. plain_pieces words a q)
     where
       go : (m : Meaning) → PlainMeaning m → ((a : Option Text) → IsPlainAwaited a → all_plain (pieces_after options a words) ≡ true)
           → all_plain (pieces_from m words (λ a. pieces_after options a words)) ≡ true

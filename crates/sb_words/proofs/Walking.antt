@@ -14,7 +14,7 @@ use Rattle.clap.specs.declared.builder.value_parser.Reading.TheVariants.{AsWritt
 use Rattle.clap.specs.declared.parser.matches.ValueSource.TheVariants.{CommandLine}
 use Rattle.sb_words.specs.declared.shape.OptionKind.{OptionKind}
 use Rattle.sb_words.specs.declared.shape.OptionKind.TheVariants.{Needed, Optional, Flag}
-use Rattle.sb_words.specs.CommandLine.{after_dash, CommandOption, first_piece, flag, found_meaning, is_value, kind_meaning, meaning_of, name_in, option, option_named, Piece, pieces_after, pieces_from, positional, refused, says, value_in, word_meaning}
+use Rattle.sb_words.specs.CommandLine.{after_dash, CommandOption, first_piece, flag, found_meaning, is_value, kind_meaning, meaning_of_word, name_in, option, option_named, Piece, pieces_after, pieces_from, positional, refused, says, value_in, word_meaning}
 use Rattle.sb_words.specs.Barred.{ends_options, has_barred, is_barred}
 use Rattle.sb_words.specs.Rows.{positional_id}
 use Rattle.sb_words.proofs.Rules.{filled_kind, filled_option, filled_positional, flag_rule, set_rule, top_with}
@@ -241,7 +241,7 @@ module _ (options : List CommandOption) (takes : Bool) (rules : List Rule) (foun
       → Awaiting words → Clear words
       → run rules (at_walk h (resting rest) false) (word ∷ words) ≡ then_use takes (pieces_after options None (word ∷ words)) (settled_rows_of rules h)
 
-  no_word_with_dash : (word : Text) → after_dash word ≡ None → meaning_of options word ≡ says (positional word)
+  no_word_with_dash : (word : Text) → after_dash word ≡ None → meaning_of_word options word ≡ says (positional word)
   no_word_with_dash word e = ap (word_meaning options word) e
 
   plain_at_rest : (rest : Bool) (word : Text) (h : Held) → plain_word rules (resting rest) word h ≡ (h, value)

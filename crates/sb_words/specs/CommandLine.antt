@@ -85,8 +85,8 @@ abbrev pub word_meaning : List CommandOption → Text → Option Text → Meanin
 word_meaning options word None = says (positional word)
 word_meaning options word (Some rest) = dashed_meaning options (after_dash rest)
 
-abbrev pub meaning_of : List CommandOption → Text → Meaning
-meaning_of options word = word_meaning options word (after_dash word)
+abbrev pub meaning_of_word : List CommandOption → Text → Meaning
+meaning_of_word options word = word_meaning options word (after_dash word)
 
 abbrev pub first_piece : Piece → Option (List Piece) → Option (List Piece)
 first_piece piece = option_map (λ pieces. piece ∷ pieces)
@@ -105,7 +105,7 @@ pieces_after options (Some name) (word ∷ words) =
     if is_value word then first_piece (option name word) (pieces_after options None words) else None
 pieces_after options None [] = Some []
 pieces_after options None (word ∷ words) =
-    pieces_from (meaning_of options word) words (λ awaited. pieces_after options awaited words)
+    pieces_from (meaning_of_word options word) words (λ awaited. pieces_after options awaited words)
 
 -- the names that are given, each with its value; a flag that stands there has the value `true`
 abbrev pub named_of : List Piece → List (Text × Text)

@@ -41,8 +41,8 @@ abbrev pub different : List ListName → Option (List ListName)
 different names = if has_each_once names then Some names else None
 
 -- the lists that texts name: 1 to 8, each once, in the order of the texts
-unfoldable pub lists_of : List Text → Option (List ListName)
-lists_of texts = option_and_then different (few_names_of texts)
+unfoldable pub lists_named : List Text → Option (List ListName)
+lists_named texts = option_and_then different (few_names_of texts)
 
 -- ---- keys and addresses
 
@@ -64,13 +64,13 @@ abbrev pub is_colon : ℕ → Bool
 is_colon byte = byte == 58
 
 -- a host and a port of 1 to 65535
-abbrev pub address_of : Text → Text → Option (Text × ℕ)
-address_of host port = if is_host host then option_map (λ number. (host, number)) (number_of 1 65535 port) else None
+abbrev pub host_and_port : Text → Text → Option (Text × ℕ)
+host_and_port host port = if is_host host then option_map (λ number. (host, number)) (number_of 1 65535 port) else None
 
 -- the same with a colon between them
 unfoldable pub host_port_of : Text → Option (Text × ℕ)
 host_port_of text =
-    if list_any is_colon text then address_of (before_first is_colon text) (after_first is_colon text) else None
+    if list_any is_colon text then host_and_port (before_first is_colon text) (after_first is_colon text) else None
 
 -- ---- addresses at which connections come in
 

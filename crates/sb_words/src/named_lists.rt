@@ -2,7 +2,7 @@ ghost use Rattle.std.specs.Prelude.{◌≡◌, ◌++◌, IfOk, MatchOption, None
 ghost use Rattle.std.specs.List.{list_any};
 ghost use Rattle.sb_model.specs.declared.names.ListName.{ListName};
 ghost use Rattle.sb_model.specs.Names.{same_name};
-ghost use Rattle.sb_words.specs.Values.{different, few_names_of, has_each_once, lists_of, names_of};
+ghost use Rattle.sb_words.specs.Values.{different, few_names_of, has_each_once, lists_named, names_of};
 
 use sb_model::{ListName, OutOfMemory, Row, read_list_name};
 use std::alloc::Global;
@@ -77,9 +77,9 @@ fn if_different(names: Row<ListName>) -> Option<Row<ListName>>
 
 /// The lists that words name, in their order: 1 to 8, each once. `None` comes exactly where the words name no such
 /// lists.
-#[tactic(auto, unfolding(crate::specs::Values::lists_of))]
+#[tactic(auto, unfolding(crate::specs::Values::lists_named))]
 pub fn lists(alloc: Global, words: &[&str]) -> Result<Option<Row<ListName>>, OutOfMemory>
-    ensures { IfOk result (λ names. names ≡ lists_of (map (λ s. s.now) words.now)) }
+    ensures { IfOk result (λ names. names ≡ lists_named (map (λ s. s.now) words.now)) }
 {
     let Some(names) = few_names(alloc, words)? else {
         return Ok(None);

@@ -2,7 +2,7 @@ ghost use Rattle.std.specs.Prelude.{◌≡◌, ◌≤◌, ◌+◌, IfSome, Some,
 ghost use Rattle.std.specs.Char.{is_ascii_digit};
 ghost use Rattle.std.specs.List.{list_all};
 ghost use Rattle.sb_words.specs.CommandLine.{is_value};
-ghost use Rattle.sb_words.specs.Values.{address_of, host_port_of, is_colon, is_host as is_host_text, is_host_byte as is_byte_of_host, is_key, is_closing, is_ipv6 as is_ipv6_text, is_ipv6_byte as is_byte_of_ipv6, is_key, is_key_byte as is_byte_of_key, is_numeral as is_numeral_text, cut_at, listen_address_of, listening_at, listening_in, number_of, port_after_colon as port_of, within};
+ghost use Rattle.sb_words.specs.Values.{host_and_port, host_port_of, is_colon, is_host as is_host_text, is_host_byte as is_byte_of_host, is_key, is_closing, is_ipv6 as is_ipv6_text, is_ipv6_byte as is_byte_of_ipv6, is_key_byte as is_byte_of_key, is_numeral as is_numeral_text, cut_at, listen_address_of, listening_at, listening_in, number_of, port_after_colon as port_of, within};
 
 /// Whether a text is not empty and does not begin with a dash.
 fn is_plain(text: &[u8]) -> bool
@@ -105,7 +105,7 @@ fn is_host(text: &[u8]) -> bool
 
 /// The address of a host and a port.
 fn address<'a>(host: &'a str, port: &str) -> Option<HostPort<'a>>
-    ensures { option_map (λ a. (a.host.now, a.port)) result ≡ address_of host.entry.now port.now }
+    ensures { option_map (λ a. (a.host.now, a.port)) result ≡ host_and_port host.entry.now port.now }
 {
     if !is_host(host.as_bytes()) {
         return None;

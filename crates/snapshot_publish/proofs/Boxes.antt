@@ -7,7 +7,7 @@ use Rattle.snapshot_publish.specs.declared.view.View.{View}
 use Rattle.atomic_table.specs.Seated.{TableId}
 use Rattle.update_client.specs.Held.{Held}
 use Rattle.snapshot_publish.specs.Publications.{Publications, Publication, IsLastOf, publication, most_kept, kept_end}
-use Rattle.snapshot_publish.specs.Publishing.{Known, Told, Seated, list_at, list_told, box_of, box_told, told_at}
+use Rattle.snapshot_publish.specs.Publishing.{Known, Told, Seated, publications_at_first, list_told, box_of, box_told, told_at}
 use Rattle.snapshot_publish.specs.Rule.{publishing}
 use Rattle.snapshot_publish.specs.Kept.{IsPublisher, IsNote, IsFirst, AreEnds, delivered, MayDeliver}
 use Rattle.snapshot_publish.proofs.Newest.{length_kept, kept_more, last_kept}
@@ -74,7 +74,7 @@ pub boxes_stay : (next : Publication) (ends : List Known) → map box_of (map (d
 boxes_stay next [] = refl
 boxes_stay next (end ∷ ends) = ap (λ (l : List TableId). end.box ∷ l) (boxes_stay next ends)
 
-list_more : (next : Publication) (ends : List Known) → 0 < length ends → list_at (map (delivered next) ends) ≡ list_at ends ++ next.lists ∷ []
+list_more : (next : Publication) (ends : List Known) → 0 < length ends → publications_at_first (map (delivered next) ends) ≡ publications_at_first ends ++ next.lists ∷ []
 list_more next [] some = absurd (omega arith)
 list_more next (end ∷ ends) some = refl
 
@@ -99,46 +99,46 @@ done_more f old ends k end new are got is =
 pub publisher_more : (ends : List Known) (kept : List Publication) (last : ℕ) (next : Publication) → IsPublisher ends kept last → next.number ≡ last + 1
     → IsPublisher (map (delivered next) ends) (drop (length (kept ++ next ∷ []) - most_kept) (kept ++ next ∷ [])) (last + 1)
 publisher_more ends kept last next h number =
-    let all : Publications = list_at ends in
+    let all : Publications = publications_at_first ends in
     let more = list_more next ends h.some in
     let here : next.number ≡ length all = (let c = h.count in omega arith) in
     let p : Publication = publication (length all) next.lists in
     let same : next ≡ p = ap (λ (n : ℕ). publication n next.lists) here in
     let f : Known → Known = delivered next in
-    let P : Known → Type 0 = λ known. known.view ≡ publishing (list_at (map f ends)) in
+    let P : Known → Type 0 = λ known. known.view ≡ publishing (publications_at_first (map f ends)) in
     record {
       some = (let e = length-map ends f in let s = h.some in omega arith);
       each = all_map P f ends (all_to (λ known. known.view ≡ publishing all) (λ known. P (f known)) ends
           (λ known is. ap (λ (l : Publications). publishing (l ++ next.lists ∷ [])) (ap (λ (v : View). v.list) is) ∙ ap publishing (sym more)) h.each);
       count = (let e = ap length more in let a = length-append all (next.lists ∷ []) in let c = h.count in omega arith);
-      kept_is = subst (λ (q : Publication × List Publication). drop (length (q.1 ++ q.0 ∷ []) - most_kept) (q.1 ++ q.0 ∷ []) ≡ kept_end (list_at (map f ends))) (λ i. (sym same i, sym h.kept_is i))
+      kept_is = subst (λ (q : Publication × List Publication). drop (length (q.1 ++ q.0 ∷ []) - most_kept) (q.1 ++ q.0 ∷ []) ≡ kept_end (publications_at_first (map f ends))) (λ i. (sym same i, sym h.kept_is i))
           (kept_more all next.lists ∙ ap kept_end (sym more));
     }
 
 pub few_kept : (ends : List Known) (kept : List Publication) (last : ℕ) (next : Publication) → IsPublisher ends kept last → length (kept ++ next ∷ []) ≤ most_kept + 1
-few_kept ends kept last next h = let a = length_kept (list_at ends) in let b = ap length h.kept_is in let e = length-append kept (next ∷ []) in omega arith
+few_kept ends kept last next h = let a = length_kept (publications_at_first ends) in let b = ap length h.kept_is in let e = length-append kept (next ∷ []) in omega arith
 
 pub may_deliver : (ends : List Known) (kept : List Publication) (last : ℕ) (next : Publication) → IsPublisher ends kept last → next.number ≡ last + 1 → All (MayDeliver next) ends
-may_deliver ends kept last next h number = all_to (λ known. known.view ≡ publishing (list_at ends)) (MayDeliver next) ends
-    (λ known is. (ap (λ (v : View). v.publishes) is, (let e : length known.view.list ≡ length (list_at ends) = ap (λ (v : View). length v.list) is in let c = h.count in omega arith))) h.each
+may_deliver ends kept last next h number = all_to (λ known. known.view ≡ publishing (publications_at_first ends)) (MayDeliver next) ends
+    (λ known is. (ap (λ (v : View). v.publishes) is, (let e : length known.view.list ≡ length (publications_at_first ends) = ap (λ (v : View). length v.list) is in let c = h.count in omega arith))) h.each
 
 -- ---- letters
 
 pub are_last : (ends : List Known) (kept : List Publication) (last : ℕ) (p : Publication) → IsPublisher ends kept last → p ≡ slice_index_or kept (length kept - 1) p → All (λ known. IsLastOf known.view.list p) ends
-are_last ends kept last p h is = all_to (λ known. known.view ≡ publishing (list_at ends)) (λ known. IsLastOf known.view.list p) ends
-    (λ known at. subst (λ (l : Publications). IsLastOf l p) (sym (ap (λ (v : View). v.list) at)) (last_kept (list_at ends) kept last p h.count h.kept_is is)) h.each
+are_last ends kept last p h is = all_to (λ known. known.view ≡ publishing (publications_at_first ends)) (λ known. IsLastOf known.view.list p) ends
+    (λ known at. subst (λ (l : Publications). IsLastOf l p) (sym (ap (λ (v : View). v.list) at)) (last_kept (publications_at_first ends) kept last p h.count h.kept_is is)) h.each
 
 pub boxes_told : (ends : List Known) → map box_told (map told_at ends) ≡ map box_of ends
 boxes_told [] = refl
 boxes_told (end ∷ ends) = ap (λ (l : List TableId). end.box ∷ l) (boxes_told ends)
 
-pub list_is_told : (ends : List Known) → list_told (map told_at ends) ≡ list_at ends
+pub list_is_told : (ends : List Known) → list_told (map told_at ends) ≡ publications_at_first ends
 list_is_told [] = refl
 list_is_told (end ∷ ends) = refl
 
 pub note_is : (ends : List Known) (kept : List Publication) (last : ℕ) → IsPublisher ends kept last → IsNote (map told_at ends)
 note_is ends kept last h = record {
-  each = all_map (λ (one : Told). one.list ≡ list_told (map told_at ends)) told_at ends (all_to (λ known. known.view ≡ publishing (list_at ends)) (λ known. known.view.list ≡ list_told (map told_at ends)) ends
+  each = all_map (λ (one : Told). one.list ≡ list_told (map told_at ends)) told_at ends (all_to (λ known. known.view ≡ publishing (publications_at_first ends)) (λ known. known.view.list ≡ list_told (map told_at ends)) ends
       (λ known is. ap (λ (v : View). v.list) is ∙ sym (list_is_told ends)) h.each);
 }
 

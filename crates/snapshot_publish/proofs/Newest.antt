@@ -4,7 +4,7 @@ use Rattle.std.specs.Prelude.{Option, Some, None, IfSome, slice_get, slice_index
 use Rattle.std.proofs.lemmas.Option.{slice_get-get_or}
 use denote.Ref.{Bor}
 use Rattle.update_client.specs.Held.{Held}
-use Rattle.snapshot_publish.specs.Publications.{Publications, Publication, publication, most_kept, IsKept, IsLastOf, numbered_from, kept_end}
+use Rattle.snapshot_publish.specs.Publications.{Publications, Publication, publication, most_kept, IsPublicationKept, IsLastOf, numbered_from, kept_end}
 
 length_numbered : (n : ℕ) (xs : Publications) → length (numbered_from n xs) ≡ length xs
 length_numbered n [] = refl
@@ -78,13 +78,13 @@ kept_more all lists =
 
 -- ---- where a publication of a number is kept
 
-pub too_old : (all : Publications) (kept : List Publication) (last number later : ℕ) → suc last ≡ length all → kept ≡ kept_end all → later + number ≡ last → length kept ≤ later → IsKept all number → ⊥
+pub too_old : (all : Publications) (kept : List Publication) (last number later : ℕ) → suc last ≡ length all → kept ≡ kept_end all → later + number ≡ last → length kept ≤ later → IsPublicationKept all number → ⊥
 too_old all kept last number later count is sum far k = let a = length_kept all in let b : length kept ≡ length (kept_end all) = ap length is in let m = k.made in let n = k.newest in omega arith
 
-pub not_made : (all : Publications) (last number : ℕ) → suc last ≡ length all → last < number → IsKept all number → ⊥
+pub not_made : (all : Publications) (last number : ℕ) → suc last ≡ length all → last < number → IsPublicationKept all number → ⊥
 not_made all last number count far k = let m = k.made in omega arith
 
-pub is_kept : (all : Publications) (kept : List Publication) (last number later : ℕ) → suc last ≡ length all → kept ≡ kept_end all → later + number ≡ last → later < length kept → IsKept all number
+pub is_kept : (all : Publications) (kept : List Publication) (last number later : ℕ) → suc last ≡ length all → kept ≡ kept_end all → later + number ≡ last → later < length kept → IsPublicationKept all number
 is_kept all kept last number later count is sum near = let a = length_kept all in let b : length kept ≡ length (kept_end all) = ap length is in record { made = omega arith; newest = omega arith }
 
 pub is_there : (all : Publications) (kept : List Publication) (last number later i : ℕ) → suc last ≡ length all → kept ≡ kept_end all → later + number ≡ last → later < length kept → i ≡ length kept - 1 - later

@@ -3,7 +3,7 @@ use Rattle.std.specs.Prelude.{◌≡◌, ℕ, ◌<◌, true, false, suc, List, [
 use Rattle.atomic_table.specs.Seated.{TableId}
 use Rattle.update_client.specs.Held.{Held}
 use Rattle.snapshot_publish.specs.Publications.{Publication, IsLastOf, kept_end}
-use Rattle.snapshot_publish.specs.Publishing.{Known, Told, Seated, IsOf, list_at, list_told, box_of}
+use Rattle.snapshot_publish.specs.Publishing.{Known, Told, Seated, IsOf, publications_at_first, list_told, box_of}
 use Rattle.snapshot_publish.specs.Rule.{publishing}
 use Rattle.snapshot_publish.specs.declared.view.View.{View}
 
@@ -14,9 +14,9 @@ pub record IsSeat (v : View) (held : Option Publication) : Type 0 where
 -- At each end the publisher knows the same publications, of which it keeps the newest.
 pub record IsPublisher (ends : List Known) (kept : List Publication) (last : ℕ) : Type 0 where
   pub some : 0 < length ends
-  pub each : All (λ known. known.view ≡ publishing (list_at ends)) ends
-  pub count : suc last ≡ length (list_at ends)
-  pub kept_is : kept ≡ kept_end (list_at ends)
+  pub each : All (λ known. known.view ≡ publishing (publications_at_first ends)) ends
+  pub count : suc last ≡ length (publications_at_first ends)
+  pub kept_is : kept ≡ kept_end (publications_at_first ends)
 
 -- Each seat is told the same.
 pub record IsNote (told : List Told) : Type 0 where

@@ -30,7 +30,7 @@ abbrev pub most_kept : ℕ
 most_kept = 17
 
 -- a publication of this number was made, and is among the newest
-pub record IsKept (all : Publications) (number : ℕ) : Type 0 where
+pub record IsPublicationKept (all : Publications) (number : ℕ) : Type 0 where
   pub made : number < length all
   pub newest : length all ≤ number + most_kept
 

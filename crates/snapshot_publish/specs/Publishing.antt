@@ -41,9 +41,9 @@ pub record Told : Type 0 where
   pub list : Publications
 
 -- the publications at the first end
-abbrev pub list_at : List Known → Publications
-list_at [] = []
-list_at (first ∷ more) = first.view.list
+abbrev pub publications_at_first : List Known → Publications
+publications_at_first [] = []
+publications_at_first (first ∷ more) = first.view.list
 
 -- the publications that the first letter tells
 abbrev pub list_told : List Told → Publications

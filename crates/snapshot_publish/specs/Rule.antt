@@ -36,16 +36,16 @@ pub record Fits (all : Publications) (publisher pass : ℕ) (v : View) : Type 0 
   pub publishes : v.publishes ≡ true → (pass ≡ publisher) × (v.list ≡ all)
 
 -- what waits in a box is the last publication, if anything waits
-abbrev pub Waits : Publications → List Publication → Type 0
-Waits all [] = Unit {0}
-Waits all (last ∷ []) = IsLastOf all last
-Waits all (last ∷ next ∷ more) = ⊥
+abbrev pub WaitsAsLast : Publications → List Publication → Type 0
+WaitsAsLast all [] = Unit {0}
+WaitsAsLast all (last ∷ []) = IsLastOf all last
+WaitsAsLast all (last ∷ next ∷ more) = ⊥
 
 -- There are publications that fit each view, and the last of them waits, or nothing does.
 pub record Keeps (items : List Publication) (views : List View) : Type 0 where
   pub all : Publications
   pub publisher : ℕ
-  pub waits : Waits all items
+  pub waits : WaitsAsLast all items
   pub each : (pass : ℕ) (v : View) → get_elem? views pass ≡ some v → Fits all publisher pass v
 
 -- ---- steps

@@ -1,5 +1,5 @@
 ghost use Rattle.std.specs.Prelude.{◌≡◌, suc, ◌^◌, ◌<◌, ◌↔◌, [], ◌∷◌, ◌++◌, true, false, length, map, is_err, slice_get, Some, All, IsSome, IfSome, IsTrue, IfOk, OnOk, OnErr};
-ghost use Rattle.snapshot_publish.specs.Publications.{IsKept, IsLastOf};
+ghost use Rattle.snapshot_publish.specs.Publications.{IsPublicationKept, IsLastOf};
 ghost use Rattle.snapshot_publish.specs.Publishing.{box_of, told_at};
 ghost use Rattle.snapshot_publish.specs.Kept.{delivered, MayDeliver};
 ghost use Rattle.snapshot_publish.specs.Rule.{publishing};
@@ -29,12 +29,12 @@ pub struct Publisher {
 
 impl Model for Publisher {
     ghost use Rattle.std.specs.Prelude.{map};
-    ghost use Rattle.snapshot_publish.specs.Publishing.{Publishing, list_at, box_of};
+    ghost use Rattle.snapshot_publish.specs.Publishing.{Publishing, publications_at_first, box_of};
     ghost use Rattle.snapshot_publish.specs.Kept.{IsPublisher};
 
     ghost Value = { Publishing };
 
-    ghost view = { λ p. record { boxes = map box_of p.ends; list = list_at p.ends; failed = p.failed } };
+    ghost view = { λ p. record { boxes = map box_of p.ends; list = publications_at_first p.ends; failed = p.failed } };
 
     ghost invariant = { λ p. IsPublisher p.ends p.kept.items p.last };
 }
@@ -120,7 +120,7 @@ impl Publisher {
 
     /// The publication of a number. `None` comes exactly where none of this number was made, or it is no longer among the newest 17.
     pub fn published(&self, number: u64) -> Option<&Snapshot>
-        ensures kept { IsSome result ↔ IsKept self.now.list number }
+        ensures kept { IsSome result ↔ IsPublicationKept self.now.list number }
         ensures number { IfSome result (λ snapshot. snapshot.now.number ≡ number) }
         ensures lists { IfSome result (λ snapshot. slice_get self.now.list number ≡ Some snapshot.now.lists) }
     {

@@ -19,7 +19,7 @@ use Rattle.update_messages.specs.declared.sets.Additions.TheVariants as added
 use Rattle.update_messages.specs.declared.sets.Removals.TheVariants as removed
 use Rattle.update_messages.specs.Answer.{numbers_of, has_size, sizes_of, addition_set, addition_sets, removal_sets}
 use Rattle.update_messages.specs.Rising.{SentNumbersRise}
-use Rattle.update_client.specs.Step.{◌>>=◌, most_values, prefixes_of, places_of, joined}
+use Rattle.update_client.specs.Step.{◌>>=◌, most_rice_values, prefixes_of, places_of, joined}
 use Rattle.update_client.proofs.Membership.{In, contains_in, in_contained, in_map, from_map, in_left, in_right, in_either, in_filter, from_filter, in_flat_map, from_flat_map, of_each, each_in, in_range, from_range}
 use Rattle.update_client.proofs.HistoryPrefixes.{IsPrefix}
 
@@ -87,7 +87,7 @@ from_numbers rise n ms h =
 -- ---- one set
 
 -- where the first of two tests that both have to pass is of a size, a set of it is Rice coded
-module _ (decodes : DecodesEncoded) (rise : SentNumbersRise) (ms : List (List ℕ)) (some : 0 < length ms) (few : length ms ≤ most_values)
+module _ (decodes : DecodesEncoded) (rise : SentNumbersRise) (ms : List (List ℕ)) (some : 0 < length ms) (few : length ms ≤ most_rice_values)
     (prefixes : AllByRecursion IsPrefix ms) (four : AllByRecursion (λ m. length m ≡ 4) ms) where
   some_numbers : 0 < length (numbers_of ms)
   some_numbers = go ms some refl
@@ -100,9 +100,9 @@ module _ (decodes : DecodesEncoded) (rise : SentNumbersRise) (ms : List (List �
       go [] none e = absurd (omega arith)
       go (x ∷ xs) one e = longer (from_le_bytes w32 x) (numbers_of ms) (in_numbers rise x ms (subst (In x) (sym e) (inl refl)))
 
-  numbers_decoded : decoding_of (encoding_of (numbers_of ms)) most_values ≡ Ok (numbers_of ms)
+  numbers_decoded : decoding_of (encoding_of (numbers_of ms)) most_rice_values ≡ Ok (numbers_of ms)
   numbers_decoded =
-      decodes (numbers_of ms) most_values (rise.numbers ms).rising
+      decodes (numbers_of ms) most_rice_values (rise.numbers ms).rising
       (each_in (λ n. n < 2 ^ 32) (numbers_of ms) (λ n h.
       let from = from_numbers rise n ms h in
       subst (λ k. k < 2 ^ 32) from.2 (four_below from.0 (of_each IsPrefix from.0 ms prefixes from.1))))
@@ -161,7 +161,7 @@ some_kept p (m ∷ ms) h = go (p m) h (some_kept p ms)
 -- ---- all sets
 
 -- the set of one size that stands among the members
-module _ (decodes : DecodesEncoded) (rise : SentNumbersRise) (rice : Bool) (members : List (List ℕ)) (few : length members ≤ most_values) (prefixes : AllByRecursion IsPrefix members) where
+module _ (decodes : DecodesEncoded) (rise : SentNumbersRise) (rice : Bool) (members : List (List ℕ)) (few : length members ≤ most_rice_values) (prefixes : AllByRecursion IsPrefix members) where
   abbrev with_size : ℕ → List (List ℕ)
   with_size size = filter (has_size size) members
 
@@ -215,12 +215,12 @@ module _ (decodes : DecodesEncoded) (rise : SentNumbersRise) (rice : Bool) (memb
 
 -- the places of the one set of removals
 pub removals_read : DecodesEncoded → (rice : Bool) (size : ℕ) (places : List ℕ) → IsStrictlyIncreasing places → AllByRecursion (λ place. place < 2 ^ 32) places
-    → length places ≤ most_values → joined places_of (removal_sets rice size places) ≡ Ok places
+    → length places ≤ most_rice_values → joined places_of (removal_sets rice size places) ≡ Ok places
 removals_read decodes rice size [] up below few = refl
 removals_read decodes rice size (p ∷ ps) up below few = go (size == 4 && rice)
   where
     go : (b : Bool) → joined places_of (cond b (removed.Rice (encoding_of (p ∷ ps))) (removed.Raw (p ∷ ps)) ∷ []) ≡ Ok (p ∷ ps)
     go true =
-        ap (λ (r : Result (List ℕ) RiceFault). r >>= λ places. Ok (places ++ [])) (decodes (p ∷ ps) most_values up below (omega arith) few)
+        ap (λ (r : Result (List ℕ) RiceFault). r >>= λ places. Ok (places ++ [])) (decodes (p ∷ ps) most_rice_values up below (omega arith) few)
         ∙ ap Ok (append-nil (p ∷ ps))
     go false = ap Ok (append-nil (p ∷ ps))

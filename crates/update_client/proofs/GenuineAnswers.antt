@@ -19,7 +19,7 @@ use Rattle.update_messages.specs.Messages.{AskedList, UpdatedList}
 use Rattle.update_messages.specs.Rising.{SentNumbersRise}
 use Rattle.update_messages.specs.Answer.{declared_items, version_named, declared_size, addition_sets, update_to, update_for}
 use Rattle.update_client.specs.Held.{digest_of}
-use Rattle.update_client.specs.Step.{◌>>=◌, most_values, prefixes_of, places_of, joined, meaning_of}
+use Rattle.update_client.specs.Step.{◌>>=◌, most_rice_values, prefixes_of, places_of, joined, meaning_of}
 use Rattle.update_client.specs.Genuine.{IsWithinLimitsAlways, HasByteHashes, IsAnswerItem, AnswersAreGenuine}
 use Rattle.update_client.proofs.Membership.{In, contains_in, in_contained, in_left, in_right, in_either, from_filter, found_by, of_each, each_in, from_range}
 use Rattle.update_client.proofs.HistoryPrefixes.{IsPrefix, prefixes-prefixes_at, prefixes_at-up_to}
@@ -41,7 +41,7 @@ pub record LowerLaws : Type 0 where
 pub record IsSent (set : List (List ℕ)) : Type 0 where
   pub rising : IsRising set
   pub prefixes : AllByRecursion IsPrefix set
-  pub few : length set ≤ most_values
+  pub few : length set ≤ most_rice_values
 
 -- what an update says, whose sets say these
 says : (update : UpdatedList) (additions : List (List ℕ)) (removals : List ℕ) → joined prefixes_of update.additions ≡ Ok additions

@@ -5,7 +5,7 @@ use Rattle.std.proofs.Math.ListN.{drop_of_length-le}
 use Rattle.rice_coding.specs.declared.fault.RiceFault.{RiceFault}
 use Rattle.prefix_set.specs.Edits.{EditLists}
 use Rattle.update_client.specs.Step.{joined, ◌>>=◌}
-use Rattle.update_client.specs.Feeding.{Adds, Removes, IsFaultOf}
+use Rattle.update_client.specs.Feeding.{Adds, Removes, IsReadFaultOf}
 
 -- what stands already, with what is still to be read
 abbrev pub onto : {A : Type 0} → List A → Result (List A) RiceFault → Result (List A) RiceFault
@@ -52,7 +52,7 @@ read_more members_of sets i set old mid new all below is before h = record {
 }
 
 pub read_fault : {S A : Type 0} (members_of : S → Result (List A) RiceFault) (sets : List S) (i : ℕ) (set : S) (old mid : List A) (all : Result (List A) RiceFault) (fault : RiceFault)
-    → i < length sets → set ≡ get_or sets i set → HasRead old mid all (joined members_of (drop i sets)) → IsFaultOf (members_of set) fault → IsFaultOf all fault
+    → i < length sets → set ≡ get_or sets i set → HasRead old mid all (joined members_of (drop i sets)) → IsReadFaultOf (members_of set) fault → IsReadFaultOf all fault
 read_fault members_of sets i set old mid all fault below is before (inl refused) = inl refused
 read_fault members_of sets i set old mid all fault below is before (inr own) =
     inr (

@@ -19,7 +19,7 @@ use Rattle.update_client.specs.declared.fault.UpdateFault.TheVariants.{Rice, Ind
 use Rattle.update_client.specs.declared.fault.ListResult.{ListResult}
 use Rattle.update_client.specs.declared.fault.ListResult.TheVariants.{Refused}
 use Rattle.update_client.specs.Held.{Held}
-use Rattle.update_client.specs.Step.{◌>>=◌, most_values, prefixes_of, places_of, joined, meaning_of, ◌or◌, fault_if, range_fault, set_fault, change_fault, first_fault, result_after, result_at, list_named, after_update, results_of}
+use Rattle.update_client.specs.Step.{◌>>=◌, most_rice_values, prefixes_of, places_of, joined, meaning_of, ◌or◌, fault_if, range_fault, set_fault, change_fault, first_fault, result_after, result_at, list_named, after_update, results_of}
 
 -- ---- what an update says
 
@@ -47,11 +47,11 @@ IsNeverDecoded = (coding : RiceRecord) (limit : ℕ) → decoding_of coding limi
 
 IsNever-prefixes : IsNeverDecoded → (set : Additions) → IsNever (prefixes_of set)
 IsNever-prefixes never_memory (added.Raw size bytes) = λ is. cc
-IsNever-prefixes never_memory (added.Rice record_of) = IsNever-next (decoding_of record_of most_values) _ (never_memory record_of most_values) (λ numbers is. cc)
+IsNever-prefixes never_memory (added.Rice record_of) = IsNever-next (decoding_of record_of most_rice_values) _ (never_memory record_of most_rice_values) (λ numbers is. cc)
 
 IsNever-places : IsNeverDecoded → (set : Removals) → IsNever (places_of set)
 IsNever-places never_memory (removed.Raw indices) = λ is. cc
-IsNever-places never_memory (removed.Rice record_of) = never_memory record_of most_values
+IsNever-places never_memory (removed.Rice record_of) = never_memory record_of most_rice_values
 
 -- the removals that are looked at, and what an update means
 abbrev removals_of : UpdatedList → List Removals

@@ -19,8 +19,8 @@ abbrev pub Removes : EditLists → EditLists → List ℕ → Type 0
 Removes old new places = new ≡ record old { removals = old.removals ++ places }
 
 -- memory was refused, or what was to be read has this fault
-abbrev pub IsFaultOf : {A : Type 0} → Result A RiceFault → RiceFault → Type 0
-IsFaultOf outcome fault = (fault ≡ rice.OutOfMemory) ⊎ (outcome ≡ Err fault)
+abbrev pub IsReadFaultOf : {A : Type 0} → Result A RiceFault → RiceFault → Type 0
+IsReadFaultOf outcome fault = (fault ≡ rice.OutOfMemory) ⊎ (outcome ≡ Err fault)
 
 -- an update whose additions and removals were written into an edit
 abbrev pub meant_by : UpdatedList → EditLists → Update
@@ -35,8 +35,8 @@ meant_by update edit = record {
 }
 
 -- why an update is refused whose change gives no set; none where memory was refused
-abbrev pub cause_of : ApplyFault → Option UpdateFault
-cause_of (apply.IndexRange index len) = Some (IndexRange index len)
-cause_of (apply.TooMany count) = Some (TooMany count)
-cause_of (apply.TooLarge bytes) = Some (TooLarge bytes)
-cause_of apply.OutOfMemory = None
+abbrev pub cause_of_apply : ApplyFault → Option UpdateFault
+cause_of_apply (apply.IndexRange index len) = Some (IndexRange index len)
+cause_of_apply (apply.TooMany count) = Some (TooMany count)
+cause_of_apply (apply.TooLarge bytes) = Some (TooLarge bytes)
+cause_of_apply apply.OutOfMemory = None

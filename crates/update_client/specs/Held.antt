@@ -16,7 +16,7 @@ pub record Held : Type 0 where
   pub resync : Bool
 
 -- what each held list keeps to: a token is no longer than a state of a message may be
-pub record IsHeld (held : Held) : Type 0 where
+pub record IsHeldList (held : Held) : Type 0 where
   pub token : length held.token ≤ 4096
 
 -- a list of which nothing was installed yet

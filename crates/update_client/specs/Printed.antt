@@ -20,10 +20,10 @@ rice_text (rice.Range entry) = codes "rice range " ++ decimal entry
 rice_text (rice.LeftOver bits) = codes "rice left-over " ++ decimal bits
 rice_text rice.OutOfMemory = codes "rice out-of-memory"
 
-abbrev pub cause_text : UpdateFault → List ℕ
-cause_text (Rice fault) = rice_text fault
-cause_text (IndexRange index len) = codes "index-range " ++ decimal index ++ codes " " ++ decimal len
-cause_text (TooMany count) = codes "too-many " ++ decimal count
-cause_text (TooLarge bytes) = codes "too-large " ++ decimal bytes
-cause_text (Checksum computed given) = codes "checksum " ++ encode_lower computed ++ codes " " ++ encode_lower given
-cause_text (StaleBase held given) = codes "stale-base " ++ token_text held ++ codes " " ++ token_text given
+abbrev pub update_cause_text : UpdateFault → List ℕ
+update_cause_text (Rice fault) = rice_text fault
+update_cause_text (IndexRange index len) = codes "index-range " ++ decimal index ++ codes " " ++ decimal len
+update_cause_text (TooMany count) = codes "too-many " ++ decimal count
+update_cause_text (TooLarge bytes) = codes "too-large " ++ decimal bytes
+update_cause_text (Checksum computed given) = codes "checksum " ++ encode_lower computed ++ codes " " ++ encode_lower given
+update_cause_text (StaleBase held given) = codes "stale-base " ++ token_text held ++ codes " " ++ token_text given

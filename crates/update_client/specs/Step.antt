@@ -32,18 +32,18 @@ abbrev pub ◌>>=◌ : {A B : Type 0} → Result A RiceFault → (A → Result B
 (Err fault) >>= f = Err fault
 
 -- the most values of a Rice record
-abbrev pub most_values : ℕ
-most_values = 1048576
+abbrev pub most_rice_values : ℕ
+most_rice_values = 1048576
 
 -- the prefixes of a set of additions: the pieces of its bytes, or the four bytes of each number of its Rice record, the lowest first
 abbrev pub prefixes_of : Additions → Result (List (List ℕ)) RiceFault
 prefixes_of (added.Raw size bytes) = Ok (pieces_of size bytes)
-prefixes_of (added.Rice rice) = decoding_of rice most_values >>= λ numbers. Ok (map (to_le_bytes w32) numbers)
+prefixes_of (added.Rice rice) = decoding_of rice most_rice_values >>= λ numbers. Ok (map (to_le_bytes w32) numbers)
 
 -- the places of a set of removals
 abbrev pub places_of : Removals → Result (List ℕ) RiceFault
 places_of (removed.Raw indices) = Ok indices
-places_of (removed.Rice rice) = decoding_of rice most_values
+places_of (removed.Rice rice) = decoding_of rice most_rice_values
 
 -- the members of several sets one after the other, or the first fault of a set
 abbrev pub joined : {S A : Type 0} → (S → Result (List A) RiceFault) → List S → Result (List A) RiceFault

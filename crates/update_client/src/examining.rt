@@ -3,7 +3,7 @@ ghost use Rattle.std.specs.Str.{bytes_eq};
 ghost use Rattle.prefix_set.specs.Apply.{applied, apply_fault};
 ghost use Rattle.update_client.specs.Held.{digest_of};
 ghost use Rattle.update_client.specs.Step.{meaning_of, stale_fault};
-ghost use Rattle.update_client.specs.Feeding.{meant_by, cause_of as cause_of_fault};
+ghost use Rattle.update_client.specs.Feeding.{meant_by, cause_of_apply as cause_of_fault};
 ghost use Rattle.update_client.specs.Applying.{changed, IsChecked, IsWeighed, IsExamined};
 
 use crate::change::{set_of, token_of};

@@ -4,7 +4,7 @@ ghost use Rattle.rice_coding.specs.Decoding.{outcome_of};
 ghost use Rattle.prefix_set.specs.Pieces.{pieces_of};
 ghost use Rattle.update_messages.specs.Messages.{IsAddition};
 ghost use Rattle.update_client.specs.Step.{prefixes_of, places_of, joined, meaning_of};
-ghost use Rattle.update_client.specs.Feeding.{Adds, Removes, IsFaultOf, meant_by};
+ghost use Rattle.update_client.specs.Feeding.{Adds, Removes, IsReadFaultOf, meant_by};
 
 use prefix_set::Edit;
 use rice_coding::{RiceFault, RiceReader};
@@ -29,7 +29,7 @@ fn gather(reader: &mut RiceReader, block: &mut Bytes) -> Result<bool, RiceFault>
         ended ≡ false → length reader.new.values < length reader.old.values) }
     ensures ended { IfOk result (λ ended.
         ended ≡ true → (reader.new.values ≡ []) × (reader.old.fault ≡ None)) }
-    ensures fault { IfErr result (IsFaultOf (outcome_of reader.old.values reader.old.fault)) }
+    ensures fault { IfErr result (IsReadFaultOf (outcome_of reader.old.values reader.old.fault)) }
 {
     for _gathered in 0..GATHERED {
         let Some(number) = reader.next()? else {
@@ -44,7 +44,7 @@ fn gather(reader: &mut RiceReader, block: &mut Bytes) -> Result<bool, RiceFault>
 fn add_numbers(edit: &mut Edit, reader: RiceReader, block: &mut Bytes) -> Result<(), RiceFault>
     ensures ok { OnOk result (IsOkAnd (outcome_of reader.entry.values reader.entry.fault)
         (λ numbers. Adds edit.old edit.new (map (to_le_bytes w32) numbers))) }
-    ensures fault { IfErr result (IsFaultOf (outcome_of reader.entry.values reader.entry.fault)) }
+    ensures fault { IfErr result (IsReadFaultOf (outcome_of reader.entry.values reader.entry.fault)) }
 {
     let mut reader = reader;
     loop {
@@ -61,7 +61,7 @@ fn add_numbers(edit: &mut Edit, reader: RiceReader, block: &mut Bytes) -> Result
 fn remove_numbers(edit: &mut Edit, reader: RiceReader) -> Result<(), RiceFault>
     ensures ok { OnOk result
         (IsOkAnd (outcome_of reader.entry.values reader.entry.fault) (Removes edit.old edit.new)) }
-    ensures fault { IfErr result (IsFaultOf (outcome_of reader.entry.values reader.entry.fault)) }
+    ensures fault { IfErr result (IsReadFaultOf (outcome_of reader.entry.values reader.entry.fault)) }
 {
     let mut reader = reader;
     while let Some(place) = reader.next()? {
@@ -74,7 +74,7 @@ fn remove_numbers(edit: &mut Edit, reader: RiceReader) -> Result<(), RiceFault>
 fn add_set(edit: &mut Edit, set: &Additions, block: &mut Bytes) -> Result<(), RiceFault>
     requires { IsAddition set.now }
     ensures ok { OnOk result (IsOkAnd (prefixes_of set.now) (Adds edit.old edit.new)) }
-    ensures fault { IfErr result (IsFaultOf (prefixes_of set.now)) }
+    ensures fault { IfErr result (IsReadFaultOf (prefixes_of set.now)) }
 {
     match set {
         Additions::Raw { size, bytes } => Ok(edit.add_each(*size, bytes.as_slice())?),
@@ -87,7 +87,7 @@ fn add_set(edit: &mut Edit, set: &Additions, block: &mut Bytes) -> Result<(), Ri
 // Removes the members at the places of one set.
 fn remove_set(edit: &mut Edit, set: &Removals) -> Result<(), RiceFault>
     ensures ok { OnOk result (IsOkAnd (places_of set.now) (Removes edit.old edit.new)) }
-    ensures fault { IfErr result (IsFaultOf (places_of set.now)) }
+    ensures fault { IfErr result (IsReadFaultOf (places_of set.now)) }
 {
     match set {
         Removals::Raw(indices) => Ok(edit.remove_each(indices.as_slice())?),
@@ -99,7 +99,7 @@ fn remove_set(edit: &mut Edit, set: &Removals) -> Result<(), RiceFault>
 fn add_sets(edit: &mut Edit, sets: &[Additions], block: &mut Bytes) -> Result<(), RiceFault>
     requires { All IsAddition sets.now }
     ensures ok { OnOk result (IsOkAnd (joined prefixes_of sets.now) (Adds edit.old edit.new)) }
-    ensures fault { IfErr result (IsFaultOf (joined prefixes_of sets.now)) }
+    ensures fault { IfErr result (IsReadFaultOf (joined prefixes_of sets.now)) }
 {
     for set in sets {
         add_set(edit, set, block)?;
@@ -110,7 +110,7 @@ fn add_sets(edit: &mut Edit, sets: &[Additions], block: &mut Bytes) -> Result<()
 // Removes the members at the places of several sets.
 fn remove_sets(edit: &mut Edit, sets: &[Removals]) -> Result<(), RiceFault>
     ensures ok { OnOk result (IsOkAnd (joined places_of sets.now) (Removes edit.old edit.new)) }
-    ensures fault { IfErr result (IsFaultOf (joined places_of sets.now)) }
+    ensures fault { IfErr result (IsReadFaultOf (joined places_of sets.now)) }
 {
     for set in sets {
         remove_set(edit, set)?;
@@ -121,7 +121,7 @@ fn remove_sets(edit: &mut Edit, sets: &[Removals]) -> Result<(), RiceFault>
 /// What an update says, as an edit. The removals of a full update are not looked at.
 pub(crate) fn edit_of(alloc: Global, update: &ListUpdate) -> Result<Edit, RiceFault>
     ensures ok { IfOk result (λ edit. meaning_of update.now ≡ Ok (meant_by update.now edit)) }
-    ensures fault { IfErr result (IsFaultOf (meaning_of update.now)) }
+    ensures fault { IfErr result (IsReadFaultOf (meaning_of update.now)) }
 {
     let mut edit = Edit::new(alloc);
     let mut block = Bytes::new(alloc);

@@ -14,11 +14,11 @@ pub struct HeldList {
 }
 
 impl Model for HeldList {
-    ghost use Rattle.update_client.specs.Held.{Held, IsHeld};
+    ghost use Rattle.update_client.specs.Held.{Held, IsHeldList};
 
     ghost Value = { Held };
 
     ghost view = { λ h. record { name = h.name; token = h.token; set = h.set; resync = h.resync } };
 
-    ghost invariant = { λ h. IsHeld (record { name = h.name; token = h.token; set = h.set; resync = h.resync }) };
+    ghost invariant = { λ h. IsHeldList (record { name = h.name; token = h.token; set = h.set; resync = h.resync }) };
 }

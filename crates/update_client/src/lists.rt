@@ -3,7 +3,7 @@ ghost use Rattle.std.specs.List.Sorted.{IsStrictlySortedBy};
 ghost use Rattle.std.specs.Option.{option_copied};
 ghost use Rattle.rice_coding.specs.declared.fault.RiceFault.TheVariants as rice;
 ghost use Rattle.sb_model.specs.Names.{name_cmp};
-ghost use Rattle.update_client.specs.Held.{Held, IsHeld, AreHeldLists, most_lists, nothing_held, nothing_held_of, tokens_of};
+ghost use Rattle.update_client.specs.Held.{Held, IsHeldList, AreHeldLists, most_lists, nothing_held, nothing_held_of, tokens_of};
 ghost use Rattle.update_client.specs.Asked.{request_asked};
 ghost use Rattle.update_client.specs.Step.{list_named, after_updates, results_of};
 
@@ -72,7 +72,7 @@ fn copies(alloc: Global, lists: &[HeldList]) -> Result<Vec<HeldList>, OutOfMemor
 
 // Each token is short, as each list keeps to.
 fn know_tokens(lists: &[HeldList])
-    ensures { All IsHeld lists.now }
+    ensures { All IsHeldList lists.now }
 {
     for held in lists {
         // A list that is read is known to keep to it.
@@ -110,7 +110,7 @@ impl ClientLists {
         ensures few { vec_len result ≤ most_lists }
         ensures rising { IsStrictlySortedBy name_cmp
             (map (λ (held : Held). held.name) result.items) }
-        ensures tokens { All IsHeld result.items }
+        ensures tokens { All IsHeldList result.items }
     {
         let ClientLists { lists } = self;
         know_tokens(&lists);
@@ -124,7 +124,7 @@ impl ClientLists {
         // What the lists always keep to.
         ensures few { length self.now ≤ most_lists }
         ensures rising { IsStrictlySortedBy name_cmp (map (λ (held : Held). held.name) self.now) }
-        ensures tokens { All IsHeld self.now }
+        ensures tokens { All IsHeldList self.now }
     {
         know_tokens(&self.lists);
         self.lists.as_slice()

@@ -1,5 +1,5 @@
 ghost use Rattle.std.specs.Prelude.{◌≡◌, ◌++◌, length, take, decimal, OnOk, OnErr};
-ghost use Rattle.update_client.specs.Printed.{token_text, rice_text, cause_text};
+ghost use Rattle.update_client.specs.Printed.{token_text, rice_text, update_cause_text};
 
 use crate::UpdateFault;
 use hash_prefixes::append_hex;
@@ -45,7 +45,7 @@ fn push_rice(page: &mut Bytes, fault: RiceFault) -> Result<(), OutOfMemory>
 
 // Appends both digests.
 fn push_digests(page: &mut Bytes, computed: &[u8], given: &[u8]) -> Result<(), OutOfMemory>
-    ensures ok { OnOk result (page.new ≡ page.old ++ cause_text (UpdateFault.Checksum computed.now given.now)) }
+    ensures ok { OnOk result (page.new ≡ page.old ++ update_cause_text (UpdateFault.Checksum computed.now given.now)) }
     ensures front { OnErr result (take (length page.old) page.new ≡ page.old) }
 {
     page.append(b"checksum ")?;
@@ -56,7 +56,7 @@ fn push_digests(page: &mut Bytes, computed: &[u8], given: &[u8]) -> Result<(), O
 
 // Appends both tokens.
 fn push_tokens(page: &mut Bytes, held: &[u8], given: &[u8]) -> Result<(), OutOfMemory>
-    ensures ok { OnOk result (page.new ≡ page.old ++ cause_text (UpdateFault.StaleBase held.now given.now)) }
+    ensures ok { OnOk result (page.new ≡ page.old ++ update_cause_text (UpdateFault.StaleBase held.now given.now)) }
     ensures front { OnErr result (take (length page.old) page.new ≡ page.old) }
 {
     page.append(b"stale-base ")?;
@@ -67,7 +67,7 @@ fn push_tokens(page: &mut Bytes, held: &[u8], given: &[u8]) -> Result<(), OutOfM
 
 /// Appends the cause of a refusal as it is printed. After an `Err` the page begins as it was.
 pub fn push_update_cause(page: &mut Bytes, fault: &UpdateFault) -> Result<(), OutOfMemory>
-    ensures ok { OnOk result (page.new ≡ page.old ++ cause_text fault.now) }
+    ensures ok { OnOk result (page.new ≡ page.old ++ update_cause_text fault.now) }
     ensures front { OnErr result (take (length page.old) page.new ≡ page.old) }
 {
     match fault {

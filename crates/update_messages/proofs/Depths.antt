@@ -5,7 +5,7 @@ use Rattle.std.specs.Prelude.{codes}
 use Rattle.sb_json.specs.declared.fields.Field.{Field}
 use Rattle.sb_json.specs.declared.fields.Field.TheVariants as field
 use Rattle.sb_members.specs.Laws.{NestAsValues}
-use Rattle.sb_members.specs.Parts.{IsWithin, AllWithin}
+use Rattle.sb_members.specs.Parts.{NestsWithin, AllWithin}
 use Rattle.sb_members.specs.Writing.{text_written, bytes_written, number_written, long_written, duration_written, unless_bare}
 use Rattle.rice_coding.specs.declared.record.RiceRecord.{RiceRecord}
 use Rattle.update_messages.specs.declared.client.ClientInfo.{ClientInfo}
@@ -22,38 +22,38 @@ use Rattle.update_messages.proofs.ResponseAgain.{rice_parts, hashes_parts, indic
 
 -- ---- what is flat
 
-chosen_flat : (b : Bool) (d : Data) (n : ℕ) → depth d ≤ n → IsWithin n (if b then None else Some d)
+chosen_flat : (b : Bool) (d : Data) (n : ℕ) → depth d ≤ n → NestsWithin n (if b then None else Some d)
 chosen_flat true d n h = tt
 chosen_flat false d n h = h
 
-text_flat : (cs : List ℕ) (n : ℕ) → IsWithin n (text_written cs)
+text_flat : (cs : List ℕ) (n : ℕ) → NestsWithin n (text_written cs)
 text_flat [] n = tt
 text_flat (c ∷ cs) n = omega arith
 
-bytes_flat : (bs : List ℕ) (n : ℕ) → IsWithin n (bytes_written bs)
+bytes_flat : (bs : List ℕ) (n : ℕ) → NestsWithin n (bytes_written bs)
 bytes_flat [] n = tt
 bytes_flat (b ∷ bs) n = omega arith
 
-number_flat : (k n : ℕ) → IsWithin n (number_written k)
+number_flat : (k n : ℕ) → NestsWithin n (number_written k)
 number_flat k n = chosen_flat (k == 0) (number (unsigned k)) n (omega arith)
 
-long_flat : (k n : ℕ) → IsWithin n (long_written k)
+long_flat : (k n : ℕ) → NestsWithin n (long_written k)
 long_flat k n = chosen_flat (k == 0) _ n (omega arith)
 
-duration_flat : (k n : ℕ) → IsWithin n (duration_written k)
+duration_flat : (k n : ℕ) → NestsWithin n (duration_written k)
 duration_flat k n = chosen_flat (k == 0) _ n (omega arith)
 
 -- a string nests nothing
 word_flat : (n : ℕ) → 0 ≤ n
 word_flat n = omega arith
 
-words_flat : (raw rice : Bool) → IsWithin 1 (spec.compressions_written raw rice)
+words_flat : (raw rice : Bool) → NestsWithin 1 (spec.compressions_written raw rice)
 words_flat true true = omega arith
 words_flat true false = omega arith
 words_flat false true = omega arith
 words_flat false false = tt
 
-bare_depth : (ms : Members) (n : ℕ) → members_depth ms ≤ n → IsWithin (n + 1) (unless_bare ms)
+bare_depth : (ms : Members) (n : ℕ) → members_depth ms ≤ n → NestsWithin (n + 1) (unless_bare ms)
 bare_depth no_members n h = tt
 bare_depth (member k d ms) n h = omega (arith, h)
 
@@ -69,7 +69,7 @@ asked_depth nest a =
       nest (asked_parts a) 2 (bare_depth (spec.constraint_members a) 1 (constraints_depth nest a), (word_flat 2, (bytes_flat a.state 2, (word_flat 2, (word_flat 2, tt))))),
     )
 
-client_depth : NestAsValues → (c : ClientInfo) → IsWithin 4 (unless_bare (spec.client_members c))
+client_depth : NestAsValues → (c : ClientInfo) → NestsWithin 4 (unless_bare (spec.client_members c))
 client_depth nest c = bare_depth (spec.client_members c) 3 (nest (client_parts c) 3 (text_flat c.id 3, (text_flat c.version 3, tt)))
 
 pub request_depth : NestAsValues → (m : Request) → depth (spec.request_written m) ≤ 5

@@ -18,7 +18,7 @@ use Rattle.update_messages.specs.declared.sets.Removals.{Removals}
 use Rattle.update_messages.specs.declared.sets.Removals.TheVariants as removed
 use Rattle.update_messages.specs.declared.response.FetchResponse.{FetchResponse}
 use Rattle.update_messages.specs.Messages.{AskedList, list_of_item, Request, UpdatedList, most_items}
-use Rattle.sb_members.specs.Lists.{EachReads, ReadsList, fault_of, first, first_of_items, fault_of_list, first_from, in_item}
+use Rattle.sb_members.specs.Lists.{EachReads, ReadsList, fault_of_row, first, first_of_items, fault_of_list, first_from, in_item}
 use Rattle.sb_members.specs.Somes.{somes, ReadsSome}
 use Rattle.sb_members.specs.Rows.{threat_row, platform_row, entry_row}
 use Rattle.update_messages.specs.RequestRows as request
@@ -37,7 +37,7 @@ all_none [] e = tt
 all_none (None ∷ os) e = (refl, all_none os e)
 all_none (Some f ∷ os) e = absurd (cc e)
 
-row_read : {A : Type 0} (r : Result A FieldFault) → fault_of r ≡ None → (a : A) × (r ≡ Ok a)
+row_read : {A : Type 0} (r : Result A FieldFault) → fault_of_row r ≡ None → (a : A) × (r ≡ Ok a)
 row_read (Ok a) e = (a, refl)
 row_read (Err f) e = absurd (cc e)
 
@@ -45,7 +45,7 @@ row_read (Err f) e = absurd (cc e)
 abbrev Both : {A B : Type 0} → Result A FieldFault → (A → Result B FieldFault) → Type 0
 Both {A = A} {B = B} r f = (a : A) × (b : B) × (r ≡ Ok a) × (f a ≡ Ok b)
 
-both_read : {A B : Type 0} (r : Result A FieldFault) (f : A → Result B FieldFault) → fault_of (r >>= f) ≡ None → Both r f
+both_read : {A B : Type 0} (r : Result A FieldFault) (f : A → Result B FieldFault) → fault_of_row (r >>= f) ≡ None → Both r f
 both_read (Ok a) f e = let b = row_read (f a) e in (a, b.0, refl, b.1)
 both_read (Err g) f e = absurd (cc e)
 
@@ -57,7 +57,7 @@ object_same f (string s) e h = absurd (cc h)
 object_same f (array ds) e h = absurd (cc h)
 object_same f (object ms) e h = refl
 
-is_object : (f : Field) (d : Data) → fault_of (object_in f d) ≡ None → object_in f d ≡ Ok d
+is_object : (f : Field) (d : Data) → fault_of_row (object_in f d) ≡ None → object_in f d ≡ Ok d
 is_object f d e = let o = row_read (object_in f d) e in object_same f d o.0 o.1
 
 -- a relation that holds for something wherever there is no fault

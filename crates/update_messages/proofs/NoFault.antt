@@ -10,13 +10,13 @@ use Rattle.update_messages.specs.declared.sets.Additions.TheVariants as added
 use Rattle.update_messages.specs.declared.sets.Removals.TheVariants as removed
 use Rattle.update_messages.specs.declared.response.FetchResponse.{FetchResponse}
 use Rattle.update_messages.specs.Messages.{AskedList, Request, UpdatedList, most_items}
-use Rattle.sb_members.specs.Lists.{EachReads, ReadsList, fault_of, first, first_of_items, fault_of_list, first_from, in_item}
+use Rattle.sb_members.specs.Lists.{EachReads, ReadsList, fault_of_row, first, first_of_items, fault_of_list, first_from, in_item}
 use Rattle.sb_members.specs.Somes.{somes, ReadsSome}
 use Rattle.update_messages.specs.Reading.{ReadsRice, ReadsRaw, ReadsIndex, ReadsAddition, ReadsRemoval, ReadsUpdatedList, ReadsResponse, ReadsName, ReadsAskedItem, ReadsAsked, ReadsClient, ReadsRequest}
 use Rattle.update_messages.specs.Faults.{faults_of_rice, faults_of_raw_hashes, fault_of_index, fault_of_addition, fault_of_removal, fault_of_update, fault_of_updates, fault_of_response, fault_of_name, fault_of_asked, faults_of_client, fault_of_requests, fault_of_request}
 use Rattle.update_messages.proofs.NamedItems.{few_clean, named_are_read}
 
-pub passes : {A : Type 0} (r : Result A FieldFault) (a : A) (os : List (Option FieldFault)) → r ≡ Ok a → first (fault_of r ∷ os) ≡ first os
+pub passes : {A : Type 0} (r : Result A FieldFault) (a : A) (os : List (Option FieldFault)) → r ≡ Ok a → first (fault_of_row r ∷ os) ≡ first os
 passes r a os e = rw e refl
 
 pub passes_by : {F : Type 0} (o : Option F) (os : List (Option F)) → o ≡ None → first (o ∷ os) ≡ first os
@@ -45,7 +45,7 @@ numbered_clean Reads fault clean n (item d ds) (x ∷ xs) h = rw (clean d x h.0,
 rice_clean : (holder : Result Data FieldFault) (r : RiceRecord) → ReadsRice holder r → first (faults_of_rice holder) ≡ None
 rice_clean holder r h = passes _ _ _ h.first ∙ passes _ _ _ h.parameter ∙ passes _ _ _ h.count ∙ passes _ _ _ h.coded
 
-two_rows : {A B : Type 0} (r : Result A FieldFault) (a : A) (f : A → Result B FieldFault) (b : B) → r ≡ Ok a → f a ≡ Ok b → first (fault_of r ∷ fault_of (r >>= f) ∷ []) ≡ None
+two_rows : {A B : Type 0} (r : Result A FieldFault) (a : A) (f : A → Result B FieldFault) (b : B) → r ≡ Ok a → f a ≡ Ok b → first (fault_of_row r ∷ fault_of_row (r >>= f) ∷ []) ≡ None
 two_rows r a f b e g = rw (e, g) refl
 
 raw_clean : (holder : Result Data FieldFault) (size : ℕ) (bytes : List ℕ) → ReadsRaw holder size bytes → first (faults_of_raw_hashes holder) ≡ None
@@ -75,7 +75,7 @@ updates_clean : (r : Result Items FieldFault) (xs : List UpdatedList) → ReadsL
 updates_clean (Ok ds) xs h = numbered_clean ReadsUpdatedList fault_of_update update_clean 1 ds xs h
 updates_clean (Err f) xs h = absurd h
 
-pub top_clean : {A : Type 0} (r : Result A FieldFault) (a : A) (os : List (Option MessageFault)) → r ≡ Ok a → first (in_item 0 (fault_of r) ∷ os) ≡ first os
+pub top_clean : {A : Type 0} (r : Result A FieldFault) (a : A) (os : List (Option MessageFault)) → r ≡ Ok a → first (in_item 0 (fault_of_row r) ∷ os) ≡ first os
 top_clean r a os e = rw e refl
 
 pub response_clean : (d : Data) (m : FetchResponse) → ReadsResponse d m → fault_of_response d ≡ None

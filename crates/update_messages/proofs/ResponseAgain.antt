@@ -7,7 +7,7 @@ use Rattle.std.proofs.lemmas.Bool.Decides.{nat_tests}
 use Rattle.serde_json.specs.Data.{Data, number, string, unsigned}
 use Rattle.serde_json.specs.View.{items_of}
 use Rattle.base64.specs.GeneralPurpose.{IsBytes}
-use Rattle.sb_json.specs.Values.{◌>>=◌, or_fault, object_of}
+use Rattle.sb_json.specs.Values.{◌>>=◌, or_field_fault, object_of}
 use Rattle.sb_json.specs.declared.fields.Field.{Field}
 use Rattle.sb_json.specs.declared.fields.Field.TheVariants as field
 use Rattle.sb_json.specs.declared.faults.FieldFault.{FieldFault}
@@ -62,8 +62,8 @@ first_there d (Some later) = refl
 
 word_row : AreReadAgain → (word : List ℕ) (name : Field) (value : Data) (c : Compression) → row.compression_of word ≡ Some c → row.compression_row (spec.set_written word name value) ≡ Ok c
 word_row law word name value c e =
-    ap (λ r. r >>= λ w. or_fault (Name field.CompressionType) (row.compression_of w)) (law.needed.strings field.CompressionType (set_parts word name value) word (first_there (string word) _))
-    ∙ ap (or_fault (Name field.CompressionType)) e
+    ap (λ r. r >>= λ w. or_field_fault (Name field.CompressionType) (row.compression_of w)) (law.needed.strings field.CompressionType (set_parts word name value) word (first_there (string word) _))
+    ∙ ap (or_field_fault (Name field.CompressionType)) e
 
 abbrev pub hashes_parts : ℕ → List ℕ → Parts
 hashes_parts size bytes = (field.PrefixSize, number_written size) ∷ (field.RawHashBytes, bytes_written bytes) ∷ []
@@ -167,8 +167,8 @@ full_back false = refl
 
 full_again : AreReadAgain → (u : UpdatedList) → row.response_type_row (spec.update_written u) ≡ Ok u.full
 full_again law u =
-    ap (λ r. r >>= λ word. or_fault (Name field.ResponseType) (row.fullness_of word)) (law.needed.strings field.ResponseType (update_parts u) (spec.response_type_word u.full) refl)
-    ∙ ap (or_fault (Name field.ResponseType)) (full_back u.full)
+    ap (λ r. r >>= λ word. or_field_fault (Name field.ResponseType) (row.fullness_of word)) (law.needed.strings field.ResponseType (update_parts u) (spec.response_type_word u.full) refl)
+    ∙ ap (or_field_fault (Name field.ResponseType)) (full_back u.full)
 
 abbrev pub checksum_parts : List ℕ → Parts
 checksum_parts digest = (field.Sha256, bytes_written digest) ∷ []

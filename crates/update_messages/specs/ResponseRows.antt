@@ -2,7 +2,7 @@
 use Rattle.std.specs.Prelude.{ℕ, ◌==◌, ◌%◌, Bool, true, false, nat_le, if◌then◌else◌, List, length, Option, Some, None, Result, Ok, Err, codes}
 use Rattle.std.specs.Str.{bytes_eq}
 use Rattle.serde_json.specs.Data.{Data, Items}
-use Rattle.sb_json.specs.Values.{◌>>=◌, or_fault, whole_in, whole_of, string_of, object_in, object_of, bytes_of}
+use Rattle.sb_json.specs.Values.{◌>>=◌, or_field_fault, whole_in, whole_of, string_of, object_in, object_of, bytes_of}
 use Rattle.sb_json.specs.declared.fields.Field.TheVariants as field
 use Rattle.sb_json.specs.declared.faults.FieldFault.{FieldFault}
 use Rattle.sb_json.specs.declared.faults.FieldFault.TheVariants.{Name, Number, Size}
@@ -29,7 +29,7 @@ fullness_of word =
 
 -- `responseType`: FULL_UPDATE, which is true, or PARTIAL_UPDATE
 abbrev pub response_type_row : Data → Result Bool FieldFault
-response_type_row update = string_of field.ResponseType update >>= λ word. or_fault (Name field.ResponseType) (fullness_of word)
+response_type_row update = string_of field.ResponseType update >>= λ word. or_field_fault (Name field.ResponseType) (fullness_of word)
 
 -- `additions`: entry sets, none where it is absent
 abbrev pub additions_row : Data → Result Items FieldFault
@@ -55,7 +55,7 @@ compression_of word =
 
 -- `compressionType` of a set: RAW or RICE
 abbrev pub compression_row : Data → Result Compression FieldFault
-compression_row set = string_of field.CompressionType set >>= λ word. or_fault (Name field.CompressionType) (compression_of word)
+compression_row set = string_of field.CompressionType set >>= λ word. or_field_fault (Name field.CompressionType) (compression_of word)
 
 -- `rawHashes` of a RAW addition: an object
 abbrev pub raw_hashes_row : Data → Result Data FieldFault

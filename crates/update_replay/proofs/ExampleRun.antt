@@ -25,7 +25,7 @@ use Rattle.sb_round.specs.Run.{lists_after}
 use Rattle.sb_round.specs.Honest.{UsesOneSize, IsHonestFor, IsHonestUpdate, IsHonest}
 use Rattle.sb_round.specs.Collision.{proposed_to, candidates_of, HasNoCollision, IsSetOfRun, Proposed, Served}
 use Rattle.update_replay.specs.Readings.{bodies_of}
-use Rattle.update_replay.specs.Example.{example_name, hash_of, entry_of, first_change, second_change, third_change, example_history, example_tokens, first_set, second_set, third_set, first_digest, second_digest, third_digest_rest, third_digest, whole_update, based_update, later_update, example_readings, example_held}
+use Rattle.update_replay.specs.Example.{example_name, example_hash, example_entry, first_change, second_change, third_change, example_history, example_tokens, first_set, second_set, third_set, first_digest, second_digest, third_digest_rest, third_digest, example_whole_update, based_update, later_update, example_readings, example_held}
 use Rattle.update_replay.proofs.ExampleDigests.{digest_of_first, digest_of_second, digest_of_third, digest_of_nothing}
 
 -- ---- the server
@@ -53,9 +53,9 @@ pub example_formed : IsWellFormed example_history
 example_formed = record {
   declared = all_one (λ (list : ListName × ℕ). IsPrefixSize list.1) (example_name, 4) size_four;
   adds = all_three (λ (change : Change). All IsAdd change.adds) first_change second_change third_change
-      (all_two IsAdd (entry_of (codes "1234")) (entry_of (codes "5678")) (refl, size_four) (refl, size_four)) (All-nil IsAdd) (all_one IsAdd (entry_of (codes "9abc")) (refl, size_four));
+      (all_two IsAdd (example_entry (codes "1234")) (example_entry (codes "5678")) (refl, size_four) (refl, size_four)) (All-nil IsAdd) (all_one IsAdd (example_entry (codes "9abc")) (refl, size_four));
   removes = all_three (λ (change : Change). All IsHash change.removes) first_change second_change third_change
-      (All-nil IsHash) (all_one IsHash (hash_of (codes "5678")) refl) (All-nil IsHash);
+      (All-nil IsHash) (all_one IsHash (example_hash (codes "5678")) refl) (All-nil IsHash);
 }
 
 same_head : (v w : ℕ) → ◌≡◌ {A = List ℕ} (v ∷ []) (w ∷ []) → v ≡ w
@@ -94,11 +94,11 @@ fault_by given digest = fault_if (not (bytes_eq digest given)) (Checksum digest 
 abbrev whole_meaning : Update
 whole_meaning = record { list = example_name; full = true; base = []; additions = first_set; removals = []; new_state = 1 ∷ []; checksum = first_digest }
 
-whole_means : meaning_of whole_update ≡ Ok whole_meaning
+whole_means : meaning_of example_whole_update ≡ Ok whole_meaning
 unfolding decoding_of reading delta_at byte_bits
 whole_means = refl
 
-whole_fault : first_fault start whole_update ≡ None
+whole_fault : first_fault start example_whole_update ≡ None
 whole_fault = ap (change_fault start) whole_means ∙ ap (fault_by first_digest) digest_of_first
 
 based_fault : first_fault first_held based_update ≡ None
@@ -116,8 +116,8 @@ later_fault = ap (fault_by third_digest) digest_of_third
 abbrev installed : Result Update RiceFault → Held
 installed meaning = record { name = example_name; token = 1 ∷ []; set = proposed meaning []; resync = false }
 
-after_whole : after_update (start ∷ []) whole_update ≡ first_held ∷ []
-after_whole = ap (λ (fault : Option UpdateFault). held_after start whole_update fault ∷ []) whole_fault ∙ ap (λ (meaning : Result Update RiceFault). installed meaning ∷ []) whole_means
+after_whole : after_update (start ∷ []) example_whole_update ≡ first_held ∷ []
+after_whole = ap (λ (fault : Option UpdateFault). held_after start example_whole_update fault ∷ []) whole_fault ∙ ap (λ (meaning : Result Update RiceFault). installed meaning ∷ []) whole_means
 
 after_based : after_update (first_held ∷ []) based_update ≡ second_held ∷ []
 after_based = ap (λ (fault : Option UpdateFault). held_after first_held based_update fault ∷ []) based_fault
@@ -155,7 +155,7 @@ example_installed =
 
 -- ---- each body is honest
 
-whole_genuine : IsGenuine example_history example_tokens whole_update 0
+whole_genuine : IsGenuine example_history example_tokens example_whole_update 0
 whole_genuine = record {
   declared = refl;
   from_within = omega arith;
@@ -218,8 +218,8 @@ honest_here held update here = all_one (λ (held : Held). IsTrue (same_name held
 damaged : (held : Held) (update : UpdatedList) (fault : UpdateFault) → first_fault held update ≡ Some fault → IsHonestFor example_history example_tokens held update
 damaged held update fault e = inl (subst (λ (found : Option UpdateFault). IsSome found) (sym e) refl)
 
-whole_honest : IsHonestUpdate example_history example_tokens (start ∷ []) whole_update
-whole_honest = honest_here start whole_update (inr (record { made_from = 0; genuine = whole_genuine; suits = λ partial. absurd (cc) }))
+whole_honest : IsHonestUpdate example_history example_tokens (start ∷ []) example_whole_update
+whole_honest = honest_here start example_whole_update (inr (record { made_from = 0; genuine = whole_genuine; suits = λ partial. absurd (cc) }))
 
 based_honest : IsHonestUpdate example_history example_tokens (first_held ∷ []) based_update
 based_honest = honest_here first_held based_update (inr (record { made_from = 1; genuine = based_genuine; suits = λ partial empty. inr refl }))
@@ -256,7 +256,7 @@ example_honest = (
 
 candidates_are : candidates_of (start ∷ []) (bodies_of example_readings) ≡ first_set ∷ second_set ∷ second_set ∷ third_set ∷ third_set ∷ []
 candidates_are =
-    ap (λ (meaning : Result Update RiceFault). proposed_to (start ∷ []) meaning ++ [] ++ candidates_of (after_update (start ∷ []) whole_update) bodies_2) whole_means
+    ap (λ (meaning : Result Update RiceFault). proposed_to (start ∷ []) meaning ++ [] ++ candidates_of (after_update (start ∷ []) example_whole_update) bodies_2) whole_means
     ∙ ap (λ (lists : List Held). first_set ∷ candidates_of lists bodies_2) after_whole
     ∙ ap (λ (lists : List Held). first_set ∷ second_set ∷ candidates_of lists bodies_3) after_based
     ∙ ap (λ (lists : List Held). first_set ∷ second_set ∷ second_set ∷ candidates_of lists bodies_4) after_stale

@@ -17,7 +17,7 @@ use Rattle.sb_round.specs.Honest.{IsHonest}
 use Rattle.sb_round.specs.Collision.{candidates_of, HasNoCollision}
 use Rattle.sb_round.specs.Law.{KeepsReplicas}
 use Rattle.input_lines.specs.Lines.{lines_of}
-use Rattle.update_replay.specs.Readings.{Reading, AreReadings, bodies_of}
+use Rattle.update_replay.specs.Readings.{ResponseReading, AreReadings, bodies_of}
 use Rattle.update_replay.specs.Printed.{replay_text}
 use Rattle.update_replay.specs.Replay.{IsPrinted, PrintsReplicas}
 use Rattle.update_replay.proofs.Readings.{ReadsOneWay, ReadsOrFails, same_readings}
@@ -67,7 +67,7 @@ told None pieces input e h = absurd (cc)
 pub prints_replicas : ReadsOneWay → ReadsOrFails → ((lists : List Held) (bodies : List (List UpdatedList)) → KeepsReplicas lists bodies)
     → (names : List ListName) (refused : Bool) (left left' : Option (List (List ℕ))) (held held' : Option (List ℕ))
     → IsPrinted names refused left left' held held'
-    → (pieces : List (List ℕ)) (readings : List Reading) (history : History) (token_at : Naming)
+    → (pieces : List (List ℕ)) (readings : List ResponseReading) (history : History) (token_at : Naming)
     → left ≡ Some pieces → AreReadings (lines_of (next_piece pieces)) readings
     → IsWellFormed history → IsNaming history token_at
     → IsHonest history token_at (nothing_held_of names) (bodies_of readings)
@@ -85,5 +85,5 @@ prints_replicas once law stay names refused left left' held held' printed pieces
       named = names_after start bodies ∙ names_of_nothing (in_order names);
       replicas = subst (λ (all : List (List UpdatedList)). AreReplicas history token_at (lists_after start all)) whole
           (stay start bodies history token_at formed naming (nothing_is_replica history token_at (in_order names)) honest apart (length bodies));
-      text = printed.text ∙ ap (λ (all : List Reading). appended held (replay_text names all)) same;
+      text = printed.text ∙ ap (λ (all : List ResponseReading). appended held (replay_text names all)) same;
     }

@@ -7,20 +7,20 @@ use Rattle.sb_outside.specs.Reading.{ReadsToEnd}
 use Rattle.sb_outside.specs.Writing.{HasFront}
 use Rattle.update_client.specs.Held.{nothing_held_of}
 use Rattle.input_lines.specs.declared.stop.Stop.TheVariants.{WriteFault}
-use Rattle.input_lines.specs.Lines.{lines_of, IsWithinLimits}
-use Rattle.input_lines.specs.Writing.{IsStopped}
+use Rattle.input_lines.specs.Lines.{lines_of, IsInputWithinLimits}
+use Rattle.input_lines.specs.Writing.{IsWritingStopped}
 use Rattle.update_replay.specs.Printed.{replay_text}
-use Rattle.update_replay.specs.Replay.{has_refusals, IsPrinted, IsPartlyPrinted}
+use Rattle.update_replay.specs.Replay.{is_any_body_refused, IsPrinted, IsPartlyPrinted}
 use Rattle.update_replay.proofs.Readings.{ReadsOrFails, reader, reader_reads, read_each}
 
-module _ (law : ReadsOrFails) (names : List ListName) {left left' : Option (List (List ℕ))} {held held' : Option (List ℕ)} (text input : List ℕ) (same : input ≡ text) (whole : ReadsToEnd text left left') (within : IsWithinLimits text) where
-  pub printed_whole : (refused : Bool) → refused ≡ has_refusals (nothing_held_of names) (map (reader law) (lines_of input)) → held' ≡ appended held (replay_text names (map (reader law) (lines_of input)))
+module _ (law : ReadsOrFails) (names : List ListName) {left left' : Option (List (List ℕ))} {held held' : Option (List ℕ)} (text input : List ℕ) (same : input ≡ text) (whole : ReadsToEnd text left left') (within : IsInputWithinLimits text) where
+  pub printed_whole : (refused : Bool) → refused ≡ is_any_body_refused (nothing_held_of names) (map (reader law) (lines_of input)) → held' ≡ appended held (replay_text names (map (reader law) (lines_of input)))
       → IsPrinted names refused left left' held held'
   printed_whole refused refusal printed = record {
     input = input;
     whole = subst (λ (bytes : List ℕ). IfSome left (λ pieces. next_piece pieces ≡ bytes)) (sym same) whole.whole;
     end = whole.end;
-    within = subst IsWithinLimits (sym same) within;
+    within = subst IsInputWithinLimits (sym same) within;
     readings = map (reader law) (lines_of input);
     read = read_each (reader law) (reader_reads law) (lines_of input);
     refusal = refusal;
@@ -32,7 +32,7 @@ module _ (law : ReadsOrFails) (names : List ListName) {left left' : Option (List
     input = input;
     whole = subst (λ (bytes : List ℕ). IfSome left (λ pieces. next_piece pieces ≡ bytes)) (sym same) whole.whole;
     end = whole.end;
-    within = subst IsWithinLimits (sym same) within;
+    within = subst IsInputWithinLimits (sym same) within;
     readings = map (reader law) (lines_of input);
     read = read_each (reader law) (reader_reads law) (lines_of input);
     front = front;
@@ -51,6 +51,6 @@ pub err_is : {T E : Type 0} (P : E → Type 0) (r : Result T E) (e : E) → IsEr
 err_is P (Ok x) e is h = absurd (cc)
 err_is P (Err f) e is h = let same : f ≡ e = cc in subst P same h
 
-pub write_rose : (before after : ℕ) → IsStopped WriteFault before after → Rose before after
+pub write_rose : (before after : ℕ) → IsWritingStopped WriteFault before after → Rose before after
 write_rose before after (inl h) = h.1
 write_rose before after (inr h) = absurd (let other = h.0 in cc)

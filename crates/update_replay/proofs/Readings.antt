@@ -7,7 +7,7 @@ use Rattle.sb_json.specs.declared.faults.MessageFault.{MessageFault}
 use Rattle.update_messages.specs.declared.response.FetchResponse.{FetchResponse}
 use Rattle.update_messages.specs.Reading.{ReadsResponse}
 use Rattle.update_messages.specs.Faults.{fault_of_response, fault_of_text}
-use Rattle.update_replay.specs.Readings.{Reading, IsReadingOf, AreReadings, IsReader}
+use Rattle.update_replay.specs.Readings.{ResponseReading, IsLineReadingOf, AreReadings, IsReader}
 
 -- a value reads as some response exactly where it has no first fault
 abbrev pub ReadsOrFails : Type 0
@@ -19,15 +19,15 @@ ReadsOneWay = (value : Data) (a b : FetchResponse) → ReadsResponse value a →
 
 -- ---- there is one
 
-by_fault : ReadsOrFails → (line : List ℕ) (value : Data) → value_of line ≡ Ok value → (fault : Option MessageFault) → fault_of_response value ≡ fault → (reading : Reading) × IsReadingOf line reading
+by_fault : ReadsOrFails → (line : List ℕ) (value : Data) → value_of line ≡ Ok value → (fault : Option MessageFault) → fault_of_response value ≡ fault → (reading : ResponseReading) × IsLineReadingOf line reading
 by_fault law line value e None h = let message = (law value).1 h in (Ok message.0, (value, e, message.1))
 by_fault law line value e (Some fault) h = (Err fault, ap (fault_of_text fault_of_response) e ∙ h)
 
-by_value : ReadsOrFails → (line : List ℕ) (value : Result Data MessageFault) → value_of line ≡ value → (reading : Reading) × IsReadingOf line reading
+by_value : ReadsOrFails → (line : List ℕ) (value : Result Data MessageFault) → value_of line ≡ value → (reading : ResponseReading) × IsLineReadingOf line reading
 by_value law line (Err why) e = (Err why, ap (fault_of_text fault_of_response) e)
 by_value law line (Ok value) e = by_fault law line value e _ refl
 
-pub reader : ReadsOrFails → List ℕ → Reading
+pub reader : ReadsOrFails → List ℕ → ResponseReading
 reader law line = (by_value law line _ refl).0
 
 pub reader_reads : (law : ReadsOrFails) → IsReader (reader law)
@@ -46,7 +46,7 @@ no_fault law line value message fault e reads h =
     let some : fault_of_response value ≡ Some fault = sym (ap (fault_of_text fault_of_response) e) ∙ h in
     cc
 
-pub one_reading : ReadsOneWay → ReadsOrFails → (line : List ℕ) (a b : Reading) → IsReadingOf line a → IsReadingOf line b → a ≡ b
+pub one_reading : ReadsOneWay → ReadsOrFails → (line : List ℕ) (a b : ResponseReading) → IsLineReadingOf line a → IsLineReadingOf line b → a ≡ b
 one_reading once law line (Ok a) (Ok b) h k =
     let reads : ReadsResponse h.0 b = subst (λ (value : Data). ReadsResponse value b) (one_value line k.0 h.0 k.1 h.1) k.2 in
     ap Ok (once h.0 a b h.2 reads)
@@ -55,11 +55,11 @@ one_reading once law line (Err f) (Ok b) h k = absurd (no_fault law line k.0 b f
 one_reading once law line (Err f) (Err g) h k = cc
 
 -- the readings of lines
-pub read_each : (read : List ℕ → Reading) → IsReader read → (lines : List (List ℕ)) → AreReadings lines (map read lines)
+pub read_each : (read : List ℕ → ResponseReading) → IsReader read → (lines : List (List ℕ)) → AreReadings lines (map read lines)
 read_each read reads [] = tt
 read_each read reads (line ∷ lines) = (reads line, read_each read reads lines)
 
-pub same_readings : ReadsOneWay → ReadsOrFails → (lines : List (List ℕ)) (a b : List Reading) → AreReadings lines a → AreReadings lines b → a ≡ b
+pub same_readings : ReadsOneWay → ReadsOrFails → (lines : List (List ℕ)) (a b : List ResponseReading) → AreReadings lines a → AreReadings lines b → a ≡ b
 same_readings once law [] [] [] h k = refl
 same_readings once law [] [] (b ∷ bs) h k = absurd k
 same_readings once law [] (a ∷ more) bs h k = absurd h

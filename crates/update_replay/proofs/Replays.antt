@@ -15,9 +15,9 @@ use Rattle.update_client.specs.Step.{after_update, after_updates, results_of}
 use Rattle.sb_round.specs.Printed.{taken_text}
 use Rattle.sb_round.specs.Run.{lists_after}
 use Rattle.input_lines.specs.Lines.{numbered}
-use Rattle.update_replay.specs.Readings.{Reading, updates_of, bodies_of}
+use Rattle.update_replay.specs.Readings.{ResponseReading, updates_of_reading, bodies_of}
 use Rattle.update_replay.specs.Printed.{taken_lines, body_lines, outcome_lines, list_lines, replay_text}
-use Rattle.update_replay.specs.Replay.{has_refusal, has_refusals}
+use Rattle.update_replay.specs.Replay.{is_body_refused, is_any_body_refused}
 use Rattle.sb_outside.specs.Writing.{HasFront}
 use Rattle.input_lines.specs.Writing.{HasPart}
 use Rattle.input_lines.specs.Ways.{drop_at, some_back, part_front}
@@ -40,8 +40,8 @@ taken_step number i updates results update result done whole u u_within r r_with
 -- ---- the bodies
 
 -- the lines after the next one, where it leaves the lists as these
-pub text_step : (n : ℕ) (now next : List Held) (r : Reading) (rs : List Reading) (done all : List ℕ)
-    → next ≡ after_updates now (updates_of r) → done ++ outcome_lines n now (r ∷ rs) ≡ all
+pub text_step : (n : ℕ) (now next : List Held) (r : ResponseReading) (rs : List ResponseReading) (done all : List ℕ)
+    → next ≡ after_updates now (updates_of_reading r) → done ++ outcome_lines n now (r ∷ rs) ≡ all
     → (done ++ body_lines n now r) ++ outcome_lines (n + 1) next rs ≡ all
 text_step n now next r rs done all e h =
     append_assoc done (body_lines n now r) (outcome_lines (n + 1) next rs)
@@ -52,17 +52,17 @@ or_assoc : (a b c : Bool) → ((a || b) || c) ≡ (a || (b || c))
 or_assoc true b c = refl
 or_assoc false b c = refl
 
-pub refusal_step : (now next : List Held) (r : Reading) (rs : List Reading) (refused here all : Bool)
-    → next ≡ after_updates now (updates_of r) → here ≡ has_refusal now r → (refused || has_refusals now (r ∷ rs)) ≡ all
-    → ((refused || here) || has_refusals next rs) ≡ all
+pub refusal_step : (now next : List Held) (r : ResponseReading) (rs : List ResponseReading) (refused here all : Bool)
+    → next ≡ after_updates now (updates_of_reading r) → here ≡ is_body_refused now r → (refused || is_any_body_refused now (r ∷ rs)) ≡ all
+    → ((refused || here) || is_any_body_refused next rs) ≡ all
 refusal_step now next r rs refused here all e k h =
-    or_assoc refused here (has_refusals next rs)
-    ∙ ap (λ (b : Bool). refused || (b || has_refusals next rs)) k
-    ∙ ap (λ (lists : List Held). refused || (has_refusal now r || has_refusals lists rs)) e
+    or_assoc refused here (is_any_body_refused next rs)
+    ∙ ap (λ (b : Bool). refused || (b || is_any_body_refused next rs)) k
+    ∙ ap (λ (lists : List Held). refused || (is_body_refused now r || is_any_body_refused lists rs)) e
     ∙ h
 
-pub lists_step : (now next all : List Held) (r : Reading) (rs : List Reading)
-    → next ≡ after_updates now (updates_of r) → lists_after now (bodies_of (r ∷ rs)) ≡ all → lists_after next (bodies_of rs) ≡ all
+pub lists_step : (now next all : List Held) (r : ResponseReading) (rs : List ResponseReading)
+    → next ≡ after_updates now (updates_of_reading r) → lists_after now (bodies_of (r ∷ rs)) ≡ all → lists_after next (bodies_of rs) ≡ all
 lists_step now next all r rs e h = ap (λ (lists : List Held). lists_after lists (bodies_of rs)) e ∙ h
 
 -- ---- the end
@@ -112,18 +112,18 @@ after_some names bodies h =
     let kept : length (lists_after (nothing_held_of names) bodies) ≡ length (nothing_held_of names) = length_after (nothing_held_of names) bodies in
     lists_some _ (length_some _ (omega (arith, start, held, kept)))
 
-pub text_some : (names : List ListName) (readings : List Reading) → names ≢ [] → replay_text names readings ≢ []
+pub text_some : (names : List ListName) (readings : List ResponseReading) → names ≢ [] → replay_text names readings ≢ []
 text_some names readings h = some_back (outcome_lines 1 (nothing_held_of names) readings) _ (after_some names (bodies_of readings) h)
 
 -- the lines, and then the lists that they led to, are the whole text
-pub whole_text : (names : List ListName) (start after : List Held) (readings : List Reading) → start ≡ nothing_held_of names → after ≡ lists_after start (bodies_of readings)
+pub whole_text : (names : List ListName) (start after : List Held) (readings : List ResponseReading) → start ≡ nothing_held_of names → after ≡ lists_after start (bodies_of readings)
     → outcome_lines 1 start readings ++ flat_map list_lines after ≡ replay_text names readings
 whole_text names start after readings e h =
     ap (λ (lists : List Held). outcome_lines 1 start readings ++ flat_map list_lines lists) h
     ∙ ap (λ (lists : List Held). outcome_lines 1 lists readings ++ flat_map list_lines (lists_after lists (bodies_of readings))) e
 
 -- a part of the lines is a front of the text
-pub lines_front : {a b : Option (List ℕ)} (names : List ListName) (start : List Held) (readings : List Reading) → names ≢ [] → start ≡ nothing_held_of names
+pub lines_front : {a b : Option (List ℕ)} (names : List ListName) (start : List Held) (readings : List ResponseReading) → names ≢ [] → start ≡ nothing_held_of names
     → HasPart a b (outcome_lines 1 start readings) → HasFront a b (replay_text names readings)
 lines_front {a} {b} names start readings some e h =
     part_front (outcome_lines 1 (nothing_held_of names) readings) _ (after_some names (bodies_of readings) some)

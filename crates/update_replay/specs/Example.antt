@@ -13,7 +13,7 @@ use Rattle.update_messages.specs.declared.sets.Additions.TheVariants as added
 use Rattle.update_messages.specs.declared.sets.Removals.TheVariants as removed
 use Rattle.update_messages.specs.Messages.{UpdatedList}
 use Rattle.update_client.specs.Held.{Held}
-use Rattle.update_replay.specs.Readings.{Reading}
+use Rattle.update_replay.specs.Readings.{ResponseReading}
 
 -- ---- the server
 
@@ -22,21 +22,21 @@ abbrev pub example_name : ListName
 example_name = record { threat = threat.Malware; platform = platform.AnyPlatform; entry = entry.Url }
 
 -- full hashes that begin with these four bytes, each published by them
-abbrev pub hash_of : List ℕ → List ℕ
-hash_of front = front ++ replicate 28 0
+abbrev pub example_hash : List ℕ → List ℕ
+example_hash front = front ++ replicate 28 0
 
-abbrev pub entry_of : List ℕ → Added
-entry_of front = record { hash = hash_of front; size = 4 }
+abbrev pub example_entry : List ℕ → Added
+example_entry front = record { hash = example_hash front; size = 4 }
 
 -- The server declares the list with prefixes of 4 bytes. It adds `1234` and `5678`, then removes `5678`, and then adds `9abc`.
 abbrev pub first_change : Change
-first_change = record { list = example_name; adds = entry_of (codes "1234") ∷ entry_of (codes "5678") ∷ []; removes = [] }
+first_change = record { list = example_name; adds = example_entry (codes "1234") ∷ example_entry (codes "5678") ∷ []; removes = [] }
 
 abbrev pub second_change : Change
-second_change = record { list = example_name; adds = []; removes = hash_of (codes "5678") ∷ [] }
+second_change = record { list = example_name; adds = []; removes = example_hash (codes "5678") ∷ [] }
 
 abbrev pub third_change : Change
-third_change = record { list = example_name; adds = entry_of (codes "9abc") ∷ []; removes = [] }
+third_change = record { list = example_name; adds = example_entry (codes "9abc") ∷ []; removes = [] }
 
 abbrev pub example_history : History
 example_history = record { epoch = 1; declared = (example_name, 4) ∷ []; changes = first_change ∷ second_change ∷ third_change ∷ [] }
@@ -77,8 +77,8 @@ third_digest = 0x57 ∷ third_digest_rest
 -- ---- the bodies
 
 -- The whole of the first set, Rice coded: its numbers are 875770417 and 67372036 more.
-abbrev pub whole_update : UpdatedList
-whole_update = record {
+abbrev pub example_whole_update : UpdatedList
+example_whole_update = record {
   name = example_name;
   full = true;
   base = [];
@@ -112,15 +112,15 @@ later_update checksum = record {
   checksum = checksum;
 }
 
-abbrev pub body_of : UpdatedList → Reading
-body_of update = Ok (record { items = update ∷ []; wait = 0 })
+abbrev pub example_response_body : UpdatedList → ResponseReading
+example_response_body update = Ok (record { items = update ∷ []; wait = 0 })
 
 -- The second body comes twice, so that its base state is stale the second time. Of the next two the first has a wrong
 -- first byte in its checksum, and the other was cut short. Then comes the last update whole.
-abbrev pub example_readings : List Reading
+abbrev pub example_readings : List ResponseReading
 example_readings =
-    body_of whole_update ∷ body_of based_update ∷ body_of based_update
-    ∷ body_of (later_update (0x07 ∷ third_digest_rest)) ∷ Err NotJson ∷ body_of (later_update third_digest) ∷ []
+    example_response_body example_whole_update ∷ example_response_body based_update ∷ example_response_body based_update
+    ∷ example_response_body (later_update (0x07 ∷ third_digest_rest)) ∷ Err NotJson ∷ example_response_body (later_update third_digest) ∷ []
 
 -- the list as it is held in the end
 abbrev pub example_held : Held

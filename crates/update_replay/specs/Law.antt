@@ -8,7 +8,7 @@ use Rattle.update_client.specs.Held.{nothing_held_of}
 use Rattle.sb_round.specs.Collision.{candidates_of, HasNoCollision}
 use Rattle.sb_round.specs.Honest.{IsHonest}
 use Rattle.input_lines.specs.Lines.{lines_of}
-use Rattle.update_replay.specs.Readings.{Reading, AreReadings, bodies_of}
+use Rattle.update_replay.specs.Readings.{ResponseReading, AreReadings, bodies_of}
 use Rattle.update_replay.specs.Replay.{IsPrinted, PrintsReplicas}
 
 -- Where the bodies that the source tells are honest and no digest collides, each list that a replay prints is the server's at
@@ -16,7 +16,7 @@ use Rattle.update_replay.specs.Replay.{IsPrinted, PrintsReplicas}
 abbrev pub PrintsReplicasAlone : Type 0
 PrintsReplicasAlone = (names : List ListName) (refused : Bool) (left left' : Option (List (List ℕ))) (held held' : Option (List ℕ))
     → IsPrinted names refused left left' held held'
-    → (pieces : List (List ℕ)) (readings : List Reading) (history : History) (token_at : Naming)
+    → (pieces : List (List ℕ)) (readings : List ResponseReading) (history : History) (token_at : Naming)
     → left ≡ Some pieces → AreReadings (lines_of (next_piece pieces)) readings
     → IsWellFormed history → IsNaming history token_at
     → IsHonest history token_at (nothing_held_of names) (bodies_of readings)

@@ -9,29 +9,29 @@ use Rattle.sb_outside.specs.Writing.{HasFront}
 use Rattle.update_client.specs.Held.{Held, in_order, nothing_held_of}
 use Rattle.update_client.specs.Step.{is_refused, after_updates, results_of}
 use Rattle.update_client.specs.Replica.{AreReplicas}
-use Rattle.input_lines.specs.Lines.{lines_of, IsWithinLimits}
-use Rattle.update_replay.specs.Readings.{Reading, AreReadings, updates_of}
+use Rattle.input_lines.specs.Lines.{lines_of, IsInputWithinLimits}
+use Rattle.update_replay.specs.Readings.{ResponseReading, AreReadings, updates_of_reading}
 use Rattle.update_replay.specs.Printed.{outcome_lines, list_lines, replay_text}
 
 -- whether a body that comes to these lists has no reading, or an update that is refused
-abbrev pub has_refusal : List Held → Reading → Bool
-has_refusal lists (Ok message) = list_any is_refused (results_of lists message.items)
-has_refusal lists (Err fault) = true
+abbrev pub is_body_refused : List Held → ResponseReading → Bool
+is_body_refused lists (Ok message) = list_any is_refused (results_of lists message.items)
+is_body_refused lists (Err fault) = true
 
 -- whether one of these bodies has, each where the bodies before it led
-abbrev pub has_refusals : List Held → List Reading → Bool
-has_refusals lists [] = false
-has_refusals lists (reading ∷ readings) = has_refusal lists reading || has_refusals (after_updates lists (updates_of reading)) readings
+abbrev pub is_any_body_refused : List Held → List ResponseReading → Bool
+is_any_body_refused lists [] = false
+is_any_body_refused lists (reading ∷ readings) = is_body_refused lists reading || is_any_body_refused (after_updates lists (updates_of_reading reading)) readings
 
 -- A replay was printed whole: the text is that of an input, which the source gave to its end and which passes no limit.
 pub record IsPrinted (names : List ListName) (refused : Bool) (left left' : Option (List (List ℕ))) (held held' : Option (List ℕ)) : Type 0 where
   pub input : List ℕ
   pub whole : IfSome left (λ pieces. next_piece pieces ≡ input)
   pub end : left' ≡ left_after_end left
-  pub within : IsWithinLimits input
-  pub readings : List Reading
+  pub within : IsInputWithinLimits input
+  pub readings : List ResponseReading
   pub read : AreReadings (lines_of input) readings
-  pub refusal : refused ≡ has_refusals (nothing_held_of names) readings
+  pub refusal : refused ≡ is_any_body_refused (nothing_held_of names) readings
   pub text : held' ≡ appended held (replay_text names readings)
 
 -- A replay was printed in part: the input was read to its end, and a front of its text is there, of which something is missing.
@@ -39,13 +39,13 @@ pub record IsPartlyPrinted (names : List ListName) (left left' : Option (List (L
   pub input : List ℕ
   pub whole : IfSome left (λ pieces. next_piece pieces ≡ input)
   pub end : left' ≡ left_after_end left
-  pub within : IsWithinLimits input
-  pub readings : List Reading
+  pub within : IsInputWithinLimits input
+  pub readings : List ResponseReading
   pub read : AreReadings (lines_of input) readings
   pub front : HasFront held held' (replay_text names readings)
 
 -- What was printed are the lines of the bodies, and then lists with exactly these names, each a replica of the server's.
-pub record PrintsReplicas (history : History) (token_at : Naming) (names : List ListName) (readings : List Reading) (held held' : Option (List ℕ)) : Type 0 where
+pub record PrintsReplicas (history : History) (token_at : Naming) (names : List ListName) (readings : List ResponseReading) (held held' : Option (List ℕ)) : Type 0 where
   pub lists : List Held
   pub named : map (λ (list : Held). list.name) lists ≡ in_order names
   pub replicas : AreReplicas history token_at lists

@@ -1,5 +1,5 @@
 ghost use Rattle.std.specs.Prelude.{◌≡◌, ℕ, List, IfOk};
-ghost use Rattle.update_replay.specs.Readings.{Reading as ReadingOf, IsReader};
+ghost use Rattle.update_replay.specs.Readings.{ResponseReading as ReadingOf, IsReader};
 
 use sb_json::MessageFault;
 use sb_model::OutOfMemory;

@@ -1,6 +1,6 @@
 ghost use Rattle.input_lines.specs.Lines.{numbered};
 ghost use Rattle.std.specs.Prelude.{◌≡◌, ◌++◌, codes, decimal, length, OnOk};
-ghost use Rattle.sb_json.specs.Printed.{cause_text};
+ghost use Rattle.sb_json.specs.Printed.{message_cause_text};
 ghost use Rattle.sb_round.specs.Printed.{taken_text};
 ghost use Rattle.update_replay.specs.Printed.{prefix_line};
 
@@ -23,7 +23,7 @@ pub(crate) fn push_unreadable_line(
     number: u64,
     fault: &MessageFault,
 ) -> Result<(), OutOfMemory>
-    ensures { OnOk result (page.new ≡ page.old ++ numbered number (codes "unreadable " ++ cause_text fault.now)) }
+    ensures { OnOk result (page.new ≡ page.old ++ numbered number (codes "unreadable " ++ message_cause_text fault.now)) }
 {
     push_number_first(page, number)?;
     page.append(b"unreadable ")?;

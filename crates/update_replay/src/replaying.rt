@@ -2,18 +2,18 @@ ghost use Rattle.std.specs.Prelude.{◌≡◌, ◌≢◌, ◌⊎◌, ℕ, List, 
 ghost use Rattle.std.specs.List.{flat_map, list_any};
 ghost use Rattle.sb_outside.specs.Outside.{Rose, appended};
 ghost use Rattle.sb_outside.specs.Writing.{IsOnItsWay, HasFront};
-ghost use Rattle.sb_json.specs.Printed.{cause_text};
+ghost use Rattle.sb_json.specs.Printed.{message_cause_text};
 ghost use Rattle.update_client.specs.Held.{most_lists, nothing_held_of};
 ghost use Rattle.update_client.specs.Step.{after_updates, is_refused, results_of};
 ghost use Rattle.sb_round.specs.Printed.{taken_text};
 ghost use Rattle.sb_round.specs.Run.{lists_after};
 ghost use Rattle.input_lines.specs.Lines.{numbered, lines_of};
 ghost use Rattle.input_lines.specs.declared.input.TheConstants.{MAX_INPUT};
-ghost use Rattle.update_replay.specs.Readings.{Reading as ReadingOf, updates_of, bodies_of, IsReader};
+ghost use Rattle.update_replay.specs.Readings.{ResponseReading as ReadingOf, updates_of_reading, bodies_of, IsReader};
 ghost use Rattle.update_replay.specs.Printed.{taken_lines, body_lines, outcome_lines, list_lines, prefix_line, replay_text};
 ghost use Rattle.input_lines.specs.Input.{GivesWithin, GivesPast};
-ghost use Rattle.input_lines.specs.Writing.{IsStopped, HasPart};
-ghost use Rattle.update_replay.specs.Replay.{has_refusal, has_refusals, IsPrinted, IsPartlyPrinted};
+ghost use Rattle.input_lines.specs.Writing.{IsWritingStopped, HasPart};
+ghost use Rattle.update_replay.specs.Replay.{is_body_refused, is_any_body_refused, IsPrinted, IsPartlyPrinted};
 
 use crate::lines::{Reading, read_line};
 use crate::printing::{push_prefix_line, push_taken_line, push_unreadable_line};
@@ -44,7 +44,7 @@ fn print_taken<O: Sink>(
     ensures text { OnOk result (IsOnItsWay (O.contents out.old) (O.contents out.new) page.new
         (page.old ++ numbered number (taken_text name outcome.now))) }
     ensures kept { OnOk result (O.faults out.new ≡ O.faults out.old) }
-    ensures stopped { IfErr result (λ stop. IsStopped stop (O.faults out.old) (O.faults out.new)) }
+    ensures stopped { IfErr result (λ stop. IsWritingStopped stop (O.faults out.old) (O.faults out.new)) }
     ensures err { OnErr result (HasFront (O.contents out.old) (O.contents out.new)
         (page.old ++ numbered number (taken_text name outcome.now))) }
 {
@@ -62,11 +62,11 @@ fn print_unreadable<O: Sink>(
     page: &mut Bytes,
 ) -> Result<(), Stop>
     ensures text { OnOk result (IsOnItsWay (O.contents out.old) (O.contents out.new) page.new
-        (page.old ++ numbered number (codes "unreadable " ++ cause_text fault.now))) }
+        (page.old ++ numbered number (codes "unreadable " ++ message_cause_text fault.now))) }
     ensures kept { OnOk result (O.faults out.new ≡ O.faults out.old) }
-    ensures stopped { IfErr result (λ stop. IsStopped stop (O.faults out.old) (O.faults out.new)) }
+    ensures stopped { IfErr result (λ stop. IsWritingStopped stop (O.faults out.old) (O.faults out.new)) }
     ensures err { OnErr result (HasFront (O.contents out.old) (O.contents out.new)
-        (page.old ++ numbered number (codes "unreadable " ++ cause_text fault.now))) }
+        (page.old ++ numbered number (codes "unreadable " ++ message_cause_text fault.now))) }
 {
     match push_unreadable_line(page, number, fault) {
         Ok(()) => Ok(flush_if_full(out, page)?),
@@ -86,7 +86,7 @@ fn print_body<O: Sink>(
     ensures text { OnOk result (IsOnItsWay (O.contents out.old) (O.contents out.new) page.new
         (page.old ++ taken_lines number updates.now outcomes.now)) }
     ensures kept { OnOk result (O.faults out.new ≡ O.faults out.old) }
-    ensures stopped { IfErr result (λ stop. IsStopped stop (O.faults out.old) (O.faults out.new)) }
+    ensures stopped { IfErr result (λ stop. IsWritingStopped stop (O.faults out.old) (O.faults out.new)) }
     ensures err { OnErr result (HasPart (O.contents out.old) (O.contents out.new)
         (page.old ++ taken_lines number updates.now outcomes.now)) }
 {
@@ -113,7 +113,7 @@ fn take_body<O: Sink>(
     ensures text { OnOk result (IsOnItsWay (O.contents out.old) (O.contents out.new) page.new
         (page.old ++ taken_lines number body.now.items (results_of lists.old body.now.items))) }
     ensures kept { OnOk result (O.faults out.new ≡ O.faults out.old) }
-    ensures stopped { IfErr result (λ stop. IsStopped stop (O.faults out.old) (O.faults out.new)) }
+    ensures stopped { IfErr result (λ stop. IsWritingStopped stop (O.faults out.old) (O.faults out.new)) }
     ensures err { OnErr result (HasPart (O.contents out.old) (O.contents out.new)
         (page.old ++ taken_lines number body.now.items (results_of lists.old body.now.items))) }
 {
@@ -142,12 +142,12 @@ fn take_reading<O: Sink>(
     out: &mut O,
     page: &mut Bytes,
 ) -> Result<bool, Stop>
-    ensures lists { OnOk result (lists.new ≡ after_updates lists.old (updates_of reading.now)) }
-    ensures refused { IfOk result (λ refused. refused ≡ has_refusal lists.old reading.now) }
+    ensures lists { OnOk result (lists.new ≡ after_updates lists.old (updates_of_reading reading.now)) }
+    ensures refused { IfOk result (λ refused. refused ≡ is_body_refused lists.old reading.now) }
     ensures text { OnOk result (IsOnItsWay (O.contents out.old) (O.contents out.new) page.new
         (page.old ++ body_lines number lists.old reading.now)) }
     ensures kept { OnOk result (O.faults out.new ≡ O.faults out.old) }
-    ensures stopped { IfErr result (λ stop. IsStopped stop (O.faults out.old) (O.faults out.new)) }
+    ensures stopped { IfErr result (λ stop. IsWritingStopped stop (O.faults out.old) (O.faults out.new)) }
     ensures err { OnErr result (HasPart (O.contents out.old) (O.contents out.new)
         (page.old ++ body_lines number lists.old reading.now)) }
 {
@@ -170,14 +170,14 @@ fn take_line<O: Sink>(
     page: &mut Bytes,
 ) -> Result<bool, Stop>
     ensures lists { (read : List ℕ → ReadingOf) → IsReader read →
-        OnOk result (lists.new ≡ after_updates lists.old (updates_of (read line.now))) }
+        OnOk result (lists.new ≡ after_updates lists.old (updates_of_reading (read line.now))) }
     ensures refused { (read : List ℕ → ReadingOf) → IsReader read →
-        IfOk result (λ refused. refused ≡ has_refusal lists.old (read line.now)) }
+        IfOk result (λ refused. refused ≡ is_body_refused lists.old (read line.now)) }
     ensures text { (read : List ℕ → ReadingOf) → IsReader read →
         OnOk result (IsOnItsWay (O.contents out.old) (O.contents out.new) page.new
         (page.old ++ body_lines number lists.old (read line.now))) }
     ensures kept { OnOk result (O.faults out.new ≡ O.faults out.old) }
-    ensures stopped { IfErr result (λ stop. IsStopped stop (O.faults out.old) (O.faults out.new)) }
+    ensures stopped { IfErr result (λ stop. IsWritingStopped stop (O.faults out.old) (O.faults out.new)) }
     ensures err { (read : List ℕ → ReadingOf) → IsReader read →
         OnErr result (HasPart (O.contents out.old) (O.contents out.new)
         (page.old ++ body_lines number lists.old (read line.now))) }
@@ -202,12 +202,12 @@ fn take_lines<O: Sink>(
     ensures lists { (read : List ℕ → ReadingOf) → IsReader read →
         OnOk result (lists.new ≡ lists_after lists.old (bodies_of (map read (lines_of input.now)))) }
     ensures refused { (read : List ℕ → ReadingOf) → IsReader read →
-        IfOk result (λ refused. refused ≡ has_refusals lists.old (map read (lines_of input.now))) }
+        IfOk result (λ refused. refused ≡ is_any_body_refused lists.old (map read (lines_of input.now))) }
     ensures text { (read : List ℕ → ReadingOf) → IsReader read →
         OnOk result (IsOnItsWay (O.contents out.old) (O.contents out.new) page.new
         (outcome_lines 1 lists.old (map read (lines_of input.now)))) }
     ensures kept { OnOk result (O.faults out.new ≡ O.faults out.old) }
-    ensures stopped { IfErr result (λ stop. IsStopped stop (O.faults out.old) (O.faults out.new)) }
+    ensures stopped { IfErr result (λ stop. IsWritingStopped stop (O.faults out.old) (O.faults out.new)) }
     ensures err { (read : List ℕ → ReadingOf) → IsReader read →
         OnErr result (HasPart (O.contents out.old) (O.contents out.new)
         (outcome_lines 1 lists.old (map read (lines_of input.now)))) }
@@ -232,7 +232,7 @@ fn print_prefix<O: Sink>(prefix: &[u8], out: &mut O, page: &mut Bytes) -> Result
     ensures text { OnOk result (IsOnItsWay (O.contents out.old) (O.contents out.new) page.new
         (page.old ++ prefix_line prefix.now)) }
     ensures kept { OnOk result (O.faults out.new ≡ O.faults out.old) }
-    ensures stopped { IfErr result (λ stop. IsStopped stop (O.faults out.old) (O.faults out.new)) }
+    ensures stopped { IfErr result (λ stop. IsWritingStopped stop (O.faults out.old) (O.faults out.new)) }
     ensures err { OnErr result (HasFront (O.contents out.old) (O.contents out.new)
         (page.old ++ prefix_line prefix.now)) }
 {
@@ -247,7 +247,7 @@ fn print_prefixes<O: Sink>(held: &HeldList, out: &mut O, page: &mut Bytes) -> Re
     ensures text { OnOk result (IsOnItsWay (O.contents out.old) (O.contents out.new) page.new
         (page.old ++ flat_map prefix_line held.now.set)) }
     ensures kept { OnOk result (O.faults out.new ≡ O.faults out.old) }
-    ensures stopped { IfErr result (λ stop. IsStopped stop (O.faults out.old) (O.faults out.new)) }
+    ensures stopped { IfErr result (λ stop. IsWritingStopped stop (O.faults out.old) (O.faults out.new)) }
     ensures err { OnErr result (HasFront (O.contents out.old) (O.contents out.new)
         (page.old ++ flat_map prefix_line held.now.set)) }
 {
@@ -264,7 +264,7 @@ fn print_list<O: Sink>(held: &HeldList, out: &mut O, page: &mut Bytes) -> Result
     ensures text { OnOk result (IsOnItsWay (O.contents out.old) (O.contents out.new) page.new
         (page.old ++ list_lines held.now)) }
     ensures kept { OnOk result (O.faults out.new ≡ O.faults out.old) }
-    ensures stopped { IfErr result (λ stop. IsStopped stop (O.faults out.old) (O.faults out.new)) }
+    ensures stopped { IfErr result (λ stop. IsWritingStopped stop (O.faults out.old) (O.faults out.new)) }
     ensures err { OnErr result (HasFront (O.contents out.old) (O.contents out.new)
         (page.old ++ list_lines held.now)) }
 {
@@ -279,7 +279,7 @@ fn print_lists<O: Sink>(lists: &[HeldList], out: &mut O, page: &mut Bytes) -> Re
     ensures text { OnOk result (IsOnItsWay (O.contents out.old) (O.contents out.new) page.new
         (page.old ++ flat_map list_lines lists.now)) }
     ensures kept { OnOk result (O.faults out.new ≡ O.faults out.old) }
-    ensures stopped { IfErr result (λ stop. IsStopped stop (O.faults out.old) (O.faults out.new)) }
+    ensures stopped { IfErr result (λ stop. IsWritingStopped stop (O.faults out.old) (O.faults out.new)) }
     ensures err { OnErr result (HasFront (O.contents out.old) (O.contents out.new)
         (page.old ++ flat_map list_lines lists.now)) }
 {
@@ -296,7 +296,7 @@ fn finish<O: Sink>(lists: &[HeldList], out: &mut O, page: &mut Bytes) -> Result<
     ensures text { OnOk result (O.contents out.new
         ≡ appended (O.contents out.old) (page.old ++ flat_map list_lines lists.now)) }
     ensures kept { OnOk result (O.faults out.new ≡ O.faults out.old) }
-    ensures stopped { IfErr result (λ stop. IsStopped stop (O.faults out.old) (O.faults out.new)) }
+    ensures stopped { IfErr result (λ stop. IsWritingStopped stop (O.faults out.old) (O.faults out.new)) }
     ensures err { OnErr result (HasFront (O.contents out.old) (O.contents out.new)
         (page.old ++ flat_map list_lines lists.now)) }
 {
@@ -318,12 +318,12 @@ fn replay_input<O: Sink>(
     requires few { length names.now ≤ most_lists }
     requires within { length input.now ≤ MAX_INPUT }
     ensures refused { (read : List ℕ → ReadingOf) → IsReader read →
-        IfOk result (λ refused. refused ≡ has_refusals (nothing_held_of names.now) (map read (lines_of input.now))) }
+        IfOk result (λ refused. refused ≡ is_any_body_refused (nothing_held_of names.now) (map read (lines_of input.now))) }
     ensures text { (read : List ℕ → ReadingOf) → IsReader read →
         OnOk result (O.contents out.new
         ≡ appended (O.contents out.old) (replay_text names.now (map read (lines_of input.now)))) }
     ensures kept { OnOk result (O.faults out.new ≡ O.faults out.old) }
-    ensures stopped { IfErr result (λ stop. IsStopped stop (O.faults out.old) (O.faults out.new)) }
+    ensures stopped { IfErr result (λ stop. IsWritingStopped stop (O.faults out.old) (O.faults out.new)) }
     ensures err { (read : List ℕ → ReadingOf) → IsReader read →
         OnErr result (HasFront (O.contents out.old) (O.contents out.new)
         (replay_text names.now (map read (lines_of input.now)))) }

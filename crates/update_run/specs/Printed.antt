@@ -6,7 +6,7 @@ use Rattle.sb_model.specs.Names.{same_name, text_of}
 use Rattle.update_client.specs.Held.{Held}
 use Rattle.update_client.specs.Printed.{token_text}
 use Rattle.update_client.specs.Step.{is_refused}
-use Rattle.client_store.specs.Printed.{cause_text}
+use Rattle.client_store.specs.Printed.{store_cause_text}
 use Rattle.client_store.specs.Reading.{store_reading}
 use Rattle.client_store.specs.declared.fault.StoreFault.{StoreFault}
 use Rattle.sb_round.specs.Printed.{round_line, round_lines}
@@ -23,7 +23,7 @@ use Rattle.update_run.specs.Saved.{has_installed}
 -- a line for a text that was kept and is no store
 abbrev pub ignored_line : Result (List Held) StoreFault → List ℕ
 ignored_line (Ok stored) = []
-ignored_line (Err fault) = codes "store ignored: " ++ cause_text fault ++ 10 ∷ []
+ignored_line (Err fault) = codes "store ignored: " ++ store_cause_text fault ++ 10 ∷ []
 
 abbrev pub ignored_text : Option (List ℕ) → List ℕ
 ignored_text None = []

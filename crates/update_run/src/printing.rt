@@ -1,5 +1,5 @@
 ghost use Rattle.std.specs.Prelude.{◌≡◌, ◌++◌, ◌∷◌, [], Ok, codes, decimal, length, take, OnOk, OnErr};
-ghost use Rattle.client_store.specs.Printed.{cause_text};
+ghost use Rattle.client_store.specs.Printed.{store_cause_text};
 ghost use Rattle.sb_model.specs.Names.{same_name};
 ghost use Rattle.update_run.specs.Printed.{is_answered as is_answered_one, list_line, not_answered, not_answered_line, not_answered_lines, saved_line};
 
@@ -10,7 +10,7 @@ use update_client::{HeldList, push_token};
 
 /// Appends the line of a store that is ignored.
 pub(crate) fn push_ignored_line(page: &mut Bytes, fault: &StoreFault) -> Result<(), OutOfMemory>
-    ensures ok { OnOk result (page.new ≡ page.old ++ (codes "store ignored: " ++ cause_text fault.now ++ 10 ∷ [])) }
+    ensures ok { OnOk result (page.new ≡ page.old ++ (codes "store ignored: " ++ store_cause_text fault.now ++ 10 ∷ [])) }
     ensures front { OnErr result (take (length page.old) page.new ≡ page.old) }
 {
     page.append(b"store ignored: ")?;

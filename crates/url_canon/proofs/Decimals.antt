@@ -9,8 +9,8 @@ use Rattle.std.proofs.lemmas.Bool.{or_from, and_parts, eqb-true, ne_eqb, leb-tru
 use Rattle.std.proofs.lemmas.List.{append-nil}
 use Rattle.std.proofs.lemmas.Bool.Decides.{nat_tests}
 use Rattle.url_canon.specs.Words.{is_nil, is_dot}
-use Rattle.url_canon.specs.Address.{number_in, number_of, address_in, address_of, address_text}
-use Rattle.url_canon.specs.Host.{is_colon, name_of}
+use Rattle.url_canon.specs.Address.{number_in_base, number_of_part, address_in, address_of, address_text}
+use Rattle.url_canon.specs.Host.{is_colon, name_before_port}
 use Rattle.url_canon.proofs.Splits.{Lacks}
 use Rattle.url_canon.proofs.Numbers.{stopped, address_in-last, address_in-more, joined_below}
 use Rattle.url_canon.proofs.Lacking.{Lacks-join, IsPlain, plain-after}
@@ -25,11 +25,11 @@ is_number None n = false
 is_number (Some m) n = eqb m n
 
 decimal_test : ℕ → Bool
-decimal_test n = not (is_nil (decimal n)) && (list_all is_figure (decimal n) && is_number (number_of (decimal n)) n)
+decimal_test n = not (is_nil (decimal n)) && (list_all is_figure (decimal n) && is_number (number_of_part (decimal n)) n)
 
 -- each byte, one after the other
 tested : (n : ℕ) → n < 256 → decimal_test n ≡ true
-unfolding decimal_test is_figure is_number number_of number_in digits
+unfolding decimal_test is_figure is_number number_of_part number_in_base digits
 tested n h = agree_below_at decimal_test (λ _. true) 256 n refl h
 
 number_from : (o : Option ℕ) (n : ℕ) → is_number o n ≡ true → o ≡ Some n
@@ -61,14 +61,14 @@ figures_lower (x ∷ xs) e =
 record IsDecimal (n : ℕ) : Type 0 where
   some : is_nil (decimal n) ≡ false
   figures : list_all is_figure (decimal n) ≡ true
-  number : number_of (decimal n) ≡ Some n
+  number : number_of_part (decimal n) ≡ Some n
 
 decimal_of : (n : ℕ) → n < 256 → IsDecimal n
 unfolding decimal_test
 decimal_of n h =
     let parts = and_parts (not (is_nil (decimal n))) _ (tested n h) in
     let more = and_parts (list_all is_figure (decimal n)) _ parts.1 in
-    record { some = not-true (is_nil (decimal n)) parts.0; figures = more.0; number = number_from (number_of (decimal n)) n more.1 }
+    record { some = not-true (is_nil (decimal n)) parts.0; figures = more.0; number = number_from (number_of_part (decimal n)) n more.1 }
 
 apart : (c : ℕ) → c < 48 → (x : ℕ) → 48 ≤ x → x ≤ 57 → eqb x c ≡ false
 apart c h x low high = ne_eqb x c (λ e. omega arith)
@@ -100,8 +100,8 @@ small v h = omega arith
 each_decimal : (Q : List ℕ → Type 0) (v : ℕ) → v < 4294967296 → ((n : ℕ) → n < 256 → Q (decimal n)) → AllByRecursion Q (bytes v)
 each_decimal Q v h f = (f (v / 16777216) (small v h), (f (v / 65536 % 256) (omega arith), (f (v / 256 % 256) (omega arith), (f (v % 256) (omega arith), tt))))
 
-pub name_of-address : (v : ℕ) → v < 4294967296 → name_of (address_text v) ≡ address_text v
-name_of-address v h = ap name_of (text_is v) ∙ (name_of-join (bytes v) (each_decimal IsLabel v h label) ∙ sym (text_is v))
+pub name_of-address : (v : ℕ) → v < 4294967296 → name_before_port (address_text v) ≡ address_text v
+name_of-address v h = ap name_before_port (text_is v) ∙ (name_of-join (bytes v) (each_decimal IsLabel v h label) ∙ sym (text_is v))
 
 -- what neither a figure nor a dot is
 pub Lacks-address : (q : ℕ → Bool) (v : ℕ) → v < 4294967296 → q 46 ≡ false → ((x : ℕ) → 48 ≤ x → x ≤ 57 → q x ≡ false) → Lacks q (address_text v)
@@ -112,7 +112,7 @@ pub plain-address : (v : ℕ) → v < 4294967296 → IsPlain (address_text v)
 plain-address v h =
     ap has_escape (sym (append-nil (address_text v))) ∙ plain-after (address_text v) [] (Lacks-address (λ x. eqb x 37) v h refl (apart 37 (omega arith))) refl
 
-stop : (n : ℕ) → n < 256 → stopped (number_of (decimal n)) ≡ Some n
+stop : (n : ℕ) → n < 256 → stopped (number_of_part (decimal n)) ≡ Some n
 stop n h = let least : min n 4294967296 ≡ n = omega arith in ap stopped (decimal_of n h).number ∙ ap Some least
 
 value : (v : ℕ) → v / 16777216 * 256 ^ 3 + (v / 65536 % 256 * 256 ^ 2 + (v / 256 % 256 * 256 ^ 1 + v % 256)) ≡ v
@@ -151,8 +151,8 @@ fits_more (Some m) (Some l) w u v e f h =
 fits : (w : ℕ) (parts : List (List ℕ)) (v : ℕ) → address_in w parts ≡ Some v → v < 256 ^ w
 fits zero parts v e = absurd (cc)
 fits (suc w) [] v e = absurd (cc)
-fits (suc w) (part ∷ []) v e = fits_last (number_of part) (256 ^ suc w) v e
-fits (suc w) (part ∷ next ∷ parts) v e = fits_more (number_of part) (address_in w (next ∷ parts)) (suc w) w v refl (λ l k. fits w (next ∷ parts) l k) e
+fits (suc w) (part ∷ []) v e = fits_last (number_of_part part) (256 ^ suc w) v e
+fits (suc w) (part ∷ next ∷ parts) v e = fits_more (number_of_part part) (address_in w (next ∷ parts)) (suc w) w v refl (λ l k. fits w (next ∷ parts) l k) e
 
 pub address_of-fits : (name : List ℕ) (v : ℕ) → address_of name ≡ Some v → v < 4294967296
 unfolding address_of

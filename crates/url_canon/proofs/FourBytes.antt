@@ -3,7 +3,7 @@ use Rattle.std.proofs.Common.{◌≡◌, ℕ, zero, suc, ◌+◌, ◌*◌, ◌^�
 use Rattle.std.specs.Prelude.{◌↔◌}
 use Rattle.std.specs.List.{slice_split}
 use Rattle.std.proofs.lemmas.Bool.{cond-true, lt-ltb, ltb-true}
-use Rattle.url_canon.specs.Address.{number_of, address_in, address_of, StandFor, IsAddressOf}
+use Rattle.url_canon.specs.Address.{number_of_part, address_in, address_of, StandFor, IsAddressOf}
 use Rattle.url_canon.specs.Words.{is_dot}
 
 -- the address of so many bytes that numbers stand for
@@ -13,18 +13,18 @@ value_of (suc w) [] = None
 value_of (suc w) (n ∷ []) = cond (ltb n (256 ^ suc w)) (Some n) None
 value_of (suc w) (n ∷ m ∷ ns) = option_and_then (λ low. cond (ltb n 256) (Some (n * 256 ^ w + low)) None) (value_of w (m ∷ ns))
 
-numbered : (w : ℕ) (parts : List (List ℕ)) (ns : List ℕ) → map number_of parts ≡ map Some ns → address_in w parts ≡ value_of w ns
+numbered : (w : ℕ) (parts : List (List ℕ)) (ns : List ℕ) → map number_of_part parts ≡ map Some ns → address_in w parts ≡ value_of w ns
 numbered zero parts ns e = refl
 numbered (suc w) [] [] e = refl
 numbered (suc w) [] (n ∷ ns) e = absurd (cc)
 numbered (suc w) (part ∷ parts) [] e = absurd (cc)
 numbered (suc w) (part ∷ []) (n ∷ []) e =
-    let first : number_of part ≡ Some n = cc in ap (option_and_then (λ m. cond (ltb m (256 ^ suc w)) (Some m) None)) first
+    let first : number_of_part part ≡ Some n = cc in ap (option_and_then (λ m. cond (ltb m (256 ^ suc w)) (Some m) None)) first
 numbered (suc w) (part ∷ []) (n ∷ m ∷ ns) e = absurd (cc)
 numbered (suc w) (part ∷ next ∷ parts) (n ∷ []) e = absurd (cc)
 numbered (suc w) (part ∷ next ∷ parts) (n ∷ m ∷ ns) e =
-    let first : number_of part ≡ Some n = cc in
-    let rest : map number_of (next ∷ parts) ≡ map Some (m ∷ ns) = cc in
+    let first : number_of_part part ≡ Some n = cc in
+    let rest : map number_of_part (next ∷ parts) ≡ map Some (m ∷ ns) = cc in
     ap (option_and_then (λ number. option_and_then (λ low. cond (ltb number 256) (Some (number * 256 ^ w + low)) None) (address_in w (next ∷ parts)))) first
     ∙ ap (option_and_then (λ low. cond (ltb n 256) (Some (n * 256 ^ w + low)) None)) (numbered w (next ∷ parts) (m ∷ ns) rest)
 
@@ -32,16 +32,16 @@ some_of : (o : Option ℕ) (f : ℕ → Option ℕ) (v : ℕ) → option_and_the
 some_of None f v e = absurd (cc)
 some_of (Some n) f v e = (n, refl, e)
 
-numbers_there : (w : ℕ) (parts : List (List ℕ)) (v : ℕ) → address_in w parts ≡ Some v → (ns : List ℕ) × (map number_of parts ≡ map Some ns)
+numbers_there : (w : ℕ) (parts : List (List ℕ)) (v : ℕ) → address_in w parts ≡ Some v → (ns : List ℕ) × (map number_of_part parts ≡ map Some ns)
 numbers_there zero parts v e = absurd (cc)
 numbers_there (suc w) [] v e = absurd (cc)
 numbers_there (suc w) (part ∷ []) v e =
-    let found = some_of (number_of part) (λ m. cond (ltb m (256 ^ suc w)) (Some m) None) v e in (found.0 ∷ [], ap (λ o. o ∷ []) found.1)
+    let found = some_of (number_of_part part) (λ m. cond (ltb m (256 ^ suc w)) (Some m) None) v e in (found.0 ∷ [], ap (λ o. o ∷ []) found.1)
 numbers_there (suc w) (part ∷ next ∷ parts) v e =
-    let found = some_of (number_of part) (λ m. option_and_then (λ low. cond (ltb m 256) (Some (m * 256 ^ w + low)) None) (address_in w (next ∷ parts))) v e in
+    let found = some_of (number_of_part part) (λ m. option_and_then (λ low. cond (ltb m 256) (Some (m * 256 ^ w + low)) None) (address_in w (next ∷ parts))) v e in
     let low = some_of (address_in w (next ∷ parts)) (λ low. cond (ltb found.0 256) (Some (found.0 * 256 ^ w + low)) None) v found.2 in
     let rest = numbers_there w (next ∷ parts) low.0 low.1 in
-    (found.0 ∷ rest.0, ap (λ o. o ∷ map number_of (next ∷ parts)) found.1 ∙ ap (λ os. Some found.0 ∷ os) rest.1)
+    (found.0 ∷ rest.0, ap (λ o. o ∷ map number_of_part (next ∷ parts)) found.1 ∙ ap (λ os. Some found.0 ∷ os) rest.1)
 
 chosen : (b : Bool) (x v : ℕ) → cond b (Some x) None ≡ Some v → (b ≡ true) × (x ≡ v)
 chosen true x v e = (refl, cc)

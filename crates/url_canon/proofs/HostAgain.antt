@@ -7,7 +7,7 @@ use Rattle.std.proofs.lemmas.Bool.{cond-true, cond-false, or_from, or_parts, or_
 use Rattle.std.proofs.lemmas.List.{map-append, take-append-drop}
 use Rattle.url_canon.specs.Words.{begins_with, is_nil, without_leading, from_first, is_dot}
 use Rattle.url_canon.specs.Address.{address_of, address_text}
-use Rattle.url_canon.specs.Host.{is_open, is_close, is_bracketed, bracketed_host, is_high, ascii_name, host_name, HostParts, named_or_address, named_host, host_of}
+use Rattle.url_canon.specs.Host.{is_opening_bracket, is_close, is_bracketed, bracketed_host, is_high, ascii_name, host_name, HostParts, named_or_address, named_host, host_of}
 use Rattle.url_canon.proofs.Splits.{Lacks}
 use Rattle.url_canon.proofs.Cuts.{before_first-not, before_first-at, none-before_first, before-and-from}
 use Rattle.url_canon.proofs.Trims.{without_leading-not}
@@ -69,22 +69,22 @@ bracketed_is : (bare : List ℕ) → bracketed_host bare ≡ str_to_ascii_lowerc
 unfolding bracketed_host
 bracketed_is bare = map-append to_ascii_lowercase (before_first is_close bare) (93 ∷ [])
 
-begins_bracketed : (bare : List ℕ) → begins_with is_open bare ≡ true → begins_with is_open (bracketed_host bare) ≡ true
+begins_bracketed : (bare : List ℕ) → begins_with is_opening_bracket bare ≡ true → begins_with is_opening_bracket (bracketed_host bare) ≡ true
 unfolding bracketed_host
 begins_bracketed [] e = absurd (false≢true e)
 begins_bracketed (b ∷ bare) e =
     let is_91 = eqb-true b 91 e in
     let stays : is_close b ≡ false = ne_eqb b 93 (λ f. omega arith) in
-    begins-lower is_open (before_first is_close (b ∷ bare) ++ (93 ∷ [])) open_same ∙ (ap (λ t. begins_with is_open (t ++ (93 ∷ []))) (before_first-not is_close b bare stays) ∙ e)
+    begins-lower is_opening_bracket (before_first is_close (b ∷ bare) ++ (93 ∷ [])) open_same ∙ (ap (λ t. begins_with is_opening_bracket (t ++ (93 ∷ []))) (before_first-not is_close b bare stays) ∙ e)
 
-start_open : (text : List ℕ) → begins_with is_open text ≡ true → without_leading is_dot text ≡ text
+start_open : (text : List ℕ) → begins_with is_opening_bracket text ≡ true → without_leading is_dot text ≡ text
 start_open [] e = refl
 start_open (x ∷ text) e = let is_91 = eqb-true x 91 e in without_leading-not is_dot x text (ne_eqb x 46 (λ f. omega arith))
 
 closes : (bare : List ℕ) → Lacks is_close (str_to_ascii_lowercase (before_first is_close bare))
 closes bare = any-lowercase is_close (before_first is_close bare) close_same ∙ none-before_first is_close bare
 
-bracketed_again : (bare : List ℕ) → begins_with is_open bare ≡ true → host_of (bracketed_host bare) ≡ Some (record { text = bracketed_host bare; is_address = true })
+bracketed_again : (bare : List ℕ) → begins_with is_opening_bracket bare ≡ true → host_of (bracketed_host bare) ≡ Some (record { text = bracketed_host bare; is_address = true })
 unfolding bracketed_host in_brackets
 bracketed_again bare e =
     let text = bracketed_host bare in
@@ -93,11 +93,11 @@ bracketed_again bare e =
     let closed : list_any is_close text ≡ true = ap (list_any is_close) (bracketed_is bare) ∙ (any-append is_close inside (93 ∷ []) ∙ or_right (list_any is_close inside) true refl) in
     let cut : before_first is_close text ≡ inside = ap (before_first is_close) (bracketed_is bare) ∙ before_first-at is_close inside 93 [] (closes bare) refl in
     let same : bracketed_host text ≡ text = bracketed_is text ∙ (ap (λ t. str_to_ascii_lowercase t ++ (93 ∷ [])) cut ∙ (ap (λ t. t ++ (93 ∷ [])) (lowercase_same (before_first is_close bare)) ∙ sym (bracketed_is bare))) in
-    host_of-bracketed text (ap is_bracketed start ∙ and_from (begins_with is_open text) (list_any is_close text) (begins_bracketed bare e) closed)
+    host_of-bracketed text (ap is_bracketed start ∙ and_from (begins_with is_opening_bracket text) (list_any is_close text) (begins_bracketed bare e) closed)
     ∙ ap (λ t. Some (record { text = t; is_address = true })) (ap bracketed_host start ∙ same)
 
-bare_opens : (text : List ℕ) → is_bracketed text ≡ true → begins_with is_open text ≡ true
-bare_opens text e = (and_parts (begins_with is_open text) (list_any is_close text) e).0
+bare_opens : (text : List ℕ) → is_bracketed text ≡ true → begins_with is_opening_bracket text ≡ true
+bare_opens text e = (and_parts (begins_with is_opening_bracket text) (list_any is_close text) e).0
 
 -- as an address
 
@@ -105,16 +105,16 @@ address_again : (v : ℕ) → v < 4294967296 → host_of (address_text v) ≡ So
 unfolding named_host
 address_again v h =
     let text = address_text v in
-    let bare : is_bracketed (without_leading is_dot text) ≡ false = not_open (without_leading is_dot text) (Lacks-without_leading is_open text (Lacks-address is_open v h refl (λ x low high. ne_eqb x 91 (λ f. omega arith)))) in
+    let bare : is_bracketed (without_leading is_dot text) ≡ false = not_open (without_leading is_dot text) (Lacks-without_leading is_opening_bracket text (Lacks-address is_opening_bracket v h refl (λ x low high. ne_eqb x 91 (λ f. omega arith)))) in
     host_of-named text bare (ap is_nil (kept v h) ∙ starts_small v h)
     ∙ (ap (λ n. Some (named_host n)) (kept v h) ∙ ap (λ o. Some (named_or_address text o)) (address_of-text v h))
   where
     kept : (v : ℕ) → v < 4294967296 → host_name (address_text v) ≡ address_text v
     kept v h = ap ascii_name (name_of-address v h) ∙ kept_name (address_text v) (Lacks-address is_high v h refl (λ x low high. lt-leb 128 x (omega arith)))
 
-    not_open : (t : List ℕ) → Lacks is_open t → is_bracketed t ≡ false
+    not_open : (t : List ℕ) → Lacks is_opening_bracket t → is_bracketed t ≡ false
     not_open [] none = refl
-    not_open (x ∷ t) none = and_left (is_open x) (list_any is_close (x ∷ t)) (or_parts (is_open x) (list_any is_open t) none).0
+    not_open (x ∷ t) none = and_left (is_opening_bracket x) (list_any is_close (x ∷ t)) (or_parts (is_opening_bracket x) (list_any is_opening_bracket t) none).0
 
     Lacks-without_leading : (q : ℕ → Bool) (t : List ℕ) → Lacks q t → Lacks q (without_leading is_dot t)
     Lacks-without_leading q t none = Lacks-back q (take (prefix_len is_dot t) t) (without_leading is_dot t) (ap (list_any q) (take-append-drop (prefix_len is_dot t) t) ∙ none)

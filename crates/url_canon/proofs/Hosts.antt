@@ -6,7 +6,7 @@ use Rattle.std.specs.Str.{str_to_ascii_lowercase}
 use Rattle.std.proofs.lemmas.Bool.{cond-true, cond-false, or_parts, and_parts, and_from, eq-eqb, eqb-true, cases_Bool, false≢true, true_from_ne_false, false_from_ne_true}
 use Rattle.std.proofs.lemmas.List.{map-append}
 use Rattle.url_canon.specs.Words.{begins_with, is_nil, without_leading, from_first, is_dot}
-use Rattle.url_canon.specs.Host.{is_open, is_close, is_colon, is_bracketed, labels_of, name_of}
+use Rattle.url_canon.specs.Host.{is_opening_bracket, is_close, is_colon, is_bracketed, labels_of, name_before_port}
 use Rattle.url_canon.proofs.Splits.{Lacks, Lacks-slice_split}
 use Rattle.url_canon.proofs.Cuts.{split_none, before_first-none, none-before_first, before-and-from}
 use Rattle.url_canon.proofs.Paths.{split_at}
@@ -53,8 +53,8 @@ map_same : (ls : List (List ℕ)) → AllByRecursion IsLabel ls → map str_to_a
 map_same [] h = refl
 map_same (l ∷ ls) h = ap (λ x. x ∷ map str_to_ascii_lowercase ls) h.0.lower ∙ ap (λ r. l ∷ r) (map_same ls h.1)
 
-pub name_of-join : (ls : List (List ℕ)) → AllByRecursion IsLabel ls → name_of (join_with_byte 46 ls) ≡ join_with_byte 46 ls
-unfolding name_of
+pub name_of-join : (ls : List (List ℕ)) → AllByRecursion IsLabel ls → name_before_port (join_with_byte 46 ls) ≡ join_with_byte 46 ls
+unfolding name_before_port
 name_of-join ls h =
     ap (λ t. str_to_ascii_lowercase (join_with_byte 46 (labels_of t))) (before_first-none is_colon (join_with_byte 46 ls) (Lacks-join is_colon 46 ls refl (each-of IsLabel (Lacks is_colon) ls (λ l k. k.no_port) h)))
     ∙ (ap (λ r. str_to_ascii_lowercase (join_with_byte 46 r)) (labels_of-join ls h) ∙ (lower_join ls ∙ ap (join_with_byte 46) (map_same ls h)))
@@ -64,8 +64,8 @@ name_of-join ls h =
 abbrev lower_labels : List ℕ → List (List ℕ)
 lower_labels text = map str_to_ascii_lowercase (labels_of (before_first is_colon text))
 
-name_is : (text : List ℕ) → name_of text ≡ join_with_byte 46 (lower_labels text)
-unfolding name_of
+name_is : (text : List ℕ) → name_before_port text ≡ join_with_byte 46 (lower_labels text)
+unfolding name_before_port
 name_is text = lower_join (labels_of (before_first is_colon text))
 
 is_nil-lower : (l : List ℕ) → is_nil (str_to_ascii_lowercase l) ≡ is_nil l
@@ -90,18 +90,18 @@ labels text =
     let before = before_first is_colon text in
     labels-filter (slice_split is_dot before) (Lacks-slice_split is_dot before) (Lacks-parts is_colon is_dot before (none-before_first is_colon text))
 
-pub name_of-again : (text : List ℕ) → name_of (name_of text) ≡ name_of text
-name_of-again text = ap name_of (name_is text) ∙ (name_of-join (lower_labels text) (labels text) ∙ sym (name_is text))
+pub name_of-again : (text : List ℕ) → name_before_port (name_before_port text) ≡ name_before_port text
+name_of-again text = ap name_before_port (name_is text) ∙ (name_of-join (lower_labels text) (labels text) ∙ sym (name_is text))
 
 -- what the text lacks, its name lacks
-pub Lacks-name_of : (q : ℕ → Bool) (text : List ℕ) → IgnoresCase q → q 46 ≡ false → Lacks q text → Lacks q (name_of text)
-unfolding name_of
+pub Lacks-name_of : (q : ℕ → Bool) (text : List ℕ) → IgnoresCase q → q 46 ≡ false → Lacks q text → Lacks q (name_before_port text)
+unfolding name_before_port
 Lacks-name_of q text same e h =
     let before = before_first is_colon text in
     any-lowercase q (join_with_byte 46 (labels_of before)) same ∙ Lacks-join q 46 (labels_of before) e (each-filter (Lacks q) (λ l. not (is_nil l)) (slice_split is_dot before) (Lacks-parts q is_dot before (Lacks-before_first q is_colon text h)))
 
-pub plain-name_of : (text : List ℕ) → IsPlain text → IsPlain (name_of text)
-unfolding name_of
+pub plain-name_of : (text : List ℕ) → IsPlain text → IsPlain (name_before_port text)
+unfolding name_before_port
 plain-name_of text h =
     let before = before_first is_colon text in
     has_escape-lower (join_with_byte 46 (labels_of before)) ∙ plain-join 46 (labels_of before) refl refl (each-filter IsPlain (λ l. not (is_nil l)) (slice_split is_dot before) (plain-parts is_dot before (plain-front before (from_first is_colon text) (ap has_escape (before-and-from is_colon text) ∙ h))))
@@ -145,20 +145,20 @@ any-without_leading q (x ∷ text) e =
     (λ other. ap (list_any q) (without_leading-not is_dot x text other))
     (cases_Bool (is_dot x))
 
-pub open_same : IgnoresCase is_open
+pub open_same : IgnoresCase is_opening_bracket
 open_same = ignores_between 91 (omega arith) (omega arith)
 
 pub close_same : IgnoresCase is_close
 close_same = ignores_between 93 (omega arith) (omega arith)
 
-name_begins : (text : List ℕ) → begins_with is_open (name_of text) ≡ true → begins_with is_open (without_leading is_dot text) ≡ true
-unfolding name_of
+name_begins : (text : List ℕ) → begins_with is_opening_bracket (name_before_port text) ≡ true → begins_with is_opening_bracket (without_leading is_dot text) ≡ true
+unfolding name_before_port
 name_begins text e =
     let before = before_first is_colon text in
-    let first = sym (labels_begin is_open before) ∙ (sym (begins-lower is_open (join_with_byte 46 (labels_of before)) open_same) ∙ e) in
-    sym (ap (λ t. begins_with is_open (without_leading is_dot t)) (before-and-from is_colon text)) ∙ begins_more is_open before (from_first is_colon text) first
+    let first = sym (labels_begin is_opening_bracket before) ∙ (sym (begins-lower is_opening_bracket (join_with_byte 46 (labels_of before)) open_same) ∙ e) in
+    sym (ap (λ t. begins_with is_opening_bracket (without_leading is_dot t)) (before-and-from is_colon text)) ∙ begins_more is_opening_bracket before (from_first is_colon text) first
 
-name_closes : (text : List ℕ) → list_any is_close (name_of text) ≡ true → list_any is_close (without_leading is_dot text) ≡ true
+name_closes : (text : List ℕ) → list_any is_close (name_before_port text) ≡ true → list_any is_close (without_leading is_dot text) ≡ true
 name_closes text e =
     any-without_leading is_close text refl ∙ true_from_ne_false (list_any is_close text) (λ none. false≢true (sym (Lacks-name_of is_close text close_same refl none) ∙ e))
 
@@ -169,8 +169,8 @@ name_starts ([] ∷ ls) h = absurd (false≢true (sym h.0.some))
 name_starts ((x ∷ l) ∷ []) h = without_leading-not is_dot x l (or_parts (is_dot x) (list_any is_dot l) h.0.dotless).0
 name_starts ((x ∷ l) ∷ m ∷ ls) h = without_leading-not is_dot x (l ++ (46 ∷ join_with_byte 46 (m ∷ ls))) (or_parts (is_dot x) (list_any is_dot l) h.0.dotless).0
 
-pub not_bracketed : (text : List ℕ) → is_bracketed (without_leading is_dot text) ≡ false → is_bracketed (without_leading is_dot (name_of text)) ≡ false
+pub not_bracketed : (text : List ℕ) → is_bracketed (without_leading is_dot text) ≡ false → is_bracketed (without_leading is_dot (name_before_port text)) ≡ false
 not_bracketed text e =
-    let name = name_of text in
+    let name = name_before_port text in
     let start : without_leading is_dot name ≡ name = ap (without_leading is_dot) (name_is text) ∙ (name_starts (lower_labels text) (labels text) ∙ sym (name_is text)) in
-    ap is_bracketed start ∙ false_from_ne_true (is_bracketed name) (λ both. let parts = and_parts (begins_with is_open name) (list_any is_close name) both in false≢true (sym e ∙ and_from (begins_with is_open (without_leading is_dot text)) (list_any is_close (without_leading is_dot text)) (name_begins text parts.0) (name_closes text parts.1)))
+    ap is_bracketed start ∙ false_from_ne_true (is_bracketed name) (λ both. let parts = and_parts (begins_with is_opening_bracket name) (list_any is_close name) both in false≢true (sym e ∙ and_from (begins_with is_opening_bracket (without_leading is_dot text)) (list_any is_close (without_leading is_dot text)) (name_begins text parts.0) (name_closes text parts.1)))

@@ -14,7 +14,7 @@ use Rattle.idna.specs.declared.options.DnsLength.TheVariants.{Ignore}
 use Rattle.idna.proofs.ValidityLemmas.{denies-URL}
 use Rattle.idna.proofs.Uts46Lemmas.{IsOutputByte, All-to_ascii}
 use Rattle.url_canon.specs.Words.{begins_with, without_leading, is_dot}
-use Rattle.url_canon.specs.Host.{is_open, is_colon, is_bracketed, labels_of, tidied, name_of, is_high, form_or, ascii_name, host_name}
+use Rattle.url_canon.specs.Host.{is_opening_bracket, is_colon, is_bracketed, labels_of, tidied, name_before_port, is_high, form_or, ascii_name, host_name}
 use Rattle.url_canon.proofs.Splits.{Lacks}
 use Rattle.url_canon.proofs.Cuts.{before_first-none}
 use Rattle.url_canon.proofs.Places.{lacks_from}
@@ -64,8 +64,8 @@ lower_kept (x ∷ xs) h =
     ap (λ y. y ∷ str_to_ascii_lowercase xs) (lower_one x parts.0) ∙ ap (λ ys. x ∷ ys) (lower_kept xs parts.1)
 
 -- a form is tidied as a name is read
-tidied_is_name : (form : List ℕ) → All (IsOutputByte URL) form → tidied form ≡ name_of form
-unfolding name_of
+tidied_is_name : (form : List ℕ) → All (IsOutputByte URL) form → tidied form ≡ name_before_port form
+unfolding name_before_port
 tidied_is_name form all =
     sym (ap (λ t. str_to_ascii_lowercase (tidied t)) (before_first-none is_colon form (lacks-form is_colon form (λ x b. b.no_colon) all))
     ∙ lower_kept (tidied form) (lacks-tidied is_ascii_uppercase form refl (lacks-form is_ascii_uppercase form (λ x b. b.lower) all)))
@@ -76,7 +76,7 @@ not_begun p (x ∷ t) none = (or_parts (p x) (list_any p t) none).0
 
 bare_form : (form : List ℕ) → All (IsOutputByte URL) form → is_bracketed (without_leading is_dot form) ≡ false
 bare_form form all =
-    and_left _ _ (not_begun is_open (without_leading is_dot form) (any-without_leading is_open form refl ∙ lacks-form is_open form (λ x b. b.no_open) all))
+    and_left _ _ (not_begun is_opening_bracket (without_leading is_dot form) (any-without_leading is_opening_bracket form refl ∙ lacks-form is_opening_bracket form (λ x b. b.no_open) all))
 
 plain_none : (xs : List ℕ) → Lacks (λ x. eqb x 37) xs → IsPlain xs
 plain_none xs h = subst IsPlain (append-nil xs) (plain-after xs [] h refl)
@@ -97,13 +97,13 @@ pub record PassesOver (q : ℕ → Bool) : Type 0 where
 -- the name of a host is that of some text that has no bracket and lacks what the host lacks
 pub record IsNamed (text : List ℕ) : Type 0 where
   pub source : List ℕ
-  pub name : host_name text ≡ name_of source
-  pub stays : ascii_name (name_of source) ≡ name_of source
+  pub name : host_name text ≡ name_before_port source
+  pub stays : ascii_name (name_before_port source) ≡ name_before_port source
   pub bare : is_bracketed (without_leading is_dot text) ≡ false → is_bracketed (without_leading is_dot source) ≡ false
   pub lacks : (q : ℕ → Bool) → PassesOver q → Lacks q text → Lacks q source
   pub plain : IsPlain text → IsPlain source
 
-itself : (text : List ℕ) → host_name text ≡ name_of text → IsNamed text
+itself : (text : List ℕ) → host_name text ≡ name_before_port text → IsNamed text
 itself text e = record {
   source = text;
   name = e;
@@ -117,24 +117,24 @@ by_form : (text form : List ℕ) → host_name text ≡ tidied form → All (IsO
 by_form text form e all = record {
   source = form;
   name = e ∙ tidied_is_name form all;
-  stays = kept_name (name_of form) (Lacks-name_of is_high form high_ignores refl (lacks-form is_high form (λ x b. lt-leb 128 x b.narrow) all));
+  stays = kept_name (name_before_port form) (Lacks-name_of is_high form high_ignores refl (lacks-form is_high form (λ x b. lt-leb 128 x b.narrow) all));
   bare = λ _. bare_form form all;
   lacks = λ q p _. lacks-form q form p.form all;
   plain = λ _. plain_none form (lacks-form (λ x. eqb x 37) form (λ x b. b.no_percent) all);
 }
 
-by_answer : (text : List ℕ) (o : Option (List ℕ)) → domain_to_ascii URL (name_of text) ≡ o → host_name text ≡ form_or (name_of text) o → IsNamed text
+by_answer : (text : List ℕ) (o : Option (List ℕ)) → domain_to_ascii URL (name_before_port text) ≡ o → host_name text ≡ form_or (name_before_port text) o → IsNamed text
 by_answer text None e h = itself text h
-by_answer text (Some form) e h = by_form text form h (All-to_ascii URL Allow Ignore (name_of text) form e)
+by_answer text (Some form) e h = by_form text form h (All-to_ascii URL Allow Ignore (name_before_port text) form e)
 
 pub named : (text : List ℕ) → IsNamed text
 unfolding ascii_name
 named text =
-    let name = name_of text in
+    let name = name_before_port text in
     ⊎_elim
     (λ high. by_answer text (domain_to_ascii URL name) refl (cond-true (list_any is_high name) (form_or name (domain_to_ascii URL name)) name high))
     (λ low. itself text (cond-false (list_any is_high name) (form_or name (domain_to_ascii URL name)) name low))
-    (cases_Bool (list_any is_high (name_of text)))
+    (cases_Bool (list_any is_high (name_before_port text)))
 
 -- what ToASCII answered, tidied, decides the name
 

@@ -8,7 +8,7 @@ use Rattle.std.proofs.lemmas.Grind.{fold-append}
 use Rattle.std.proofs.Math.Nat.{mul-le-mul_left, pow-suc}
 use Rattle.std.proofs.lemmas.Nat.{mul-add-lt}
 use Rattle.std.proofs.lemmas.List.Recursion.{and_fails_at}
-use Rattle.url_canon.specs.Address.{number_in, number_of, address_in}
+use Rattle.url_canon.specs.Address.{number_in_base, number_of_part, address_in}
 
 abbrev pub is_digit_of : ℕ → ℕ → Bool
 is_digit_of base digit = ltb (digit_value digit) base
@@ -16,19 +16,19 @@ is_digit_of base digit = ltb (digit_value digit) base
 abbrev pub spelled_in : ℕ → List ℕ → ℕ
 spelled_in base digits = fold (λ number digit. base * number + digit_value digit) 0 digits
 
-number_is : (base : ℕ) (digits : List ℕ) → number_in base digits ≡ cond (ltb 0 (length digits) && list_all (is_digit_of base) digits) (Some (spelled_in base digits)) None
-unfolding number_in
+number_is : (base : ℕ) (digits : List ℕ) → number_in_base base digits ≡ cond (ltb 0 (length digits) && list_all (is_digit_of base) digits) (Some (spelled_in base digits)) None
+unfolding number_in_base
 number_is base digits = refl
 
-pub number_in-empty : (base : ℕ) (digits : List ℕ) → length digits ≡ 0 → number_in base digits ≡ None
+pub number_in-empty : (base : ℕ) (digits : List ℕ) → length digits ≡ 0 → number_in_base base digits ≡ None
 number_in-empty base digits e =
     number_is base digits ∙ cond-false _ (Some (spelled_in base digits)) None (and_left _ _ (le-ltb 0 (length digits) (omega arith)))
 
-pub number_in-other : (base : ℕ) (digits : List ℕ) (i : ℕ) → i < length digits → is_digit_of base (get_or digits i 0) ≡ false → number_in base digits ≡ None
+pub number_in-other : (base : ℕ) (digits : List ℕ) (i : ℕ) → i < length digits → is_digit_of base (get_or digits i 0) ≡ false → number_in_base base digits ≡ None
 number_in-other base digits i inside e =
     number_is base digits ∙ cond-false _ (Some (spelled_in base digits)) None (and_right _ _ (and_fails_at (list_all (is_digit_of base)) (is_digit_of base) refl (λ _ _. refl) digits i 0 inside e))
 
-pub number_in-digits : (base : ℕ) (digits : List ℕ) (n : ℕ) → 0 < length digits → length digits ≤ n → list_all (is_digit_of base) (take n digits) ≡ true → number_in base digits ≡ Some (spelled_in base (take n digits))
+pub number_in-digits : (base : ℕ) (digits : List ℕ) (n : ℕ) → 0 < length digits → length digits ≤ n → list_all (is_digit_of base) (take n digits) ≡ true → number_in_base base digits ≡ Some (spelled_in base (take n digits))
 number_in-digits base digits n some past e =
     let whole = take_all n digits past in
     number_is base digits ∙ (cond-true _ (Some (spelled_in base digits)) None (and_from _ _ (lt-ltb 0 (length digits) some) (sym (ap (list_all (is_digit_of base)) whole) ∙ e)) ∙ ap (λ ds. Some (spelled_in base ds)) (sym whole))
@@ -77,28 +77,28 @@ above_byte (Some m) number low w is h =
 
 -- the parts of an address, from the first on
 
-pub at_last : (w v : ℕ) (part : List ℕ) → w ≡ suc v → address_in w (part ∷ []) ≡ option_and_then (λ m. cond (ltb m (256 ^ w)) (Some m) None) (number_of part)
+pub at_last : (w v : ℕ) (part : List ℕ) → w ≡ suc v → address_in w (part ∷ []) ≡ option_and_then (λ m. cond (ltb m (256 ^ w)) (Some m) None) (number_of_part part)
 at_last w v part e =
-    ap (λ k. address_in k (part ∷ [])) e ∙ ap (λ k. option_and_then (λ m. cond (ltb m (256 ^ k)) (Some m) None) (number_of part)) (sym e)
+    ap (λ k. address_in k (part ∷ [])) e ∙ ap (λ k. option_and_then (λ m. cond (ltb m (256 ^ k)) (Some m) None) (number_of_part part)) (sym e)
 
-pub at_more : (w v : ℕ) (part : List ℕ) (parts : List (List ℕ)) → w ≡ suc v → 0 < length parts → address_in w (part ∷ parts) ≡ option_and_then (λ m. option_and_then (λ low. cond (ltb m 256) (Some (m * 256 ^ v + low)) None) (address_in v parts)) (number_of part)
+pub at_more : (w v : ℕ) (part : List ℕ) (parts : List (List ℕ)) → w ≡ suc v → 0 < length parts → address_in w (part ∷ parts) ≡ option_and_then (λ m. option_and_then (λ low. cond (ltb m 256) (Some (m * 256 ^ v + low)) None) (address_in v parts)) (number_of_part part)
 at_more w v part [] e some = absurd (omega arith)
 at_more w v part (next ∷ parts) e some = ap (λ k. address_in k (part ∷ next ∷ parts)) e
 
-pub address_in-last : (w v : ℕ) (part : List ℕ) (number : ℕ) → w ≡ suc v → 256 ^ w ≤ 4294967296 → stopped (number_of part) ≡ Some number → number < 256 ^ w → address_in w (part ∷ []) ≡ Some number
+pub address_in-last : (w v : ℕ) (part : List ℕ) (number : ℕ) → w ≡ suc v → 256 ^ w ≤ 4294967296 → stopped (number_of_part part) ≡ Some number → number < 256 ^ w → address_in w (part ∷ []) ≡ Some number
 address_in-last w v part number e most is h =
-    at_last w v part e ∙ (ap (option_and_then (λ m. cond (ltb m (256 ^ w)) (Some m) None)) (below_top (number_of part) number (256 ^ w) is most h) ∙ cond-true (ltb number (256 ^ w)) (Some number) None (lt-ltb number (256 ^ w) h))
+    at_last w v part e ∙ (ap (option_and_then (λ m. cond (ltb m (256 ^ w)) (Some m) None)) (below_top (number_of_part part) number (256 ^ w) is most h) ∙ cond-true (ltb number (256 ^ w)) (Some number) None (lt-ltb number (256 ^ w) h))
 
-pub address_in-last_past : (w v : ℕ) (part : List ℕ) (number : ℕ) → w ≡ suc v → stopped (number_of part) ≡ Some number → 256 ^ w ≤ number → address_in w (part ∷ []) ≡ None
-address_in-last_past w v part number e is h = at_last w v part e ∙ above_top (number_of part) number (256 ^ w) is h
+pub address_in-last_past : (w v : ℕ) (part : List ℕ) (number : ℕ) → w ≡ suc v → stopped (number_of_part part) ≡ Some number → 256 ^ w ≤ number → address_in w (part ∷ []) ≡ None
+address_in-last_past w v part number e is h = at_last w v part e ∙ above_top (number_of_part part) number (256 ^ w) is h
 
-pub address_in-more : (w v : ℕ) (part : List ℕ) (parts : List (List ℕ)) (number low : ℕ) → w ≡ suc v → 0 < length parts → stopped (number_of part) ≡ Some number → number < 256 → address_in v parts ≡ Some low → address_in w (part ∷ parts) ≡ Some (number * 256 ^ v + low)
+pub address_in-more : (w v : ℕ) (part : List ℕ) (parts : List (List ℕ)) (number low : ℕ) → w ≡ suc v → 0 < length parts → stopped (number_of_part part) ≡ Some number → number < 256 → address_in v parts ≡ Some low → address_in w (part ∷ parts) ≡ Some (number * 256 ^ v + low)
 address_in-more w v part parts number low e some is h rest =
-    at_more w v part parts e some ∙ (ap (option_and_then (λ m. option_and_then (λ low. cond (ltb m 256) (Some (m * 256 ^ v + low)) None) (address_in v parts))) (below_top (number_of part) number 256 is (omega arith) h) ∙ (ap (option_and_then (λ low. cond (ltb number 256) (Some (number * 256 ^ v + low)) None)) rest ∙ cond-true (ltb number 256) (Some (number * 256 ^ v + low)) None (lt-ltb number 256 h)))
+    at_more w v part parts e some ∙ (ap (option_and_then (λ m. option_and_then (λ low. cond (ltb m 256) (Some (m * 256 ^ v + low)) None) (address_in v parts))) (below_top (number_of_part part) number 256 is (omega arith) h) ∙ (ap (option_and_then (λ low. cond (ltb number 256) (Some (number * 256 ^ v + low)) None)) rest ∙ cond-true (ltb number 256) (Some (number * 256 ^ v + low)) None (lt-ltb number 256 h)))
 
-pub address_in-more_past : (w v : ℕ) (part : List ℕ) (parts : List (List ℕ)) (number low : ℕ) → w ≡ suc v → 0 < length parts → stopped (number_of part) ≡ Some number → 256 ≤ number → address_in v parts ≡ Some low → address_in w (part ∷ parts) ≡ None
+pub address_in-more_past : (w v : ℕ) (part : List ℕ) (parts : List (List ℕ)) (number low : ℕ) → w ≡ suc v → 0 < length parts → stopped (number_of_part part) ≡ Some number → 256 ≤ number → address_in v parts ≡ Some low → address_in w (part ∷ parts) ≡ None
 address_in-more_past w v part parts number low e some is h rest =
-    at_more w v part parts e some ∙ (ap (λ r. option_and_then (λ m. option_and_then (λ low. cond (ltb m 256) (Some (m * 256 ^ v + low)) None) r) (number_of part)) rest ∙ above_byte (number_of part) number low v is h)
+    at_more w v part parts e some ∙ (ap (λ r. option_and_then (λ m. option_and_then (λ low. cond (ltb m 256) (Some (m * 256 ^ v + low)) None) r) (number_of_part part)) rest ∙ above_byte (number_of_part part) number low v is h)
 
 nothing_low : (o : Option ℕ) (v : ℕ) → option_and_then (λ m. option_and_then (λ low. cond (ltb m 256) (Some (m * 256 ^ v + low)) None) None) o ≡ None
 nothing_low None v = refl
@@ -106,14 +106,14 @@ nothing_low (Some m) v = refl
 
 pub address_in-more_none : (w v : ℕ) (part : List ℕ) (parts : List (List ℕ)) → w ≡ suc v → 0 < length parts → address_in v parts ≡ None → address_in w (part ∷ parts) ≡ None
 address_in-more_none w v part parts e some rest =
-    at_more w v part parts e some ∙ (ap (λ r. option_and_then (λ m. option_and_then (λ low. cond (ltb m 256) (Some (m * 256 ^ v + low)) None) r) (number_of part)) rest ∙ nothing_low (number_of part) v)
+    at_more w v part parts e some ∙ (ap (λ r. option_and_then (λ m. option_and_then (λ low. cond (ltb m 256) (Some (m * 256 ^ v + low)) None) r) (number_of_part part)) rest ∙ nothing_low (number_of_part part) v)
 
-pub address_in-no_number : (w : ℕ) (part : List ℕ) (parts : List (List ℕ)) → stopped (number_of part) ≡ None → address_in w (part ∷ parts) ≡ None
+pub address_in-no_number : (w : ℕ) (part : List ℕ) (parts : List (List ℕ)) → stopped (number_of_part part) ≡ None → address_in w (part ∷ parts) ≡ None
 address_in-no_number zero part parts is = refl
 address_in-no_number (suc v) part [] is =
-    ap (option_and_then (λ m. cond (ltb m (256 ^ suc v)) (Some m) None)) (no_number (number_of part) is)
+    ap (option_and_then (λ m. cond (ltb m (256 ^ suc v)) (Some m) None)) (no_number (number_of_part part) is)
 address_in-no_number (suc v) part (next ∷ parts) is =
-    ap (option_and_then (λ m. option_and_then (λ low. cond (ltb m 256) (Some (m * 256 ^ v + low)) None) (address_in v (next ∷ parts)))) (no_number (number_of part) is)
+    ap (option_and_then (λ m. option_and_then (λ low. cond (ltb m 256) (Some (m * 256 ^ v + low)) None) (address_in v (next ∷ parts)))) (no_number (number_of_part part) is)
 
 -- so many addresses have a number that fits
 pub addresses_most : (w : ℕ) → w ≤ 4 → 256 ^ w ≤ 4294967296

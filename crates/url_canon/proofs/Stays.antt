@@ -11,8 +11,8 @@ use Rattle.url_canon.specs.Escaping.{escape_of, escaped, is_unsafe}
 use Rattle.url_canon.specs.Parts.{scheme_of, after_scheme, ends_authority, is_at, authority_of, after_authority, is_question, path_part, query_part}
 use Rattle.url_canon.specs.Host.{HostParts, host_of}
 use Rattle.url_canon.specs.Path.{path_text, path_of}
-use Rattle.url_canon.specs.Url.{Url, query_text, text_of}
-use Rattle.url_canon.specs.Canonical.{host_in, url_at, parts_of, escaped_url, escaped_parts, canonical_of_cleaned, StaysCanonical, IsCanonical}
+use Rattle.url_canon.specs.Url.{Url, query_text, text_of_url}
+use Rattle.url_canon.specs.Canonical.{host_in, url_at, url_parts_of, escaped_url, escaped_parts, canonical_of_cleaned, StaysCanonical, IsCanonical}
 use Rattle.url_canon.specs.declared.fault.UrlFault.{UrlFault}
 use Rattle.url_canon.proofs.Splits.{All_ne-lacking, Lacks, Lacks-slice_split}
 use Rattle.url_canon.proofs.Cuts.{split_none, none-before_first, before-and-from, before_first-at, before_first-none, from_first-at, after_first-at, from_first-some}
@@ -82,7 +82,7 @@ separator_stays : (rest : List ℕ) → escaped (58 ∷ 47 ∷ 47 ∷ rest) ≡ 
 unfolding escaped
 separator_stays rest = refl
 
-escaped-text_of : (url : Url) → IsScheme url.scheme → text_of (escaped_url url) ≡ escaped (text_of url)
+escaped-text_of : (url : Url) → IsScheme url.scheme → text_of_url (escaped_url url) ≡ escaped (text_of_url url)
 escaped-text_of url h =
     let rest = path_text url.path ++ query_text url.query in
     let tail : escaped rest ≡ path_text (map escaped url.path) ++ query_text (option_map escaped url.query) = escaped-append (path_text url.path) (query_text url.query) ∙ (ap (λ r. r ++ escaped (query_text url.query)) (path_text-escaped url.path) ∙ ap (λ r. path_text (map escaped url.path) ++ r) (query_text-escaped url.query)) in
@@ -141,22 +141,22 @@ same_url : (scheme host : List ℕ) (is_address : Bool) (path path' : List (List
 same_url scheme host is_address path path' query query' p q =
     ap (λ cs. whole scheme host is_address cs query) p ∙ ap (λ o. whole scheme host is_address path' o) q
 
-read_again : (url : Url) → IsRead url → parts_of (text_of url) ≡ Ok url
+read_again : (url : Url) → IsRead url → url_parts_of (text_of_url url) ≡ Ok url
 read_again url h =
     let later = path_text url.path ++ query_text url.query in
     let first = path_after url.path (query_text url.query) h.some_path in
-    let rest : after_scheme (text_of url) ≡ url.host ++ 47 ∷ first.0 = after_scheme-again url.scheme (url.host ++ later) h.scheme ∙ ap (λ r. url.host ++ r) first.1 in
-    let host : host_in (text_of url) ≡ Some (record { text = url.host; is_address = url.is_address }) = ap (λ r. host_of (authority_of r)) rest ∙ (ap host_of (authority_of-again url.host first.0 h.no_end h.no_at) ∙ h.host) in
-    let tail : after_authority (after_scheme (text_of url)) ≡ later = ap after_authority rest ∙ (after_authority-again url.host first.0 h.no_end ∙ sym first.1) in
+    let rest : after_scheme (text_of_url url) ≡ url.host ++ 47 ∷ first.0 = after_scheme-again url.scheme (url.host ++ later) h.scheme ∙ ap (λ r. url.host ++ r) first.1 in
+    let host : host_in (text_of_url url) ≡ Some (record { text = url.host; is_address = url.is_address }) = ap (λ r. host_of (authority_of r)) rest ∙ (ap host_of (authority_of-again url.host first.0 h.no_end h.no_at) ∙ h.host) in
+    let tail : after_authority (after_scheme (text_of_url url)) ≡ later = ap after_authority rest ∙ (after_authority-again url.host first.0 h.no_end ∙ sym first.1) in
     let read : HostParts = record { text = url.host; is_address = url.is_address } in
-    parts_of-some (text_of url) read host
-    ∙ (ap (λ s. url_at s (Some read) (after_authority (after_scheme (text_of url)))) (scheme_of-again url.scheme (url.host ++ later) h.scheme)
+    parts_of-some (text_of_url url) read host
+    ∙ (ap (λ s. url_at s (Some read) (after_authority (after_scheme (text_of_url url)))) (scheme_of-again url.scheme (url.host ++ later) h.scheme)
     ∙ (ap (λ t. url_at url.scheme (Some read) t) tail
     ∙ same_url url.scheme url.host url.is_address (path_of (path_part later)) url.path (query_part later) url.query (ap path_of (path_part-again url.path url.query h.no_question) ∙ h.path_stays) (query_part-again url.path url.query h.no_question)))
 
 -- the text is one of bytes, and has no escape
 
-narrow : (url : Url) → IsRead url → AreBytes (text_of url)
+narrow : (url : Url) → IsRead url → AreBytes (text_of_url url)
 narrow url h =
     Lacks-append is_wide url.scheme (58 ∷ 47 ∷ 47 ∷ (url.host ++ (path_text url.path ++ query_text url.query))) (Lacks-scheme is_wide url.scheme narrow-scheme h.scheme.bytes)
     (Lacks-append is_wide (58 ∷ 47 ∷ 47 ∷ []) (url.host ++ (path_text url.path ++ query_text url.query)) refl (Lacks-append is_wide url.host (path_text url.path ++ query_text url.query) h.narrow_host (Lacks-append is_wide (path_text url.path) (query_text url.query) (Lacks-path_text is_wide url.path refl h.narrow_path) h.narrow_query)))
@@ -175,7 +175,7 @@ plain_tail (c ∷ cs) query h k =
     let more = plain_tail cs query h.1 k in
     ap has_escape (append_assoc (47 ∷ c) (path_text cs) (query_text query)) ∙ plain-after (47 ∷ []) (c ++ (path_text cs ++ query_text query)) refl (plain-append c (path_text cs ++ query_text query) h.0 more (path_off cs query))
 
-escapeless : (url : Url) → IsRead url → IsPlain (text_of url)
+escapeless : (url : Url) → IsRead url → IsPlain (text_of_url url)
 escapeless url h =
     plain-after url.scheme (58 ∷ 47 ∷ 47 ∷ (url.host ++ (path_text url.path ++ query_text url.query))) (Lacks-scheme (λ x. eqb x 37) url.scheme no_percent-scheme h.scheme.bytes)
     (plain-after (58 ∷ 47 ∷ 47 ∷ []) (url.host ++ (path_text url.path ++ query_text url.query)) refl (plain-append url.host (path_text url.path ++ query_text url.query) h.plain_host (plain_tail url.path url.query h.plain_path h.plain_query) (path_off url.path url.query)))
@@ -186,13 +186,13 @@ long_enough (x ∷ xs) ys y = omega arith
 
 pub stays_read : (url : Url) → IsRead url → StaysCanonical (escaped_url url)
 stays_read url h short =
-    let text = text_of url in
-    let out = text_of (escaped_url url) in
+    let text = text_of_url url in
+    let out = text_of_url (escaped_url url) in
     let same : out ≡ escaped text = escaped-text_of url h.scheme in
     let some : 0 < length out = long_enough url.scheme _ 58 in
     let clean : trimmed (without_fragment out) ≡ out = ap (λ t. trimmed (without_fragment t)) same ∙ (cleaned text ∙ sym same) in
     let back : unescaped out ≡ text = ap unescaped same ∙ (unescaped-escaped text (narrow url h) ∙ unescaped_plain text (escapeless url h)) in
-    canonical_of-short out short ∙ (ap canonical_of_cleaned clean ∙ (cleaned-some out some ∙ (ap (λ t. escaped_parts (parts_of t)) back ∙ ap escaped_parts (read_again url h))))
+    canonical_of-short out short ∙ (ap canonical_of_cleaned clean ∙ (cleaned-some out some ∙ (ap (λ t. escaped_parts (url_parts_of t)) back ∙ ap escaped_parts (read_again url h))))
 
 -- what is read is read again
 

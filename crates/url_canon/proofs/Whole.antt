@@ -7,7 +7,7 @@ use Rattle.url_canon.proofs.Unescapes.{unescaped_only}
 use Rattle.url_canon.specs.Parts.{scheme_of, after_scheme, after_authority}
 use Rattle.url_canon.specs.Host.{HostParts}
 use Rattle.url_canon.specs.Url.{Url}
-use Rattle.url_canon.specs.Canonical.{host_in, url_at, parts_of, escaped_parts, canonical_of_cleaned, canonical_of, Answers}
+use Rattle.url_canon.specs.Canonical.{host_in, url_at, url_parts_of, escaped_parts, canonical_of_cleaned, canonical_of, Answers}
 use Rattle.url_canon.specs.declared.fault.UrlFault.{UrlFault}
 use Rattle.url_canon.specs.declared.fault.UrlFault.TheVariants.{Empty, NoHost, TooLong, OutOfMemory}
 
@@ -23,16 +23,16 @@ pub cleaned-none : (text : List ℕ) → length text ≡ 0 → canonical_of_clea
 cleaned-none [] e = refl
 cleaned-none (b ∷ bs) e = absurd (omega arith)
 
-pub cleaned-some : (text : List ℕ) → 0 < length text → canonical_of_cleaned text ≡ escaped_parts (parts_of (unescaped text))
+pub cleaned-some : (text : List ℕ) → 0 < length text → canonical_of_cleaned text ≡ escaped_parts (url_parts_of (unescaped text))
 cleaned-some [] h = absurd (omega arith)
 cleaned-some (b ∷ bs) h = refl
 
-pub parts_of-none : (plain : List ℕ) → host_in plain ≡ None → parts_of plain ≡ Err NoHost
-unfolding parts_of
+pub parts_of-none : (plain : List ℕ) → host_in plain ≡ None → url_parts_of plain ≡ Err NoHost
+unfolding url_parts_of
 parts_of-none plain e = ap (λ h. url_at (scheme_of plain) h (after_authority (after_scheme plain))) e
 
-pub parts_of-some : (plain : List ℕ) (host : HostParts) → host_in plain ≡ Some host → parts_of plain ≡ url_at (scheme_of plain) (Some host) (after_authority (after_scheme plain))
-unfolding parts_of
+pub parts_of-some : (plain : List ℕ) (host : HostParts) → host_in plain ≡ Some host → url_parts_of plain ≡ url_at (scheme_of plain) (Some host) (after_authority (after_scheme plain))
+unfolding url_parts_of
 parts_of-some plain host e = ap (λ h. url_at (scheme_of plain) h (after_authority (after_scheme plain))) e
 
 -- which fault a text has
@@ -49,14 +49,14 @@ abbrev cleaned : List ℕ → List ℕ
 cleaned text = trimmed (without_fragment text)
 
 cleaned_empty : (text : List ℕ) → canonical_of_cleaned text ≡ Err Empty → text ≡ []
-unfolding parts_of
+unfolding url_parts_of
 cleaned_empty [] e = refl
 cleaned_empty (b ∷ bs) e =
     let plain = unescaped (b ∷ bs) in
     absurd (other-fault (scheme_of plain) (after_authority (after_scheme plain)) (host_in plain) Empty (λ f. cc) e)
 
 cleaned_no_host : (text : List ℕ) → canonical_of_cleaned text ≡ Err NoHost → (text ≡ [] → ⊥) × (host_in (unescaped text) ≡ None)
-unfolding parts_of
+unfolding url_parts_of
 cleaned_no_host [] e = absurd (cc)
 cleaned_no_host (b ∷ bs) e =
     let plain = unescaped (b ∷ bs) in
@@ -67,7 +67,7 @@ some_no_host [] some e = absurd (some refl)
 some_no_host (b ∷ bs) some e = ap escaped_parts (parts_of-none (unescaped (b ∷ bs)) e)
 
 cleaned_short : (text : List ℕ) (n : ℕ) → canonical_of_cleaned text ≡ Err (TooLong n) → ⊥
-unfolding parts_of
+unfolding url_parts_of
 cleaned_short [] n e = cc
 cleaned_short (b ∷ bs) n e =
     let plain = unescaped (b ∷ bs) in
@@ -115,6 +115,6 @@ pub told : (result : Result Url UrlFault) (text : List ℕ) (n : ℕ) → Answer
 told result text n h e = subst (λ r. Answers r (canonical_of text)) e h
 
 -- whichever steps unescape what is kept of a text, they lead to its URL
-pub by_steps : (result : Result Url UrlFault) (text plain : List ℕ) → Answers result (canonical_of text) → length text ≤ 8192 → 0 < length (cleaned text) → IsUnescapedOf (cleaned text) plain → Answers result (escaped_parts (parts_of plain))
+pub by_steps : (result : Result Url UrlFault) (text plain : List ℕ) → Answers result (canonical_of text) → length text ≤ 8192 → 0 < length (cleaned text) → IsUnescapedOf (cleaned text) plain → Answers result (escaped_parts (url_parts_of plain))
 by_steps result text plain h short some un =
-    subst (Answers result) (canonical_of-short text short ∙ (cleaned-some (cleaned text) some ∙ ap (λ p. escaped_parts (parts_of p)) (sym (unescaped_only (cleaned text) plain un)))) h
+    subst (Answers result) (canonical_of-short text short ∙ (cleaned-some (cleaned text) some ∙ ap (λ p. escaped_parts (url_parts_of p)) (sym (unescaped_only (cleaned text) plain un)))) h

@@ -6,20 +6,20 @@ use Rattle.std.specs.Char.{digit_value}
 use Rattle.url_canon.specs.Words.{is_dot}
 
 -- the number that the digits of a base spell, of which there is one at least
-unfoldable pub number_in : ℕ → List ℕ → Option ℕ
-number_in base digits =
+unfoldable pub number_in_base : ℕ → List ℕ → Option ℕ
+number_in_base base digits =
     if nat_lt 0 (length digits) && list_all (λ digit. nat_lt (digit_value digit) base) digits
     then Some (fold (λ number digit. base * number + digit_value digit) 0 digits)
     else None
 
 -- The number of a part: hexadecimal digits after `0x` or `0X`, octal digits after a 0, and else
 -- decimal digits. No other part is a number.
-unfoldable pub number_of : List ℕ → Option ℕ
-number_of part =
+unfoldable pub number_of_part : List ℕ → Option ℕ
+number_of_part part =
     if starts_with nat_eq part (codes "0x") || starts_with nat_eq part (codes "0X")
-    then number_in 16 (drop 2 part)
+    then number_in_base 16 (drop 2 part)
     else (if starts_with nat_eq part (codes "0") && nat_lt 1 (length part)
-    then number_in 8 (drop 1 part) else number_in 10 part)
+    then number_in_base 8 (drop 1 part) else number_in_base 10 part)
 
 -- One to four numbers stand for the four bytes of an address: each but the last is one byte, and
 -- the last fills the bytes that are left.
@@ -37,7 +37,7 @@ pub record IsAddressOf (host : List ℕ) (a b c d : ℕ) : Type 0 where
   pub third : c < 256
   pub fourth : d < 256
   pub numbers : List ℕ
-  pub parts : map number_of (slice_split is_dot host) ≡ map Some numbers
+  pub parts : map number_of_part (slice_split is_dot host) ≡ map Some numbers
   pub bytes : StandFor numbers a b c d
 
 -- the address of so many bytes that parts stand for, as one number
@@ -46,11 +46,11 @@ address_in zero parts = None
 address_in (suc width) [] = None
 address_in (suc width) (part ∷ []) =
     option_and_then (λ number. if nat_lt number (256 ^ suc width) then Some number else None)
-    (number_of part)
+    (number_of_part part)
 address_in (suc width) (part ∷ next ∷ parts) =
     option_and_then (λ number. option_and_then
     (λ low. if nat_lt number 256 then Some (number * 256 ^ width + low) else None)
-    (address_in width (next ∷ parts))) (number_of part)
+    (address_in width (next ∷ parts))) (number_of_part part)
 
 -- the address that a host's name stands for, of which `IsAddressOf` says what it is
 unfoldable pub address_of : List ℕ → Option ℕ

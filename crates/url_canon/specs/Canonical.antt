@@ -6,7 +6,7 @@ use Rattle.url_canon.specs.Escaping.{escaped}
 use Rattle.url_canon.specs.Parts.{scheme_of, after_scheme, authority_of, after_authority, path_part, query_part}
 use Rattle.url_canon.specs.Host.{HostParts, host_of}
 use Rattle.url_canon.specs.Path.{path_of, IsNormalPath}
-use Rattle.url_canon.specs.Url.{Url, text_of}
+use Rattle.url_canon.specs.Url.{Url, text_of_url}
 use Rattle.url_canon.specs.declared.fault.UrlFault.{UrlFault}
 use Rattle.url_canon.specs.declared.fault.UrlFault.TheVariants.{Empty, NoHost, TooLong, OutOfMemory}
 
@@ -26,8 +26,8 @@ abbrev pub host_in : List ℕ → Option HostParts
 host_in plain = host_of (authority_of (after_scheme plain))
 
 -- the parts of an unescaped text, still unescaped
-unfoldable pub parts_of : List ℕ → Result Url UrlFault
-parts_of plain = url_at (scheme_of plain) (host_in plain) (after_authority (after_scheme plain))
+unfoldable pub url_parts_of : List ℕ → Result Url UrlFault
+url_parts_of plain = url_at (scheme_of plain) (host_in plain) (after_authority (after_scheme plain))
 
 -- the host, the path and the query escaped
 abbrev pub escaped_url : Url → Url
@@ -45,7 +45,7 @@ escaped_parts (Err fault) = Err fault
 -- the canonical URL of a text that is cleaned, of which nothing may be left
 abbrev pub canonical_of_cleaned : List ℕ → Result Url UrlFault
 canonical_of_cleaned [] = Err Empty
-canonical_of_cleaned (byte ∷ text) = escaped_parts (parts_of (unescaped (byte ∷ text)))
+canonical_of_cleaned (byte ∷ text) = escaped_parts (url_parts_of (unescaped (byte ∷ text)))
 
 -- the canonical URL of a text, or its fault
 unfoldable pub canonical_of : List ℕ → Result Url UrlFault
@@ -61,7 +61,7 @@ Answers (Err fault) wanted = wanted ≡ Err fault
 
 -- The text of the URL has this URL again, where it is not too long to be read.
 abbrev pub StaysCanonical : Url → Type 0
-StaysCanonical url = length (text_of url) ≤ 8192 → canonical_of (text_of url) ≡ Ok url
+StaysCanonical url = length (text_of_url url) ≤ 8192 → canonical_of (text_of_url url) ≡ Ok url
 
 -- what a canonical URL is
 pub record IsCanonical (url : Url) : Type 0 where

@@ -10,8 +10,8 @@ use Rattle.url_canon.specs.Words.{begins_with, is_nil, without_leading, is_dot}
 use Rattle.url_canon.specs.declared.host.Host.{Host}
 use Rattle.url_canon.specs.Address.{address_of, address_text}
 
-abbrev pub is_open : ℕ → Bool
-is_open byte = byte == 91
+abbrev pub is_opening_bracket : ℕ → Bool
+is_opening_bracket byte = byte == 91
 
 abbrev pub is_close : ℕ → Bool
 is_close byte = byte == 93
@@ -21,7 +21,7 @@ is_colon byte = byte == 58
 
 -- `[` at the front, and a `]`
 abbrev pub is_bracketed : List ℕ → Bool
-is_bracketed text = begins_with is_open text && list_any is_close text
+is_bracketed text = begins_with is_opening_bracket text && list_any is_close text
 
 -- up to the first `]`, in lower case
 unfoldable pub bracketed_host : List ℕ → List ℕ
@@ -36,8 +36,8 @@ abbrev pub tidied : List ℕ → List ℕ
 tidied name = join_with_byte 46 (labels_of name)
 
 -- the name before the port, tidied and in lower case
-unfoldable pub name_of : List ℕ → List ℕ
-name_of text = str_to_ascii_lowercase (tidied (before_first is_colon text))
+unfoldable pub name_before_port : List ℕ → List ℕ
+name_before_port text = str_to_ascii_lowercase (tidied (before_first is_colon text))
 
 -- no ASCII character
 abbrev pub is_high : ℕ → Bool
@@ -56,7 +56,7 @@ ascii_name name = if list_any is_high name then form_or name (domain_to_ascii UR
 
 -- the name of a host that stands in no brackets
 abbrev pub host_name : List ℕ → List ℕ
-host_name text = ascii_name (name_of text)
+host_name text = ascii_name (name_before_port text)
 
 pub record HostParts : Type 0 where
   pub text : List ℕ

@@ -17,8 +17,8 @@ query_text None = []
 query_text (Some query) = 63 ∷ query
 
 -- the scheme, `://`, the host, the path, and where there is a query a `?` and the query
-abbrev pub text_of : Url → List ℕ
-text_of url =
+abbrev pub text_of_url : Url → List ℕ
+text_of_url url =
     url.scheme ++ (codes "://" ++ (url.host ++ (path_text url.path ++ query_text url.query)))
 
 -- nothing, or what stands after a mark
@@ -38,7 +38,7 @@ url_at_places text host_at path_at query_at is_address = record {
 
 -- The text is that of the URL, whose host, path and query begin at these places.
 pub record IsLaidOut (text : List ℕ) (host_at path_at query_at : ℕ) (url : Url) : Type 0 where
-  pub whole : text ≡ text_of url
+  pub whole : text ≡ text_of_url url
   pub host : host_at ≡ length url.scheme + 3
   pub path : path_at ≡ host_at + length url.host
   pub query : query_at ≡ path_at + length (path_text url.path)

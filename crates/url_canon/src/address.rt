@@ -1,6 +1,6 @@
 ghost use Rattle.std.specs.Prelude.{◌≡◌, ℕ, List, Some, ◌↔◌, ◌+◌, ◌*◌, ◌^◌, ◌≤◌, ◌<◌, ◌++◌, min, option_map, OnOk, IfSome};
 ghost use Rattle.std.specs.List.{slice_split};
-ghost use Rattle.url_canon.specs.Address.{IsAddressOf, number_in, number_of, address_in, address_of, address_text};
+ghost use Rattle.url_canon.specs.Address.{IsAddressOf, number_in_base, number_of_part, address_in, address_of, address_text};
 ghost use Rattle.url_canon.specs.Words.{is_dot};
 
 use crate::split::split_at_byte;
@@ -14,7 +14,7 @@ const ADDRESSES: u64 = 0x1_0000_0000;
 fn number_in(base: u64, digits: &[u8]) -> Option<u64>
     requires some { 0 < base }
     requires most { base ≤ 16 }
-    ensures { result ≡ option_map (λ number. min number ADDRESSES) (number_in base digits.now) }
+    ensures { result ≡ option_map (λ number. min number ADDRESSES) (number_in_base base digits.now) }
 {
     if digits.is_empty() {
         return None;
@@ -32,9 +32,9 @@ fn number_in(base: u64, digits: &[u8]) -> Option<u64>
 
 /// The number that a part of a host spells, or `ADDRESSES` where it is greater: in hexadecimal
 /// digits after `0x`, in octal digits after a 0, and else in decimal digits.
-#[tactic(auto, unfolding(crate::specs::Address::number_of))]
+#[tactic(auto, unfolding(crate::specs::Address::number_of_part))]
 fn number_of(part: &[u8]) -> Option<u64>
-    ensures { result ≡ option_map (λ number. min number ADDRESSES) (number_of part.now) }
+    ensures { result ≡ option_map (λ number. min number ADDRESSES) (number_of_part part.now) }
 {
     if part.starts_with(b"0x") || part.starts_with(b"0X") {
         number_in(16, &part[2..])

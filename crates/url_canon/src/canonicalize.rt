@@ -4,7 +4,7 @@ ghost use Rattle.std.specs.List.{before_first};
 ghost use Rattle.url_canon.specs.Url.{query_text};
 ghost use Rattle.url_canon.specs.Escaping.{escaped};
 ghost use Rattle.url_canon.specs.Unescaping.{HasNoEscape, IsUnescapedOf, unescaped};
-ghost use Rattle.url_canon.specs.Canonical.{host_in, parts_of, escaped_parts, canonical_of_cleaned, canonical_of, Answers};
+ghost use Rattle.url_canon.specs.Canonical.{host_in, url_parts_of, escaped_parts, canonical_of_cleaned, canonical_of, Answers};
 
 use crate::UrlFault;
 use crate::escape::append_escaped;
@@ -48,7 +48,7 @@ fn append_query(out: &mut Bytes, query: Option<&[u8]>) -> Result<(), OutOfMemory
 /// The canonical URL of a text that is unescaped.
 fn canonical_of_plain(alloc: Global, plain: &[u8]) -> Result<CanonicalUrl, UrlFault>
     requires { HasNoEscape plain.now }
-    ensures { Answers result (escaped_parts (parts_of plain.now)) }
+    ensures { Answers result (escaped_parts (url_parts_of plain.now)) }
 {
     let (scheme, rest) = split_scheme(plain);
     let (authority, tail) = split_authority(rest);
@@ -94,7 +94,7 @@ pub fn canonical(alloc: Global, text: &[u8]) -> Result<CanonicalUrl, UrlFault>
     ensures steps { (plain : List ℕ) → length text.now ≤ 8192
         → 0 < length (trimmed (without_fragment text.now))
         → IsUnescapedOf (trimmed (without_fragment text.now)) plain
-        → Answers result (escaped_parts (parts_of plain)) }
+        → Answers result (escaped_parts (url_parts_of plain)) }
     ensures too_long { IsErrOf result (UrlFault.TooLong (length text.now))
         ↔ (8192 < length text.now) }
     ensures empty { result ≢ Err UrlFault.OutOfMemory → (IsErrOf result UrlFault.Empty

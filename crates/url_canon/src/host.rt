@@ -4,7 +4,7 @@ ghost use Rattle.idna.specs.Uts46.{domain_to_ascii};
 ghost use Rattle.idna.specs.declared.deny_list.TheConstants.AsciiDenyList.{URL};
 ghost use Rattle.std.specs.Str.{str_to_ascii_lowercase};
 ghost use Rattle.url_canon.specs.Words.{begins_with, is_nil};
-ghost use Rattle.url_canon.specs.Host.{is_open, is_bracketed, is_close, tidied, name_of, is_high, ascii_name, named_host, host_of, view};
+ghost use Rattle.url_canon.specs.Host.{is_opening_bracket, is_bracketed, is_close, tidied, name_before_port, is_high, ascii_name, named_host, host_of, view};
 
 use crate::address::{address_of, append_address};
 use crate::split::{place_of, split_at_byte, without_leading};
@@ -35,7 +35,7 @@ pub fn append_lowercase(out: &mut Bytes, text: &[u8]) -> Result<(), OutOfMemory>
 
 /// Whether the text begins with `[`.
 fn begins_with_open(text: &[u8]) -> bool
-    ensures { result ≡ begins_with is_open text.now }
+    ensures { result ≡ begins_with is_opening_bracket text.now }
 {
     match text {
         [] => false,
@@ -123,9 +123,9 @@ fn tidied(alloc: Global, text: &[u8]) -> Result<Vec<u8>, OutOfMemory>
 }
 
 /// A host's name in lower case, with one dot between two labels and none at the ends.
-#[tactic(auto, unfolding(crate::specs::Host::name_of))]
+#[tactic(auto, unfolding(crate::specs::Host::name_before_port))]
 fn name_of(alloc: Global, text: &[u8]) -> Result<Vec<u8>, OutOfMemory>
-    ensures { IfOk result (λ name. name.items ≡ name_of text.now) }
+    ensures { IfOk result (λ name. name.items ≡ name_before_port text.now) }
 {
     let (before_port, _) = split_at_byte(text, b':');
     let mut name = tidied(alloc, before_port)?;

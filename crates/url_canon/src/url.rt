@@ -1,6 +1,6 @@
 ghost use Rattle.std.specs.Prelude.{◌≡◌, ◌≢◌, ◌≤◌, ◌++◌, All, length, Ok, IfOk, option_map};
 ghost use Rattle.url_canon.specs.Path.{path_text, IsNormalPath};
-ghost use Rattle.url_canon.specs.Url.{query_text, text_of, url_at_places, IsLaidOut};
+ghost use Rattle.url_canon.specs.Url.{query_text, text_of_url, url_at_places, IsLaidOut};
 ghost use Rattle.url_canon.specs.Canonical.{canonical_of, IsCanonical};
 
 use sb_model::{Bytes, OutOfMemory};
@@ -106,7 +106,7 @@ impl CanonicalUrl {
     /// The text of the URL: the scheme, `://`, the host, the path, and where there is a query `?`
     /// and the query.
     pub fn as_bytes(&self) -> &[u8]
-        ensures value { result.now ≡ text_of self.now }
+        ensures value { result.now ≡ text_of_url self.now }
         ensures again { length result.now ≤ 8192 → canonical_of result.now ≡ Ok self.now }
     {
         self.text.as_slice()
@@ -114,7 +114,7 @@ impl CanonicalUrl {
 
     /// A copy of the text of the URL.
     pub fn text(&self, alloc: Global) -> Result<Bytes, OutOfMemory>
-        ensures value { IfOk result (λ text. text ≡ text_of self.now) }
+        ensures value { IfOk result (λ text. text ≡ text_of_url self.now) }
         ensures again { IfOk result (λ text. length text ≤ 8192 → canonical_of text ≡ Ok self.now) }
     {
         Bytes::from_slice(alloc, self.as_bytes())
@@ -122,7 +122,7 @@ impl CanonicalUrl {
 
     /// The text of the URL, without a copy.
     pub fn into_text(self) -> Bytes
-        ensures value { result ≡ text_of self }
+        ensures value { result ≡ text_of_url self }
         ensures again { length result ≤ 8192 → canonical_of result ≡ Ok self }
     {
         self.text

@@ -14,7 +14,7 @@ use Rattle.sb_model.specs.declared.time.Moment.{Moment}
 use Rattle.sb_model.specs.Names.{same_name}
 use Rattle.hash_messages.specs.declared.response.FindResponse.{FindResponse}
 use Rattle.full_hash_cache.specs.declared.pair.Pair.{Pair}
-use Rattle.full_hash_cache.specs.Cache.{Pairs, Kept, same_pair, kept_of, said_by, end_of, asked_pairs, pair_of}
+use Rattle.full_hash_cache.specs.Cache.{Pairs, KeptOfPair, same_pair, kept_of_pair, said_by_pair, match_end, asked_pairs, pair_of}
 use Rattle.full_hash_cache.specs.declared.pair.Cached.{Cached}
 use Rattle.full_hash_cache.specs.declared.pair.Cached.TheVariants as cached
 use Rattle.url_checker.specs.declared.findings.Hit.{Hit}
@@ -26,18 +26,18 @@ use Rattle.url_checker.specs.Looking.{looked_of, asked_in, unsafe_in}
 
 module _ (t u : Pair → Bool) (alike : (k : Pair) → t k ≡ true → u k ≡ true → (other : Pair) → u other ≡ t other) where
   -- behind an entry that does not pass, another goes first
-  behind : (e f : Pair × Kept) (rest removed : Pairs) → t e.0 ≡ false → t f.0 ≡ true → (b : Bool) → u f.0 ≡ b
+  behind : (e f : Pair × KeptOfPair) (rest removed : Pairs) → t e.0 ≡ false → t f.0 ≡ true → (b : Bool) → u f.0 ≡ b
       → cond b (Some f.1) (lookup u removed) ≡ lookup u rest → cond b (Some f.1) (cond (u e.0) (Some e.1) (lookup u removed)) ≡ cond (u e.0) (Some e.1) (lookup u rest)
   behind e f rest removed not_it it true is before =
       before ∙ sym (ap (λ c. cond c (Some e.1) (lookup u rest)) (alike f.0 it is e.0 ∙ not_it))
-  behind e f rest removed not_it it false is before = ap (λ (found : Option Kept). cond (u e.0) (Some e.1) found) before
+  behind e f rest removed not_it it false is before = ap (λ (found : Option KeptOfPair). cond (u e.0) (Some e.1) found) before
 
-  passes : (es : Pairs) (f : Pair × Kept) → lookup_entry t es ≡ Some f → t f.0 ≡ true
+  passes : (es : Pairs) (f : Pair × KeptOfPair) → lookup_entry t es ≡ Some f → t f.0 ≡ true
   passes [] f h = cc h
   passes (e ∷ es) f h = go (t e.0) refl (passes es f) h
     where
       go : (b : Bool) → t e.0 ≡ b → (lookup_entry t es ≡ Some f → t f.0 ≡ true) → cond b (Some e) (lookup_entry t es) ≡ Some f → t f.0 ≡ true
-      go true is more i = let same : e ≡ f = cc i in ap (λ (x : Pair × Kept). t x.0) (sym same) ∙ is
+      go true is more i = let same : e ≡ f = cc i in ap (λ (x : Pair × KeptOfPair). t x.0) (sym same) ∙ is
       go false is more i = more i
 
   -- what is found of a key is found still
@@ -45,9 +45,9 @@ module _ (t u : Pair → Bool) (alike : (k : Pair) → t k ≡ true → u k ≡ 
   found_still [] = refl
   found_still (e ∷ es) = go (t e.0) refl (lookup_entry t es) refl (found_still es)
     where
-      go : (b : Bool) → t e.0 ≡ b → (o : Option (Pair × Kept)) → lookup_entry t es ≡ o
-          → lookup u (option_map_or (λ (f : Pair × Kept). f ∷ remove_entry t es) o es) ≡ lookup u es
-          → lookup u (option_map_or (λ (f : Pair × Kept). f ∷ cond b es (e ∷ remove_entry t es)) (cond b (Some e) o) (e ∷ es)) ≡ cond (u e.0) (Some e.1) (lookup u es)
+      go : (b : Bool) → t e.0 ≡ b → (o : Option (Pair × KeptOfPair)) → lookup_entry t es ≡ o
+          → lookup u (option_map_or (λ (f : Pair × KeptOfPair). f ∷ remove_entry t es) o es) ≡ lookup u es
+          → lookup u (option_map_or (λ (f : Pair × KeptOfPair). f ∷ cond b es (e ∷ remove_entry t es)) (cond b (Some e) o) (e ∷ es)) ≡ cond (u e.0) (Some e.1) (lookup u es)
       go true is o at before = refl
       go false is None at before = refl
       go false is (Some f) at before = behind e f es (remove_entry t es) is (passes es f at) (u f.0) refl before
@@ -68,12 +68,12 @@ module _ (names : (a b : ListName) → IsTrue (same_name a b) ↔ (a ≡ b)) whe
       ap (λ list. same_name list other.list && bytes_eq q.prefix other.prefix) lists
       ∙ ap (λ prefix. same_name p.list other.list && bytes_eq prefix other.prefix) prefixes
 
-  kept_still : (pairs : Pairs) (p q : Pair) → kept_of (asked_pairs pairs p) q ≡ kept_of pairs q
+  kept_still : (pairs : Pairs) (p q : Pair) → kept_of_pair (asked_pairs pairs p) q ≡ kept_of_pair pairs q
   kept_still pairs p q = found_still (same_pair p) (same_pair q) (pair_alike p q) pairs
 
   said_still : (pairs : Pairs) (p : Pair) (now : Moment) (hit : Hit) → said_of (asked_pairs pairs p) now hit ≡ said_of pairs now hit
   said_still pairs p now hit =
-      ap (λ (kept : Option Kept). option_map_or (λ (one : Kept). said_by now one.negative_end (end_of one.matches hit.hash)) kept cached.Ask)
+      ap (λ (kept : Option KeptOfPair). option_map_or (λ (one : KeptOfPair). said_by_pair now one.negative_end (match_end one.matches hit.hash)) kept cached.Ask)
       (kept_still pairs p (pair_of hit.list hit.prefix))
 
   -- what is said of a hit after others were looked up is what was said before

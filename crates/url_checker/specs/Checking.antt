@@ -1,6 +1,6 @@
 -- A look at the lists of a client for a URL.
 use Rattle.std.specs.Prelude.{◌≡◌, ℕ, List, Ok}
-use Rattle.url_canon.specs.Url.{Url, text_of}
+use Rattle.url_canon.specs.Url.{Url, text_of_url}
 use Rattle.url_canon.specs.Canonical.{canonical_of}
 use Rattle.url_canon.specs.declared.fault.UrlFault.{UrlFault}
 use Rattle.url_canon.specs.declared.fault.UrlFault.TheVariants as url
@@ -23,5 +23,5 @@ pub record IsFindingOf (lists : List Held) (number : ℕ) (text : List ℕ) (fin
   pub url : Url
   pub canonical : canonical_of text ≡ Ok url
   pub numbered : finding.number ≡ number
-  pub text_is : finding.text ≡ text_of url
+  pub text_is : finding.text ≡ text_of_url url
   pub hits : finding.hits ≡ hits_of lists url

@@ -18,7 +18,7 @@ use Rattle.hash_messages.specs.Faults.{fault_of_find_response}
 use Rattle.hash_messages.specs.Writing.{spelling_of_find_request}
 use Rattle.hash_messages.specs.declared.response.FindResponse.{FindResponse}
 use Rattle.update_client.specs.Held.{in_order}
-use Rattle.full_hash_cache.specs.Cache.{Pairs, pair_of, answer_of, asked_pairs, taken}
+use Rattle.full_hash_cache.specs.Cache.{Pairs, pair_of, cached_of, asked_pairs, taken}
 use Rattle.full_hash_cache.specs.declared.pair.Cached.{Cached}
 use Rattle.full_hash_cache.specs.declared.pair.Cached.TheVariants as cached
 use Rattle.http_edge.specs.declared.faults.ExchangeFault.{ExchangeFault}
@@ -38,7 +38,7 @@ use Rattle.url_checker.specs.declared.findings.Hit.{Hit}
 
 -- what the kept pairs say of a hit
 abbrev pub said_of : Pairs → Moment → Hit → Cached
-said_of pairs now hit = answer_of pairs now (pair_of hit.list hit.prefix) hit.hash
+said_of pairs now hit = cached_of pairs now (pair_of hit.list hit.prefix) hit.hash
 
 abbrev pub is_ask : Cached → Bool
 is_ask cached.Unsafe = false

@@ -1,8 +1,8 @@
 ghost use Rattle.std.specs.Prelude.{◌≡◌, ◌≢◌, ◌≤◌, ◌<◌, ◌↔◌, [], ◌∷◌, ◌++◌, length, map, Err, All, Contains, IsTrue, IfOk, OnOk};
 ghost use Rattle.std.specs.List.{flat_map};
-ghost use Rattle.url_canon.specs.Url.{text_of};
+ghost use Rattle.url_canon.specs.Url.{text_of_url};
 ghost use Rattle.url_canon.specs.Canonical.{canonical_of};
-ghost use Rattle.url_hashes.specs.Hashes.{IsWhole};
+ghost use Rattle.url_hashes.specs.Hashes.{IsWholeHash};
 ghost use Rattle.url_checker.specs.Hits.{hits_at, hits_with, hits_on, hits_of, AreAskable, prefixes_hit, Marks, MarksAll, IsPastMarks};
 ghost use Rattle.url_checker.specs.Checking.{IsFindingOf};
 
@@ -73,7 +73,7 @@ fn push_hits(
     requires past { IsPastMarks sizes.now past }
     requires at_least { 4 ≤ past }
     requires at_most { past ≤ 33 }
-    requires whole { IsWhole hash.now }
+    requires whole { IsWholeHash hash.now }
     ensures { OnOk result (hits.new ≡ hits.old ++ hits_with held.now hash.now) }
 {
     for size in 4..past {
@@ -96,7 +96,7 @@ fn push_hits_on(
     requires past { IsPastMarks sizes.now past }
     requires at_least { 4 ≤ past }
     requires at_most { past ≤ 33 }
-    requires whole { All IsWhole hashes.now }
+    requires whole { All IsWholeHash hashes.now }
     ensures { OnOk result (hits.new ≡ hits.old ++ hits_on hashes.now held.now) }
 {
     for hash in hashes {
@@ -113,7 +113,7 @@ fn hits_on_lists(
     hashes: &[FullHash],
 ) -> Result<Row<Hit>, OutOfMemory>
     requires marked { MarksAll sizes.now lists.now }
-    requires whole { All IsWhole hashes.now }
+    requires whole { All IsWholeHash hashes.now }
     ensures { IfOk result (λ hits. hits ≡ flat_map (hits_on hashes.now) lists.now) }
 {
     let past = past_marks(sizes);
@@ -152,7 +152,7 @@ fn finding(
 ) -> Result<Finding, OutOfMemory>
     requires marked { MarksAll sizes.now.marks lists.now }
     ensures number { IfOk result (λ finding. finding.number ≡ number) }
-    ensures text { IfOk result (λ finding. finding.text ≡ text_of url) }
+    ensures text { IfOk result (λ finding. finding.text ≡ text_of_url url) }
     ensures hits { IfOk result (λ finding. finding.hits ≡ hits_of lists.now url) }
     ensures askable { IfOk result (λ finding. AreAskable finding.hits) }
     ensures few { IfOk result (λ finding. length (prefixes_hit finding.hits) ≤ 870) }

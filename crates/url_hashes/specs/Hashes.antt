@@ -14,5 +14,5 @@ abbrev pub hashes_of : Url → List FullHash
 hashes_of url = map full_hash_of (expressions_of url)
 
 -- a full hash has 32 bytes
-abbrev pub IsWhole : FullHash → Type 0
-IsWhole hash = length hash.bytes ≡ 32
+abbrev pub IsWholeHash : FullHash → Type 0
+IsWholeHash hash = length hash.bytes ≡ 32

@@ -4,7 +4,7 @@
 ghost use Rattle.std.specs.Prelude.{◌≡◌, ◌≤◌, ◌<◌, ℕ, List, length, map, All, IfOk, IfSome, OnOk};
 ghost use Rattle.sha2.specs.Hashers.{Holds256};
 ghost use Rattle.url_expressions.specs.Spans.{IsWithin, piece_of};
-ghost use Rattle.url_hashes.specs.Hashes.{full_hash_of, hashes_of, IsWhole};
+ghost use Rattle.url_hashes.specs.Hashes.{full_hash_of, hashes_of, IsWholeHash};
 
 use hash_prefixes::{FullHash, full_hash};
 use sb_model::{OutOfMemory, Row};
@@ -135,7 +135,7 @@ fn hashes_of_each(alloc: Global, text: &[u8], spans: &[Span]) -> Result<Row<Full
 /// text, mostly, so a host's text is hashed once, and not once for each of its paths.
 pub fn url_hashes(alloc: Global, url: &CanonicalUrl) -> Result<Row<FullHash>, OutOfMemory>
     ensures value { IfOk result (λ hashes. hashes ≡ hashes_of url.now) }
-    ensures whole { IfOk result (λ hashes. All IsWhole hashes) }
+    ensures whole { IfOk result (λ hashes. All IsWholeHash hashes) }
     ensures some { IfOk result (λ hashes. 1 ≤ length hashes) }
     ensures few { IfOk result (λ hashes. length hashes ≤ 30) }
 {

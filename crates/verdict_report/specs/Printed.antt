@@ -20,8 +20,8 @@ use Rattle.verdict_report.specs.declared.verdicts.Judged.TheVariants as judged
 -- why a verdict is left open
 abbrev pub cause_text : Cause → List ℕ
 cause_text (NotBefore moment) = codes "not-before " ++ decimal moment.0
-cause_text (Exchange fault) = exchange.cause_text fault
-cause_text (Message fault) = message.cause_text fault
+cause_text (Exchange fault) = exchange.exchange_cause_text fault
+cause_text (Message fault) = message.message_cause_text fault
 
 -- a name that stands behind another
 abbrev pub next_text : ListName → List ℕ
@@ -60,11 +60,11 @@ is_safe (judged.Verdict number text (Unsafe names)) = false
 is_safe (judged.Verdict number text (Undecided cause)) = false
 is_safe (judged.Refused fault) = false
 
-abbrev pub is_unsafe : Judged → Bool
-is_unsafe (judged.Verdict number text Safe) = false
-is_unsafe (judged.Verdict number text (Unsafe names)) = true
-is_unsafe (judged.Verdict number text (Undecided cause)) = false
-is_unsafe (judged.Refused fault) = false
+abbrev pub is_judged_unsafe : Judged → Bool
+is_judged_unsafe (judged.Verdict number text Safe) = false
+is_judged_unsafe (judged.Verdict number text (Unsafe names)) = true
+is_judged_unsafe (judged.Verdict number text (Undecided cause)) = false
+is_judged_unsafe (judged.Refused fault) = false
 
 abbrev pub is_undecided : Judged → Bool
 is_undecided (judged.Verdict number text Safe) = false
@@ -72,9 +72,9 @@ is_undecided (judged.Verdict number text (Unsafe names)) = false
 is_undecided (judged.Verdict number text (Undecided cause)) = true
 is_undecided (judged.Refused fault) = false
 
-abbrev pub is_refused : Judged → Bool
-is_refused (judged.Verdict number text verdict) = false
-is_refused (judged.Refused fault) = true
+abbrev pub is_judged_refused : Judged → Bool
+is_judged_refused (judged.Verdict number text verdict) = false
+is_judged_refused (judged.Refused fault) = true
 
 -- how many URLs there are
 abbrev pub all_text : List Judged → List ℕ
@@ -85,13 +85,13 @@ abbrev pub safe_text : List Judged → List ℕ
 safe_text all = decimal (count_by is_safe all) ++ codes " safe, "
 
 abbrev pub unsafe_text : List Judged → List ℕ
-unsafe_text all = decimal (count_by is_unsafe all) ++ codes " unsafe, "
+unsafe_text all = decimal (count_by is_judged_unsafe all) ++ codes " unsafe, "
 
 abbrev pub undecided_text : List Judged → List ℕ
 undecided_text all = decimal (count_by is_undecided all) ++ codes " undecided, "
 
 abbrev pub refused_text : List Judged → List ℕ
-refused_text all = decimal (count_by is_refused all) ++ codes " refused" ++ newline ∷ []
+refused_text all = decimal (count_by is_judged_refused all) ++ codes " refused" ++ newline ∷ []
 
 abbrev pub kinds_text : List Judged → List ℕ
 kinds_text all = safe_text all ++ unsafe_text all ++ undecided_text all ++ refused_text all
@@ -107,9 +107,9 @@ abbrev pub counts_of : List Judged → Counts
 counts_of all = record {
   urls = length all;
   safe = count_by is_safe all;
-  found_unsafe = count_by is_unsafe all;
+  found_unsafe = count_by is_judged_unsafe all;
   undecided = count_by is_undecided all;
-  refused = count_by is_refused all;
+  refused = count_by is_judged_refused all;
 }
 
 -- They are the counts of some URLs, fewer than 2 ^ 63.
@@ -124,5 +124,5 @@ kinds_counted counts =
     ++ (decimal counts.undecided ++ codes " undecided, ") ++ (decimal counts.refused ++ codes " refused" ++ newline ∷ [])
 
 -- the summary of URLs of these counts
-abbrev pub counts_text : Counts → List ℕ
-counts_text counts = (codes "checked " ++ decimal counts.urls ++ codes ": ") ++ kinds_counted counts
+abbrev pub summary_of_counts : Counts → List ℕ
+summary_of_counts counts = (codes "checked " ++ decimal counts.urls ++ codes ": ") ++ kinds_counted counts

@@ -1,5 +1,5 @@
 ghost use Rattle.std.specs.Prelude.{◌≡◌, ◌++◌, List, decimal, length, take, OnOk, OnErr};
-ghost use Rattle.verdict_report.specs.Printed.{counts_of, counts_text, kinds_counted, summary_text};
+ghost use Rattle.verdict_report.specs.Printed.{counts_of, summary_of_counts, kinds_counted, summary_text};
 
 use crate::Counts;
 use crate::counts::counts_in;
@@ -28,7 +28,7 @@ fn push_kinds(page: &mut Bytes, counts: &Counts) -> Result<(), OutOfMemory>
 
 // Appends how many URLs there are, and how many of each kind.
 fn push_numbers(page: &mut Bytes, counts: &Counts) -> Result<(), OutOfMemory>
-    ensures ok { OnOk result (page.new ≡ page.old ++ counts_text counts.now) }
+    ensures ok { OnOk result (page.new ≡ page.old ++ summary_of_counts counts.now) }
     ensures front { OnErr result (take (length page.old) page.new ≡ page.old) }
 {
     page.append(b"checked ")?;

@@ -3,7 +3,7 @@ use Rattle.full_hash_cache.specs.Law.{after_steps}
 use Rattle.url_checker.specs.declared.findings.Hit.{Hit}
 use Rattle.url_checker.specs.Resolving.{verdict_of, answer_in, cause_of, hits_asked}
 use Rattle.client_laws.specs.Faithful.{IsFaithful}
-use Rattle.client_laws.specs.Example.{example_history, example_tokens, example_hit, example_asked, answer_at, got_at, held_at, second_later, steps_at}
+use Rattle.client_laws.specs.Example.{example_url_history, example_tokens, example_hit, example_asked, answer_at, got_at, held_at, second_later, steps_at}
 use Rattle.client_laws.proofs.Members.{nothing}
 use Rattle.client_laws.proofs.ExampleHits.{one_hit}
 use Rattle.client_laws.proofs.ExamplePremises.{naming, either_version, answer_is_faithful, taken_is_faithful, premises, same_message, no_message}
@@ -17,14 +17,14 @@ returns-clause-naming c = naming
 
 pub returns-clause-got : goal.returns-clause-got
 returns-clause-got c version now session word waits low high =
-    let one = c.full_hashes_are_one.ensures.one example_history example_tokens in
+    let one = c.full_hashes_are_one.ensures.one example_url_history example_tokens in
     let served = c.served_answers_are_faithful.ensures in
     let is = either_version version low high in
     let lists = held_at version ∷ [] in
     let r = got_at version now session word in
-    let decided = c.faithful_finds_decide.ensures example_history example_tokens lists [] [] waits (example_hit ∷ []) r
+    let decided = c.faithful_finds_decide.ensures example_url_history example_tokens lists [] [] waits (example_hit ∷ []) r
     (λ at names asked response member. absurd (nothing _ member))
-    (λ message same. subst (IsFaithful example_history example_tokens lists example_asked) (same_message (answer_at version) message same) (answer_is_faithful one served version is)) in
+    (λ message same. subst (IsFaithful example_url_history example_tokens lists example_asked) (same_message (answer_at version) message same) (answer_is_faithful one served version is)) in
     premises one served version is [] waits r decided ((c.resolved_verdicts_are_lookups.ensures.open [] waits (example_hit ∷ []) r).1 refl)
 
 pub returns-clause-got_first : goal.returns-clause-got_first
@@ -47,11 +47,11 @@ none_asked (suc (suc (suc more))) low high = absurd (omega arith)
 
 pub returns-clause-kept : goal.returns-clause-kept
 returns-clause-kept c version waits low high =
-    let one = c.full_hashes_are_one.ensures.one example_history example_tokens in
+    let one = c.full_hashes_are_one.ensures.one example_url_history example_tokens in
     let served = c.served_answers_are_faithful.ensures in
     let is = either_version version low high in
     let answer = answer_in waits second_later.talk in
-    let decided = c.faithful_finds_decide.ensures example_history example_tokens (held_at version ∷ []) [] (steps_at version) waits (example_hit ∷ []) second_later
+    let decided = c.faithful_finds_decide.ensures example_url_history example_tokens (held_at version ∷ []) [] (steps_at version) waits (example_hit ∷ []) second_later
     (taken_is_faithful one served version is)
     (λ message same. absurd (no_message _ message same)) in
     premises one served version is (steps_at version) waits second_later decided

@@ -2,7 +2,7 @@ use Rattle.std.proofs.Common.{◌≡◌, ◌+◌, ◌<◌, ◌^◌, ◌∷◌, �
 use Rattle.std.proofs.lemmas.List.{length-take}
 use Rattle.list_versions.specs.declared.stretch.Stretch.{Stretch}
 use Rattle.list_versions.specs.Stretches.{AreInOrder}
-use Rattle.delta_server.specs.Sweeping.{shown_at, HasSwept, HaveHeads}
+use Rattle.delta_server.specs.Sweeping.{shown_at, HasSwept, NameFourBytes}
 use Rattle.delta_server.proofs.SweepFacts.{split_at, pushed_at}
 use Rattle.delta_server.proofs.sweeping.sweep_of.Goals as goal
 
@@ -29,6 +29,6 @@ loop-stretch-preserved c =
       swept =
           subst (λ (ds : List Stretch). HasSwept c.take.new.self first end (shown_at stretches first) ds) (pushed_at stretches i none c.loop-stretch-test.true)
           (subst (λ (ss : List Stretch). HasSwept c.take.new.self first end (shown_at ss first) (done ++ s ∷ [])) whole
-          (c.take.ensures.swept done rest c.requires.some few (subst AreInOrder (sym whole) c.requires.order) (subst HaveHeads (sym whole) c.requires.heads)
+          (c.take.ensures.swept done rest c.requires.some few (subst AreInOrder (sym whole) c.requires.order) (subst NameFourBytes (sym whole) c.requires.heads)
           (subst (λ (ss : List Stretch). HasSwept c.loop-stretch.sweep first end (shown_at ss first) done) (sym whole) c.loop-stretch.invariant.swept)));
     }

@@ -5,7 +5,7 @@ use Rattle.sb_model.specs.declared.history.Added.{Added}
 use Rattle.sb_model.specs.declared.history.Change.{Change}
 use Rattle.sb_model.specs.History.{History, version_count, sizes_at}
 use Rattle.sb_model.specs.Target.{target_version}
-use Rattle.delta_server.specs.Counts.{AreApart}
+use Rattle.delta_server.specs.Counts.{HaveHashesApart}
 use Rattle.delta_server.specs.Walk.{HaveSame, entries_after}
 use Rattle.delta_server.proofs.CountFacts.{SetLaws}
 use Rattle.delta_server.proofs.SameFacts.{published_same, sized_alike}
@@ -22,7 +22,7 @@ target_of-requires-clause-held c =
 
 pub target_of-requires-clause-apart : goal.target_of-requires-clause-apart
 target_of-requires-clause-apart c =
-    subst AreApart (sym c.deref.ensures.value) c.in_ok-entries.ensures.apart
+    subst HaveHashesApart (sym c.deref.ensures.value) c.in_ok-entries.ensures.apart
 
 pub target_of-requires-clause-sizes : goal.target_of-requires-clause-sizes
 target_of-requires-clause-sizes c =

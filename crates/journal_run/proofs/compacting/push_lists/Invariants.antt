@@ -1,8 +1,8 @@
 use Rattle.std.proofs.Common.{◌≡◌, ◌++◌, drop}
 use Rattle.std.specs.List.{flat_map}
-use Rattle.list_versions.specs.Written.{list_line}
+use Rattle.list_versions.specs.Written.{declaration_line}
 use Rattle.journal_run.proofs.compacting.push_lists.Given as goal
 
 -- the lines so far, and those of the lists that are left, are all lines
 abbrev pub invariant-loop-list : goal.invariant-loop-list
-invariant-loop-list l = l.page ++ flat_map list_line (drop l.list-index l.lists) ≡ l.initial.page ++ flat_map list_line l.lists
+invariant-loop-list l = l.page ++ flat_map declaration_line (drop l.list-index l.lists) ≡ l.initial.page ++ flat_map declaration_line l.lists

@@ -1,5 +1,5 @@
 use Rattle.std.proofs.Common.{◌≡◌, [], ◌∷◌, ap, sym, ◌∙◌}
-use Rattle.list_versions.specs.Lines.{words_of}
+use Rattle.list_versions.specs.Lines.{words_in_line}
 use Rattle.list_versions.proofs.Words.{words_unspaced, nothing_unsized, nothing_of_three, nothing_alone}
 use Rattle.list_versions.proofs.lines.longer_add.Goals as goal
 use Rattle.list_versions.proofs.lines.longer_add.Goals.{then-not-sized-via-then-not-sized, then-not-sized-via-else-not-sized+then-has_space}
@@ -12,7 +12,7 @@ returns-then-not-sized-clause-value c = elim c.then-not-sized.branch [
 
 pub returns-clause-value : goal.returns-clause-value
 returns-clause-value c =
-    let two : words_of c.args.text.now ≡ c.in-Some.digits.now ∷ c.in-Some.size.now ∷ [] =
+    let two : words_in_line c.args.text.now ≡ c.in-Some.digits.now ∷ c.in-Some.size.now ∷ [] =
     c.in-Some.ensures ∙ ap (λ ws. c.in-Some.digits.now ∷ ws) (words_unspaced c.in-Some.size.now (sym c.has_space.ensures ∙ c.if-has_space.false)) in
     rw (two, c.if-not-sized.false) c.sized_add.ensures.value
 

@@ -3,7 +3,7 @@ use Rattle.snapshot_publish.specs.Publications.{Publications, Publication, IsLas
 use Rattle.snapshot_publish.specs.Publishing.{Publishing}
 use Rattle.url_checker.specs.declared.findings.Checked.{Checked}
 use Rattle.parallel_checks.specs.Checks.{of_seat}
-use Rattle.parallel_checks.specs.Settled.{AreKept, MayStand}
+use Rattle.parallel_checks.specs.Settled.{NameKeptPublications, MayStand}
 use Rattle.parallel_checks.proofs.SettleFacts.{stand_settled, anew_settled, on_ok}
 use Rattle.parallel_checks.proofs.settling.settle_seat.Goals as goal
 use Rattle.parallel_checks.proofs.settling.settle_seat.Goals.{else-same-via-then-same+else-are_kept, else-same-via-else-same}
@@ -14,7 +14,7 @@ returns-then-are_kept-clause-settled c =
     let told = c.in_ok-same.ensures in
     let list = ap (λ (p : Publishing). p.list) told.publisher in
     let same = subst (λ (b : Bool). MatchBool b (length seat.list ≡ length all) (length seat.list ≢ length all)) c.if-same.true told.same in
-    let kept = subst (λ (q : Publications × List Checked). AreKept q.0 (of_seat q.1 c.args.step c.args.place)) (λ i. (list i, c.as_slice.ensures i)) c.if-are_kept.ensures in
+    let kept = subst (λ (q : Publications × List Checked). NameKeptPublications q.0 (of_seat q.1 c.args.step c.args.place)) (λ i. (list i, c.as_slice.ensures i)) c.if-are_kept.ensures in
     stand_settled all c.args.seat.now seat (of_seat c.args.urls.now c.args.step c.args.place) own told.goes_on told.told (record { looked = told.looked; whole = same; kept = kept }) c.requires.are
 
 pub returns-clause-settled : goal.returns-clause-settled
@@ -29,7 +29,7 @@ returns-clause-settled c =
     c.check_anew.ensures.anew in
     elim c.else-same.branch [
       | else-same-via-then-same+else-are_kept w ↦
-          settled (λ may. subst (λ (q : Publications × List Checked). AreKept q.0 (of_seat q.1 c.args.step c.args.place) → ⊥) (λ i. (list i, w.as_slice.ensures i)) w.if-are_kept.ensures may.kept)
+          settled (λ may. subst (λ (q : Publications × List Checked). NameKeptPublications q.0 (of_seat q.1 c.args.step c.args.place) → ⊥) (λ i. (list i, w.as_slice.ensures i)) w.if-are_kept.ensures may.kept)
       | else-same-via-else-same w ↦
           settled (λ may. subst (λ (b : Bool). MatchBool b (length seat.list ≡ length all) (length seat.list ≢ length all)) w.if-same.false told.same may.whole)
     ]

@@ -1,5 +1,5 @@
 use Rattle.std.proofs.Common.{◌≡◌, ℕ, ◌+◌, ◌*◌, ◌^◌, ◌%◌, ◌<◌, ◌≤◌, Bool, List, Some, take, arith, ap, sym, ◌∙◌, rules}
-use Rattle.rice_coding.specs.Bits.{bits_from, number_of}
+use Rattle.rice_coding.specs.Bits.{bits_from, number_of_bits}
 use Rattle.rice_coding.proofs.CodeFacts.{delta_at-no_zero, delta_at-short, delta_at-some, delta_high, shifted_whole, delta_fits, low_lt}
 use Rattle.rice_coding.proofs.cursor.take_code.Goals as goal
 
@@ -16,7 +16,7 @@ pub returns-then-quotient-ne0-clause-some : goal.returns-then-quotient-ne0-claus
 returns-then-quotient-ne0-clause-some c =
     let ones = c.in_ok-quotient.ensures.some in
     let rest = bits_from c.in_ok-quotient.at.bytes.now c.in_ok-quotient.at.offset in
-    let low = number_of (take c.args.parameter rest) in
+    let low = number_of_bits (take c.args.parameter rest) in
     let many : 2 ^ 34 ≤ ones.0 = omega (arith, ones.2) in (
       ones.0 * 2 ^ c.args.parameter + low,
       delta_at-some c.args.parameter ones.0 (bits_from c.args.at.bytes.now c.args.at.offset) rest ones.1 c.in_ok-low.ensures.long
@@ -37,7 +37,7 @@ pub returns-clause-some : goal.returns-clause-some
 returns-clause-some c =
     let ones = c.in_ok-quotient.ensures.some in
     let rest = bits_from c.in_ok-quotient.at.bytes.now c.in_ok-quotient.at.offset in
-    let low = number_of (take c.args.parameter rest) in
+    let low = number_of_bits (take c.args.parameter rest) in
     let few : ones.0 ≡ c.in_ok-quotient.quotient = omega (arith, ones.2) in
     let whole : c.in_ok-quotient.quotient * 2 ^ c.args.parameter % 2 ^ 64 ≡ c.in_ok-quotient.quotient * 2 ^ c.args.parameter =
     shifted_whole c.in_ok-quotient.quotient c.args.parameter (omega arith) c.requires.few in

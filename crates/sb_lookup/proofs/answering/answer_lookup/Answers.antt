@@ -1,7 +1,7 @@
 use Rattle.std.proofs.Common.{◌≡◌, List, ap, ◌∙◌, sym}
 use Rattle.std.specs.List.{flat_map}
 use Rattle.sb_model.specs.declared.names.ListName.{ListName}
-use Rattle.lookup_messages.specs.Lookups.{canonical_of_asked, lists_asked, matches_of_url}
+use Rattle.lookup_messages.specs.Lookups.{canonical_of_asked, lists_looked_up, matches_of_url}
 use Rattle.lookup_messages.specs.Messages.{AskedUrls}
 use Rattle.lookup_messages.specs.declared.response.LookupMatch.{LookupMatch}
 use Rattle.lookup_messages.specs.declared.response.LookupResponse.{LookupResponse}

@@ -1,5 +1,5 @@
 use Rattle.std.proofs.Common.{inl, inr, sym, subst}
-use Rattle.http_serving.specs.Serving.{IsUntouched}
+use Rattle.http_serving.specs.Serving.{IsConnectionUntouched}
 use Rattle.sb_service.specs.Kept.{AreKeptOf}
 use Rattle.sb_service.proofs.Entries.{logged}
 use Rattle.sb_service.proofs.Keeping.{kept_or_forgotten}
@@ -83,5 +83,5 @@ returns-else-plan-clause-stops g c = λ before coming pieces opening taken fresh
       ];
       pieces = pieces;
       taken = rw c.give_back.ensures.coming taken;
-      logged = logged IsUntouched before _ _ _ opening (c.give_back.ensures.untouched pieces fresh);
+      logged = logged IsConnectionUntouched before _ _ _ opening (c.give_back.ensures.untouched pieces fresh);
     }))

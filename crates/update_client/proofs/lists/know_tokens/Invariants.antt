@@ -1,7 +1,7 @@
 use Rattle.std.proofs.Common.{take}
 use Rattle.std.specs.Prelude.{All}
-use Rattle.update_client.specs.Held.{IsHeld}
+use Rattle.update_client.specs.Held.{IsHeldList}
 use Rattle.update_client.proofs.lists.know_tokens.Given as goal
 
 abbrev pub invariant-loop-held : goal.invariant-loop-held
-invariant-loop-held l = All IsHeld (take l.held-index l.lists)
+invariant-loop-held l = All IsHeldList (take l.held-index l.lists)

@@ -2,13 +2,13 @@ use Rattle.std.proofs.Common.{◌≡◌, ℕ, ◌≤◌, ◌<◌, List, Some, No
 use Rattle.std.specs.Char.{digit_value}
 use Rattle.std.proofs.lemmas.Bool.{eqb-true, eqb-false, ltb-false, le-ltb}
 use Rattle.url_canon.proofs.Numbers.{stopped, number_in-empty, number_in-other, number_in-digits}
-use Rattle.url_canon.specs.Address.{number_in}
+use Rattle.url_canon.specs.Address.{number_in_base}
 use Rattle.url_canon.proofs.address.number_in.Goals as goal
 
-nothing : (base : ℕ) (digits : List ℕ) → number_in base digits ≡ None → None ≡ stopped (number_in base digits)
+nothing : (base : ℕ) (digits : List ℕ) → number_in_base base digits ≡ None → None ≡ stopped (number_in_base base digits)
 nothing base digits e = sym (ap stopped e)
 
-too_great : (base : ℕ) (digits : List ℕ) (i : ℕ) → i < length digits → base ≤ digit_value (get_or digits i 0) → None ≡ stopped (number_in base digits)
+too_great : (base : ℕ) (digits : List ℕ) (i : ℕ) → i < length digits → base ≤ digit_value (get_or digits i 0) → None ≡ stopped (number_in_base base digits)
 too_great base digits i inside h =
     nothing base digits (number_in-other base digits i inside (le-ltb (digit_value (get_or digits i 0)) base h))
 

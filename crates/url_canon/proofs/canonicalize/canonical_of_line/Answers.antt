@@ -2,7 +2,7 @@ use Rattle.std.proofs.Common.{ap, sym, ◌∙◌, subst, arith}
 use Rattle.std.proofs.lemmas.Bool.{eqb-true, eqb-false}
 use Rattle.url_canon.specs.Cleaning.{trimmed}
 use Rattle.url_canon.specs.Unescaping.{HasNoEscape}
-use Rattle.url_canon.specs.Canonical.{parts_of, escaped_parts, canonical_of_cleaned, Answers}
+use Rattle.url_canon.specs.Canonical.{url_parts_of, escaped_parts, canonical_of_cleaned, Answers}
 use Rattle.url_canon.proofs.Unescapes.{unescaped_is}
 use Rattle.url_canon.proofs.Places.{found_any}
 use Rattle.url_canon.proofs.Inplace.{is_percent, unescaped-same}
@@ -26,7 +26,7 @@ returns-then-is_none c =
     let at = c.trimmed-kept.ensures ∙ ap trimmed c.before_hash.ensures in
     let some = eqb-false _ 0 (sym c.if-is_empty.ensures) in
     let lacks = sym (found_any is_percent kept c.memchr.result c.memchr.ensures) ∙ c.if-is_none.ensures in
-    subst (Answers c.canonical_of_plain.result) (sym (sym (ap canonical_of_cleaned at) ∙ (cleaned-some kept (omega arith) ∙ ap (λ p. escaped_parts (parts_of p)) (unescaped-same kept lacks)))) c.canonical_of_plain.ensures
+    subst (Answers c.canonical_of_plain.result) (sym (sym (ap canonical_of_cleaned at) ∙ (cleaned-some kept (omega arith) ∙ ap (λ p. escaped_parts (url_parts_of p)) (unescaped-same kept lacks)))) c.canonical_of_plain.ensures
 
 pub canonical_of_plain-requires-2 : goal.canonical_of_plain-requires-2
 canonical_of_plain-requires-2 c = subst HasNoEscape (sym c.as_slice.ensures.value) c.in_ok-plain.ensures.unescaped.finished
@@ -37,4 +37,4 @@ returns c =
     let at = c.trimmed-kept.ensures ∙ ap trimmed c.before_hash.ensures in
     let some = eqb-false _ 0 (sym c.if-is_empty.ensures) in
     let plain = c.as_slice.ensures.value ∙ c.in_ok-plain.ensures.value in
-    subst (Answers c.canonical_of_plain-2.result) (sym (sym (ap canonical_of_cleaned at) ∙ (cleaned-some kept (omega arith) ∙ sym (ap (λ p. escaped_parts (parts_of p)) plain)))) c.canonical_of_plain-2.ensures
+    subst (Answers c.canonical_of_plain-2.result) (sym (sym (ap canonical_of_cleaned at) ∙ (cleaned-some kept (omega arith) ∙ sym (ap (λ p. escaped_parts (url_parts_of p)) plain)))) c.canonical_of_plain-2.ensures

@@ -7,7 +7,7 @@ use Rattle.url_canon.specs.Parts.{ends_authority, is_at, scheme_of, after_scheme
 use Rattle.url_canon.specs.Host.{HostParts, host_of, view}
 use Rattle.url_canon.specs.Path.{path_text, path_of}
 use Rattle.url_canon.specs.Url.{Url, query_text, IsLaidOut, url_at_places}
-use Rattle.url_canon.specs.Canonical.{host_in, parts_of, IsCanonical, escaped_url, escaped_parts}
+use Rattle.url_canon.specs.Canonical.{host_in, url_parts_of, IsCanonical, escaped_url, escaped_parts}
 use Rattle.url_canon.specs.declared.fault.UrlFault.{UrlFault}
 use Rattle.url_canon.proofs.Whole.{parts_of-none, parts_of-some}
 use Rattle.url_canon.proofs.Escapes.{AreBytes-from}
@@ -43,7 +43,7 @@ returns-in_default c =
     ap escaped_parts (parts_of-none c.args.plain.now (sym read ∙ (sym c.in_ok-host.ensures ∙ ap (option_map view) c.in_default.is)))
 
 built : (plain text : List ℕ) (h p q : ℕ) (read : HostParts) → HasNoEscape plain → ((i : ℕ) → get_or plain i 0 < 256) → host_in plain ≡ Some read → IsLaidOut text h p q (parts plain read)
-    → IsLaidOut text h p q (url_at_places text h p q read.is_address) × IsCanonical (url_at_places text h p q read.is_address) × (escaped_parts (parts_of plain) ≡ Ok (url_at_places text h p q read.is_address))
+    → IsLaidOut text h p q (url_at_places text h p q read.is_address) × IsCanonical (url_at_places text h p q read.is_address) × (escaped_parts (url_parts_of plain) ≡ Ok (url_at_places text h p q read.is_address))
 built plain text h p q read escapes bytes is laid =
     let there : url_at_places text h p q read.is_address ≡ parts plain read = at_places text h p q (parts plain read) laid (components_of-escaped (path_part (after_authority (after_scheme plain)))) in (
       subst (IsLaidOut text h p q) (sym there) laid,

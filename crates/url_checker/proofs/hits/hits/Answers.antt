@@ -4,7 +4,7 @@ use Rattle.std.specs.List.{flat_map}
 use Rattle.hash_prefixes.specs.declared.hashes.FullHash.{FullHash}
 use Rattle.update_client.specs.Held.{Held}
 use Rattle.url_checker.specs.declared.findings.Hit.{Hit}
-use Rattle.url_hashes.specs.Hashes.{IsWhole}
+use Rattle.url_hashes.specs.Hashes.{IsWholeHash}
 use Rattle.url_checker.specs.Hits.{hits_on, BeginsHash, prefixes_hit, MarksAll}
 use Rattle.url_checker.proofs.FewPrefixes.{few_prefixes, begins_each}
 use Rattle.url_checker.proofs.hits.hits.Goals as goal
@@ -17,7 +17,7 @@ made hits hashes own lists held are same also =
 pub hits_on_lists-requires : goal.hits_on_lists-requires
 hits_on_lists-requires c = record {
   marked = subst (λ (lists : List Held). MarksAll c.args.sizes.now.marks lists) (sym c.lists.ensures.value) c.requires.marked;
-  whole = subst (λ (hashes : List FullHash). All IsWhole hashes) (sym c.as_slice.ensures) c.in_ok-hashes.ensures.whole;
+  whole = subst (λ (hashes : List FullHash). All IsWholeHash hashes) (sym c.as_slice.ensures) c.in_ok-hashes.ensures.whole;
 }
 
 pub returns : goal.returns

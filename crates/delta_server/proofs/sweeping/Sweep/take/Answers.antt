@@ -1,7 +1,7 @@
 use Rattle.std.proofs.Common.{◌≡◌, ℕ, ◌+◌, ◌-◌, ◌<◌, ◌≤◌, ◌∙◌, ◌∷◌, ◌++◌, [], length, true, false, ap, sym, arith}
 use Rattle.std.specs.Prelude.{◌&&◌, nat_le, nat_lt, All}
 use Rattle.list_versions.specs.Stretches.{ComesBefore}
-use Rattle.delta_server.specs.Sweeping.{is_shown, shows_first}
+use Rattle.delta_server.specs.Sweeping.{is_head_shown, shows_first}
 use Rattle.delta_server.proofs.CountFacts.{SetLaws}
 use Rattle.delta_server.proofs.ShownFacts.{all_of, order_before}
 use Rattle.delta_server.proofs.SweepFacts.{all_told, shared_marked, shared_left}
@@ -19,8 +19,8 @@ returns-then-self-clause-swept c = λ done rest some few order heads swept.
     let anew : (version : ℕ) → first ≤ version → version < end → (nat_le begin version && nat_lt version reach) ≡ shows_first done c.args.stretch.now version =
     λ version low less. c.next-self.ensures.anew done version low less swept.covered before in
     let covers = c.next-self.ensures.covers done some swept.covered before in
-    let own : true ≡ is_shown (done ++ c.args.stretch.now ∷ []) c.args.stretch.now.head first =
-    sym c.if-self.true ∙ covers.held ∙ ap (λ (head : ℕ). is_shown (done ++ c.args.stretch.now ∷ []) head first) c.next-self.ensures.head in
+    let own : true ≡ is_head_shown (done ++ c.args.stretch.now ∷ []) c.args.stretch.now.head first =
+    sym c.if-self.true ∙ covers.held ∙ ap (λ (head : ℕ). is_head_shown (done ++ c.args.stretch.now ∷ []) head first) c.next-self.ensures.head in
     record {
       covered = covers;
       all = all_told laws done c.args.stretch.now rest order heads first end begin reach c.next-self.ensures.begins high anew
@@ -41,8 +41,8 @@ returns-else-self-clause-swept c = λ done rest some few order heads swept.
     let anew : (version : ℕ) → first ≤ version → version < end → (nat_le begin version && nat_lt version reach) ≡ shows_first done c.args.stretch.now version =
     λ version low less. c.next-self.ensures.anew done version low less swept.covered before in
     let covers = c.next-self.ensures.covers done some swept.covered before in
-    let own : false ≡ is_shown (done ++ c.args.stretch.now ∷ []) c.args.stretch.now.head first =
-    sym c.if-self.false ∙ covers.held ∙ ap (λ (head : ℕ). is_shown (done ++ c.args.stretch.now ∷ []) head first) c.next-self.ensures.head in
+    let own : false ≡ is_head_shown (done ++ c.args.stretch.now ∷ []) c.args.stretch.now.head first =
+    sym c.if-self.false ∙ covers.held ∙ ap (λ (head : ℕ). is_head_shown (done ++ c.args.stretch.now ∷ []) head first) c.next-self.ensures.head in
     record {
       covered = covers;
       all = all_told laws done c.args.stretch.now rest order heads first end begin reach c.next-self.ensures.begins high anew

@@ -3,7 +3,7 @@ use Rattle.std.specs.Map.{lookup}
 use Rattle.std.specs.Option.{option_copied, option_map_or}
 use Rattle.lru.specs.LruCache.{promoted}
 use Rattle.full_hash_cache.specs.declared.pair.Cached.TheVariants.{Ask}
-use Rattle.full_hash_cache.specs.Cache.{pair_of, kept_of, said_by, end_of}
+use Rattle.full_hash_cache.specs.Cache.{pair_of, kept_of_pair, said_by_pair, match_end}
 use Rattle.full_hash_cache.proofs.SamePairs.{pair_eq}
 use Rattle.full_hash_cache.proofs.cache.FullHashCache.answer.Goals as goal
 use Rattle.full_hash_cache.proofs.cache.FullHashCache.answer.Goals.{in-Some, in-None}
@@ -14,13 +14,13 @@ returns-clause-answer c =
     let found = sym (λ i. lookup (pair_eq i pair) (c.self.view_is i)) in
     elim c.match-peek.branch [
       | in-Some w ↦
-          let kept : kept_of c.args.self.now pair ≡ Some w.in-Some.kept.now = found ∙ sym c.peek.ensures ∙ ap option_copied w.in-Some.is in
+          let kept : kept_of_pair c.args.self.now pair ≡ Some w.in-Some.kept.now = found ∙ sym c.peek.ensures ∙ ap option_copied w.in-Some.is in
           w.answer-is ∙ w.says-answer.ensures
-          ∙ sym (ap (λ o. option_map_or (λ kept. said_by c.args.now kept.negative_end (end_of kept.matches c.args.hash.now)) o Ask) kept)
+          ∙ sym (ap (λ o. option_map_or (λ kept. said_by_pair c.args.now kept.negative_end (match_end kept.matches c.args.hash.now)) o Ask) kept)
       | in-None w ↦
-          let kept : kept_of c.args.self.now pair ≡ None = found ∙ sym c.peek.ensures ∙ ap option_copied w.in-None.is in
+          let kept : kept_of_pair c.args.self.now pair ≡ None = found ∙ sym c.peek.ensures ∙ ap option_copied w.in-None.is in
           w.answer-is
-          ∙ sym (ap (λ o. option_map_or (λ kept. said_by c.args.now kept.negative_end (end_of kept.matches c.args.hash.now)) o Ask) kept)
+          ∙ sym (ap (λ o. option_map_or (λ kept. said_by_pair c.args.now kept.negative_end (match_end kept.matches c.args.hash.now)) o Ask) kept)
     ]
 
 pub returns-clause-pairs : goal.returns-clause-pairs

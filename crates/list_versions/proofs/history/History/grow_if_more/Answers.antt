@@ -4,14 +4,14 @@ use Rattle.sb_outside.specs.Reading.{ReadsToEnd, GrowsBy}
 use Rattle.list_versions.specs.declared.fault.JournalFault.{JournalFault}
 use Rattle.list_versions.specs.Journal.{Kept, read_on, after_bytes, at_record}
 use Rattle.list_versions.specs.Draft.{kept_of_draft}
-use Rattle.list_versions.specs.Loaded.{Gives, FurtherFault, IsLoaded}
+use Rattle.list_versions.specs.Loaded.{Gives, FurtherFault, IsLoadedDraft}
 use Rattle.list_versions.specs.declared.history.History.TheInside.{Inside}
 use Rattle.list_versions.specs.Pieces.{Further, ReadsAll, StopsAt}
 use Rattle.list_versions.proofs.Fronts.{gives_nothing, gives_unmoved, ends_after}
 use Rattle.list_versions.proofs.Further.{Leads, read_nothing, leads_piece, all_after, stops_after, further_fault}
 use Rattle.list_versions.proofs.history.History.grow_if_more.Goals as goal
 
-still : (inside : Inside) (kept : Kept) → kept_of_draft inside.draft inside.rest ≡ kept → IsLoaded inside.draft inside.newest.items inside.rest inside.stale → read_on kept [] ≡ Ok kept
+still : (inside : Inside) (kept : Kept) → kept_of_draft inside.draft inside.rest ≡ kept → IsLoadedDraft inside.draft inside.newest.items inside.rest inside.stale → read_on kept [] ≡ Ok kept
 still inside kept view h = subst (λ k. read_on k [] ≡ Ok k) view (read_nothing inside.draft inside.rest h.waits)
 
 all_in : (f g : Further) (kept : Kept) (a b c : Option (List (List ℕ))) → Leads f g a b → ReadsAll g kept b c
