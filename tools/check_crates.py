@@ -147,14 +147,33 @@ def functions(text):
         yield found[1], parameters(text, found.end()), contract_lines(text, found.end())
 
 
+def groups(text):
+    """The names that each bracket at the top of some parameters has before its colon, and how many pieces stand at the top."""
+    names, pieces, depth, start, is_piece = 0, 0, 0, 0, False
+    for at, char in enumerate(text):
+        if char in "([{":
+            start = at + 1 if depth == 0 else start
+            depth += 1
+        elif char in ")]}":
+            depth -= 1
+            inside = text[start:at]
+            names += len(inside.split(":")[0].split()) if depth == 0 and ":" in inside else 0
+        if depth == 0 and char.isspace():
+            is_piece = False
+        elif not is_piece:
+            pieces, is_piece = pieces + 1, True
+    return names, pieces
+
+
 def definitions(text):
-    """The definitions of a text, each with how many parameters it takes."""
-    for found in re.finditer(r"(?m)^pub record ([^\s:({]+)((?: \([^()]*(?:\([^()]*(?:\([^()]*\)[^()]*)*\)[^()]*)*\))*) : ", text):
-        yield found[1], sum(len(names.split()) for names in re.findall(r"\(([^():]+) : ", found[2]))
+    """The definitions of a text, each with how many parameters it takes: those of a record stand in its head, which may have several
+    lines, and those of another definition before the sign of its first equation."""
+    for found in re.finditer(r"(?m)^pub record ([^\s:({]+)((?:.|\n)*?) : Type", text):
+        yield found[1], groups(found[2])[0]
     for found in re.finditer(r"(?m)^(?:abbrev|unfoldable) pub ([^\s:({]+) :", text):
         equation = re.search(rf"(?m)^{re.escape(found[1])}((?: [^\n=]*)?) =", text)
         if equation:
-            yield found[1], len(re.sub(r"\([^)]*\)", "x", equation[1]).split())
+            yield found[1], groups(equation[1])[1]
 
 
 def greatest(counted):

@@ -2,11 +2,11 @@ use crate::numbered::{BAD, GOOD, PIECE, answer_tag, fill_piece, piece_of};
 use crate::seen::{Seen, Turn, look};
 use crate::told::Told;
 use gathering::{DoorLimits, GatheredWire};
-use gathering_door::GatheringDoor;
 use real_objects::SystemClock;
 use sb_model::Moment;
 use sb_outside::{Arrival, Clock, Door, SharedText, Wire, write_all};
 use std::net::SocketAddr;
+use tcp_door::TcpDoor;
 
 /// A wire that was handed out and has no answer yet.
 #[derive(Drop)]
@@ -19,7 +19,7 @@ struct Held {
 #[derive(Drop)]
 pub(crate) struct Gate<'a> {
     rt: &'a HostRuntime,
-    door: Option<GatheringDoor<&'a HostRuntime, Told>>,
+    door: Option<TcpDoor<&'a HostRuntime, Told>>,
     pub(crate) seen: Seen,
     held: Vec<Held>,
 }
@@ -78,13 +78,7 @@ impl<'a> Gate<'a> {
     /// Makes a door in the place of the one that is there. It says whether it is usable.
     pub(crate) fn open(&mut self, address: &str, limits: DoorLimits) -> bool {
         self.held.clear();
-        let door = GatheringDoor::bind(
-            self.rt,
-            self.rt.alloc(),
-            address,
-            limits,
-            Told { count: 0 },
-        );
+        let door = TcpDoor::bind(self.rt, self.rt.alloc(), address, limits, Told { count: 0 });
         let is_usable = door.is_usable();
         self.door = Some(door);
         is_usable

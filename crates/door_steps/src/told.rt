@@ -1,4 +1,4 @@
-use gathering_door::{DoorFault, Teller};
+use tcp_door::{DoorFault, Teller};
 
 /// How many times a door told that the system has no room.
 #[derive(Drop)]

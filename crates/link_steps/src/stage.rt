@@ -3,13 +3,13 @@ use crate::words::{cut, number_of};
 use background_link::BackgroundLink;
 use door_bell::Bell;
 use gathering::DoorLimits;
-use gathering_door::{DoorFault, GatheringDoor, Teller};
 use real_objects::{SystemClock, TcpLimits};
 use sb_model::Moment;
 use sb_outside::{Arrival, Clock, Door};
 use std::net::{TcpListener, TcpStream};
 use std::sync::Wait;
 use std::thread::Threads;
+use tcp_door::{DoorFault, TcpDoor, Teller};
 
 /// How long a door is asked at most, in milliseconds.
 pub(crate) const PATIENCE: u64 = 20_000;
@@ -32,15 +32,15 @@ pub(crate) struct Stage<R> {
     pub(crate) address: String,
     pub(crate) port: Option<TcpListener>,
     pub(crate) peer: Option<TcpStream>,
-    pub(crate) door: GatheringDoor<HostRuntime, Deaf>,
+    pub(crate) door: TcpDoor<HostRuntime, Deaf>,
     pub(crate) bell: Bell,
     pub(crate) link: BackgroundLink<R>,
 }
 
 /// A door at any port, and its bell.
-fn belled(rt: HostRuntime) -> Option<(GatheringDoor<HostRuntime, Deaf>, Bell)> {
+fn belled(rt: HostRuntime) -> Option<(TcpDoor<HostRuntime, Deaf>, Bell)> {
     let alloc = rt.alloc();
-    let mut door = GatheringDoor::bind(rt, alloc, "127.0.0.1:0", DoorLimits::STANDARD, Deaf);
+    let mut door = TcpDoor::bind(rt, alloc, "127.0.0.1:0", DoorLimits::STANDARD, Deaf);
     match door.bell(alloc) {
         Ok(bell) => Some((door, bell)),
         Err(_) => None,

@@ -1,7 +1,9 @@
 -- The wire and the door in memory, as contracts see them.
-use Rattle.std.specs.Prelude.{ℕ, List, [], Option}
-use Rattle.sb_outside.specs.Connections.{pieces_of_wire}
+use Rattle.std.specs.Prelude.{ℕ, List, [], Option, Some, map}
+use Rattle.sb_outside.specs.Connections.{open_connection, pieces_of_wire}
+use Rattle.sb_outside.specs.Outside.{raised}
 use Rattle.sb_outside.specs.declared.doors.Connection.{Connection}
+use Rattle.memory_objects.specs.Logs.{logged}
 
 -- a wire in memory, which gives some bytes and then the end of input
 pub record WireInMemory : Type 0 where
@@ -40,3 +42,11 @@ pub record DoorInMemory : Type 0 where
   pub late : List ℕ
   pub calls : ℕ
   pub faults : ℕ
+
+-- the pieces of each connection that is to come
+abbrev pub pieces_to_come : List WireInMemory → Option (List (List (List ℕ)))
+pieces_to_come coming = Some (map (λ (wire : WireInMemory). pieces_of_wire wire.sends) coming)
+
+-- the door after a call that took a connection: these are still to come, and an open entry was logged
+abbrev pub after_taking : DoorInMemory → List WireInMemory → DoorInMemory
+after_taking door coming = record door { coming = coming; log = logged door.room door.log open_connection; calls = raised door.calls }

@@ -3,7 +3,7 @@ ghost use Rattle.std.specs.Option.{option_map};
 ghost use Rattle.sb_outside.specs.Outside.{Rose, IfTold, raised, with_entry};
 ghost use Rattle.sb_outside.specs.Connections.{open_connection, connected, TakesFirst, Returns, pieces_of_wire};
 ghost use Rattle.memory_objects.specs.Logs.{logged};
-ghost use Rattle.memory_objects.specs.Wires.{DoorInMemory, fresh};
+ghost use Rattle.memory_objects.specs.Wires.{DoorInMemory, after_taking, fresh, pieces_to_come};
 
 use crate::MemoryWire;
 use crate::entries::Log;
@@ -134,16 +134,11 @@ impl Door for MemoryDoor {
 
     ghost log = { λ s. s.log };
 
-    ghost coming = { λ s. Some (map (λ wire. pieces_of_wire wire.sends) s.coming) };
+    ghost coming = { λ s. pieces_to_come s.coming };
 
     fn next(&mut self) -> Result<Option<MemoryWire>, Failed>
         ensures listed { IsErr result ↔ Contains self.old.failing (raised self.old.calls) }
-        ensures some { IfOk result (λ next. IfSome next (λ wire.
-            self.new ≡ record self.old {
-              coming = self.new.coming;
-              log = logged self.old.room self.old.log open_connection;
-              calls = raised self.old.calls;
-            })) }
+        ensures some { IfOk result (λ next. IfSome next (λ wire. self.new ≡ after_taking self.old self.new.coming)) }
         ensures wire { IfOk result (λ next. IfSome next (λ wire. (first : _) × (number : ℕ)
             × (self.old.coming ≡ first ∷ self.new.coming) × (wire ≡ fresh number first))) }
         ensures no_more { (result ≡ Ok None) → (self.old.coming ≡ [])
@@ -161,19 +156,14 @@ impl Door for MemoryDoor {
         ensures nothing_written { IfOk result (λ next. IfSome next (λ wire.
             IfTold (Some wire.written) (Some []))) }
         ensures first { IfOk result (λ next. IfSome next (λ wire.
-            TakesFirst (Some (map (λ wire. pieces_of_wire wire.sends) self.old.coming))
-            (Some (map (λ wire. pieces_of_wire wire.sends) self.new.coming)) (Some (pieces_of_wire wire.sends)) (Some wire.left))) }
+            TakesFirst (pieces_to_come self.old.coming) (pieces_to_come self.new.coming) (Some (pieces_of_wire wire.sends)) (Some wire.left))) }
         ensures opened { IfOk result (λ next. IfSome next (λ wire.
             IfTold self.new.log (with_entry self.old.log open_connection))) }
-        ensures none { (result ≡ Ok None)
-            → IfTold (Some (map (λ wire. pieces_of_wire wire.sends) self.old.coming)) (Some []) }
+        ensures none { (result ≡ Ok None) → IfTold (pieces_to_come self.old.coming) (Some []) }
         ensures none_log { (result ≡ Ok None) → self.new.log ≡ self.old.log }
-        ensures none_coming { (result ≡ Ok None)
-            → Some (map (λ wire. pieces_of_wire wire.sends) self.new.coming)
-            ≡ Some (map (λ wire. pieces_of_wire wire.sends) self.old.coming) }
+        ensures none_coming { (result ≡ Ok None) → pieces_to_come self.new.coming ≡ pieces_to_come self.old.coming }
         ensures err_log { OnErr result (self.new.log ≡ self.old.log) }
-        ensures err_coming { OnErr result (Some (map (λ wire. pieces_of_wire wire.sends) self.new.coming)
-            ≡ Some (map (λ wire. pieces_of_wire wire.sends) self.old.coming)) }
+        ensures err_coming { OnErr result (pieces_to_come self.new.coming ≡ pieces_to_come self.old.coming) }
     {
         self.calls = self.calls.saturating_add(1);
         if self.failing.as_slice().contains(&self.calls) {
@@ -187,11 +177,7 @@ impl Door for MemoryDoor {
         ensures listed { IsErr result ↔ Contains self.old.failing (raised self.old.calls) }
         ensures late { OnOk result ((result ≡ Ok Arrival.TimedOut) ↔ Contains self.old.late (raised self.old.calls)) }
         ensures connected { IfOk result (λ arrival. IfSome (connected arrival) (λ wire.
-            self.new ≡ record self.old {
-              coming = self.new.coming;
-              log = logged self.old.room self.old.log open_connection;
-              calls = raised self.old.calls;
-            })) }
+            self.new ≡ after_taking self.old self.new.coming)) }
         ensures wire { IfOk result (λ arrival. IfSome (connected arrival) (λ wire. (first : _) × (number : ℕ)
             × (self.old.coming ≡ first ∷ self.new.coming) × (wire ≡ fresh number first))) }
         ensures no_more { IfOk result (λ arrival. arrival ≡ Arrival.NoMore → self.old.coming ≡ []) }
@@ -210,19 +196,15 @@ impl Door for MemoryDoor {
         ensures nothing_written { IfOk result (λ arrival. IfSome (connected arrival) (λ wire.
             IfTold (Some wire.written) (Some []))) }
         ensures first { IfOk result (λ arrival. IfSome (connected arrival) (λ wire.
-            TakesFirst (Some (map (λ wire. pieces_of_wire wire.sends) self.old.coming))
-            (Some (map (λ wire. pieces_of_wire wire.sends) self.new.coming)) (Some (pieces_of_wire wire.sends)) (Some wire.left))) }
+            TakesFirst (pieces_to_come self.old.coming) (pieces_to_come self.new.coming) (Some (pieces_of_wire wire.sends)) (Some wire.left))) }
         ensures opened { IfOk result (λ arrival. IfSome (connected arrival) (λ wire.
             IfTold self.new.log (with_entry self.old.log open_connection))) }
-        ensures none { IfOk result (λ arrival. arrival ≡ Arrival.NoMore
-            → IfTold (Some (map (λ wire. pieces_of_wire wire.sends) self.old.coming)) (Some [])) }
+        ensures none { IfOk result (λ arrival. arrival ≡ Arrival.NoMore → IfTold (pieces_to_come self.old.coming) (Some [])) }
         ensures same_log { IfOk result (λ arrival. connected arrival ≡ None → self.new.log ≡ self.old.log) }
         ensures same_coming { IfOk result (λ arrival. connected arrival ≡ None
-            → Some (map (λ wire. pieces_of_wire wire.sends) self.new.coming)
-            ≡ Some (map (λ wire. pieces_of_wire wire.sends) self.old.coming)) }
+            → pieces_to_come self.new.coming ≡ pieces_to_come self.old.coming) }
         ensures err_log { OnErr result (self.new.log ≡ self.old.log) }
-        ensures err_coming { OnErr result (Some (map (λ wire. pieces_of_wire wire.sends) self.new.coming)
-            ≡ Some (map (λ wire. pieces_of_wire wire.sends) self.old.coming)) }
+        ensures err_coming { OnErr result (pieces_to_come self.new.coming ≡ pieces_to_come self.old.coming) }
     {
         self.calls = self.calls.saturating_add(1);
         if self.failing.as_slice().contains(&self.calls) {
@@ -242,8 +224,7 @@ impl Door for MemoryDoor {
         ensures after { self.new ≡ record self.old { log = self.new.log } }
 
         ensures kept { self.new.faults ≡ self.old.faults }
-        ensures coming { Some (map (λ wire. pieces_of_wire wire.sends) self.new.coming)
-            ≡ Some (map (λ wire. pieces_of_wire wire.sends) self.old.coming) }
+        ensures coming { pieces_to_come self.new.coming ≡ pieces_to_come self.old.coming }
         ensures entry { Returns self.old.log self.new.log wire.number (Some (pieces_of_wire wire.sends))
             (Some wire.left) (Some wire.written) wire.read_faults wire.write_faults }
     {

@@ -1,12 +1,12 @@
 use gathering::DoorLimits;
-use gathering_door::{DoorFault, GatheringDoor, Losses, Teller};
 use sb_mains::Operator;
 use sb_model::Text;
 use sb_service::DoorRoom;
 use std::fmt;
+use tcp_door::{DoorFault, Losses, TcpDoor, Teller};
 
 /// The door of this program, which tells its operator what is to be known at once.
-pub(crate) type ServerDoor<'a> = GatheringDoor<&'a HostRuntime, DoorWatch<'a>>;
+pub(crate) type ServerDoor<'a> = TcpDoor<&'a HostRuntime, DoorWatch<'a>>;
 
 /// The address of the door that is told of, and who is told.
 #[derive(Clone, Copy)]
@@ -65,9 +65,9 @@ pub(crate) fn door_at<'a>(
         Some(text) => {
             let address = text.as_str();
             let watch = DoorWatch { operator, address };
-            GatheringDoor::bind(rt, rt.alloc(), address, limits_of(room), watch)
+            TcpDoor::bind(rt, rt.alloc(), address, limits_of(room), watch)
         }
-        None => GatheringDoor::unusable(
+        None => TcpDoor::unusable(
             rt,
             DoorWatch {
                 operator,

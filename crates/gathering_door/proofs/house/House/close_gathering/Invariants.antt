@@ -1,5 +1,0 @@
-use Rattle.gathering_door.specs.Houses.{OnlyCloses}
-use Rattle.gathering_door.proofs.house.House.close_gathering.Given as goal
-
-abbrev pub invariant-gathering : goal.invariant-gathering
-invariant-gathering l = OnlyCloses l.fn.self.guests l.self.guests

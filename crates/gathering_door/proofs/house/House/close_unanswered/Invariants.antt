@@ -1,5 +1,0 @@
-use Rattle.gathering_door.specs.Houses.{OnlyCloses}
-use Rattle.gathering_door.proofs.house.House.close_unanswered.Given as goal
-
-abbrev pub invariant-line : goal.invariant-line
-invariant-line l = OnlyCloses l.fn.self.guests l.self.guests

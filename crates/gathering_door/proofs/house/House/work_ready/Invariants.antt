@@ -1,5 +1,0 @@
-use Rattle.gathering_door.specs.Houses.{WorksForAll}
-use Rattle.gathering_door.proofs.house.House.work_ready.Given as goal
-
-abbrev pub invariant-ready : goal.invariant-ready
-invariant-ready l = WorksForAll l.fn.self.guests l.self.guests
