@@ -27,10 +27,6 @@ MOST_PARAMETERS = 8
 MOST_CONTRACT_LINES = 30
 MOST_DEFINED = 9
 
-# A crate, and the crates below it whose lemmas it cites still. `prefix_set` is frozen: what `list_versions` needs of the order of
-# sets and of their places becomes laws there when that crate is opened next.
-CITES_LEMMAS = {"list_versions": {"prefix_set"}}
-
 # as a file of proofs or a `ghost use` names one, and as a tactic of a function does
 LEMMAS = re.compile(r"\bRattle\.(?=\w+\.proofs\b)(\w+)|\b(?=\w+::proofs::)(\w+)")
 DEFINITION = re.compile(r"(?m)^(?:(?:abbrev|unfoldable|infix[lr]? \d+) )*pub (?:record |data )?(?!mod\b|use\b)([^\s:({]+)")
@@ -67,19 +63,11 @@ def texts(name, folders=("src", "specs", "proofs")):
 
 def faults_of_lemmas(crates):
     """Where a crate cites lemmas of another, of which it is to cite the clauses and definitions alone."""
-    cited = set()
     for name in crates:
         for path, text in texts(name):
             for other in dict.fromkeys(first or second for first, second in LEMMAS.findall(text)):
-                if other == name or other not in crates:
-                    continue
-                cited.add((name, other))
-                if other not in CITES_LEMMAS.get(name, ()):
+                if other != name and other in crates:
                     yield f"{path} cites lemmas of {other}: what is missing becomes a clause or a law there"
-    for name, others in CITES_LEMMAS.items():
-        for other in sorted(others):
-            if (name, other) not in cited:
-                yield f"tools/check_crates.py lets {name} cite lemmas of {other}, and it cites none"
 
 
 def names_twice(crates):

@@ -4,13 +4,12 @@ use Rattle.std.specs.Prelude.{◌==◌, ◌↔◌, Contains}
 use Rattle.std.specs.Int.{w32, from_le_bytes, to_le_bytes}
 use Rattle.std.specs.List.Sorted.{IsStrictlyIncreasing}
 use Rattle.std.proofs.lemmas.List.Elements.{All-contains, Contains-get_or}
-use Rattle.prefix_set.proofs.DifferenceFacts.{has_Contains, Contains-has}
-use Rattle.prefix_set.proofs.SetFacts.{members-set_of}
 use Rattle.sb_model.specs.Difference.{has_member, added_members}
 use Rattle.sb_model.specs.Prefixes.{set_of}
 use Rattle.list_versions.specs.Numbers.{AreNumbersOf, IsInOne, Tells, numbers_in, quads_in}
 use Rattle.list_versions.specs.Shifting.{AreShifted}
 use Rattle.list_versions.proofs.Membership.{In, Shows, contains_in, in_contained, in_left, in_right, in_either, in_map, from_map, in_filter, from_filter}
+use Rattle.list_versions.proofs.Rising.{has_Contains, Contains-has, from_set, in_set}
 
 abbrev number : List ℕ → ℕ
 number member = from_le_bytes w32 member
@@ -20,12 +19,6 @@ has_four member = length member == 4
 
 abbrev lacks : List (List ℕ) → List ℕ → Bool
 lacks set member = not (has_member set member)
-
-in_set : (x : List ℕ) (xs : List (List ℕ)) → In x xs → In x (set_of xs)
-in_set x xs i = in_contained x (set_of xs) ((members-set_of xs x).1 (contains_in x xs i))
-
-from_set : (x : List ℕ) (xs : List (List ℕ)) → In x (set_of xs) → In x xs
-from_set x xs i = in_contained x xs ((members-set_of xs x).0 (contains_in x (set_of xs) i))
 
 or_not : (set : List (List ℕ)) (x : List ℕ) → In x set ⊎ (In x set → ⊥)
 or_not set x = go (has_member set x) refl

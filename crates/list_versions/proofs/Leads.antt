@@ -5,8 +5,6 @@ use Rattle.std.proofs.lemmas.Bool.{false≢true}
 use Rattle.std.proofs.lemmas.List.{append-nil, append_assoc, map-append, take_more}
 use Rattle.std.proofs.lemmas.List.Elements.{filter-append}
 use Rattle.std.proofs.lemmas.List.Kept.{IsStrictlySortedBy-filter}
-use Rattle.prefix_set.proofs.DifferenceFacts.{has_Contains, Contains-has}
-use Rattle.prefix_set.proofs.SetFacts.{members-set_of, rising-set_of, rising_unique}
 use Rattle.sb_model.specs.declared.history.Added.{Added}
 use Rattle.sb_model.specs.Difference.{has_member, removed_places, added_members}
 use Rattle.sb_model.specs.History.{prefix_of}
@@ -17,9 +15,11 @@ use Rattle.list_versions.specs.Live.{IsPlaced, IsPublishable, lines_in, shown}
 use Rattle.list_versions.specs.Shifting.{is_published}
 use Rattle.list_versions.specs.declared.live.Live.{Live}
 use Rattle.list_versions.proofs.Begun.{take_next}
-use Rattle.list_versions.proofs.Membership.{In, contains_in, in_contained, in_left, in_right, in_either, in_filter, from_filter}
+use Rattle.list_versions.proofs.Mapped.{SetLaws, set_is}
+use Rattle.list_versions.proofs.Membership.{In, contains_in, in_contained, in_filter, from_filter}
 use Rattle.list_versions.proofs.Ranks.{places_by_counts}
-use Rattle.list_versions.proofs.Shiftings.{published_then, then_published}
+use Rattle.list_versions.proofs.Rising.{has_Contains, Contains-has, from_set, in_set}
+use Rattle.list_versions.proofs.Shiftings.{from_both, into_both, published_then, then_published}
 use Rattle.list_versions.proofs.Shown.{all_shown}
 
 not_true : (b : Bool) → not b ≡ true → b ≡ false
@@ -43,12 +43,6 @@ or_first false b h = refl
 or_second : (a b : Bool) → (a || b) ≡ false → b ≡ false
 or_second true b h = absurd (cc)
 or_second false b h = h
-
-in_set : (x : List ℕ) (xs : List (List ℕ)) → In x xs → In x (set_of xs)
-in_set x xs i = in_contained x (set_of xs) ((members-set_of xs x).1 (contains_in x xs i))
-
-from_set : (x : List ℕ) (xs : List (List ℕ)) → In x (set_of xs) → In x xs
-from_set x xs i = in_contained x xs ((members-set_of xs x).0 (contains_in x (set_of xs) i))
 
 unless_true : (b : Bool) → (b ≡ true → ⊥) → b ≡ false
 unless_true true h = absurd (h refl)
@@ -98,13 +92,10 @@ abbrev set_with : List Added → List Added → List (List ℕ)
 set_with first others = set_of (map prefix_of (first ++ others))
 
 into : (x : List ℕ) (first others : List Added) → In x (map prefix_of first) ⊎ In x (map prefix_of others) → In x (set_with first others)
-into x first others e = in_set x (map prefix_of (first ++ others)) (subst (λ xs. In x xs) (sym (map-append {B = List ℕ} prefix_of first others)) (elim e [
-  | inl i ↦ in_left x (map prefix_of first) (map prefix_of others) i
-  | inr i ↦ in_right x (map prefix_of first) (map prefix_of others) i
-]))
+into x first others e = in_set x (map prefix_of (first ++ others)) (into_both x first others e)
 
 out : (x : List ℕ) (first others : List Added) → In x (set_with first others) → In x (map prefix_of first) ⊎ In x (map prefix_of others)
-out x first others i = in_either x (map prefix_of first) (map prefix_of others) (subst (λ xs. In x xs) (map-append {B = List ℕ} prefix_of first others) (from_set x (map prefix_of (first ++ others)) i))
+out x first others i = from_both x first others (from_set x (map prefix_of (first ++ others)) i)
 
 has_not_in : (x : List ℕ) (set : List (List ℕ)) → has_member set x ≡ false → In x set → ⊥
 has_not_in x set h i = let yes = Contains-has set x (contains_in x set i) in cc (h, yes)
@@ -114,10 +105,10 @@ lacks set member = not (has_member set member)
 
 -- ---- what the older set alone has
 
-pub lost_is : (first went came : List Added) → set_of (added_members (set_with first came) (map prefix_of went)) ≡ added_members (set_with first came) (set_with first went)
-lost_is first went came =
-    rising_unique (set_of (added_members newest (map prefix_of went))) (added_members newest older) (rising-set_of (added_members newest (map prefix_of went)))
-    (IsStrictlySortedBy-filter bytes_cmp (lacks newest) older (rising-set_of (map prefix_of (first ++ went)))) there back
+pub lost_is : SetLaws → (first went came : List Added) → set_of (added_members (set_with first came) (map prefix_of went)) ≡ added_members (set_with first came) (set_with first went)
+lost_is laws first went came =
+    sym (set_is laws (added_members newest older) (added_members newest (map prefix_of went))
+    (IsStrictlySortedBy-filter bytes_cmp (lacks newest) older (laws.rising (map prefix_of (first ++ went)))) (λ z. (there z, back z)))
   where
     newest : List (List ℕ)
     newest = set_with first came
@@ -125,26 +116,26 @@ lost_is first went came =
     older : List (List ℕ)
     older = set_with first went
 
-    there : (z : List ℕ) → Contains (set_of (added_members newest (map prefix_of went))) z → Contains (added_members newest older) z
+    there : (z : List ℕ) → Contains (added_members newest older) z → Contains (added_members newest (map prefix_of went)) z
     there z c =
-        let from = from_filter (lacks newest) z (map prefix_of went) (from_set z (added_members newest (map prefix_of went)) (in_contained z (set_of (added_members newest (map prefix_of went))) c)) in
-        contains_in z (added_members newest older) (in_filter (lacks newest) z older from.1 (into z first went (inr from.0)))
-
-    back : (z : List ℕ) → Contains (added_members newest older) z → Contains (set_of (added_members newest (map prefix_of went))) z
-    back z c =
         let from = from_filter (lacks newest) z older (in_contained z (added_members newest older) c) in
-        contains_in z (set_of (added_members newest (map prefix_of went))) (in_set z (added_members newest (map prefix_of went)) (elim (out z first went from.0) [
+        contains_in z (added_members newest (map prefix_of went)) (elim (out z first went from.0) [
           | inl i ↦ absurd (has_not_in z newest (not_true (has_member newest z) from.1) (into z first came (inl i)))
           | inr i ↦ in_filter (lacks newest) z (map prefix_of went) from.1 i
-        ]))
+        ])
+
+    back : (z : List ℕ) → Contains (added_members newest (map prefix_of went)) z → Contains (added_members newest older) z
+    back z c =
+        let from = from_filter (lacks newest) z (map prefix_of went) (in_contained z (added_members newest (map prefix_of went)) c) in
+        contains_in z (added_members newest older) (in_filter (lacks newest) z older from.1 (into z first went (inr from.0)))
 
 -- ---- what the newest set alone has
 
-pub gained_is : (live : Live) (lines : List Line) (count : ℕ) (went came : List Added) → IsPlaced live lines → All IsPublishable (unended (take count lines))
+pub gained_is : SetLaws → (live : Live) (lines : List Line) (count : ℕ) (went came : List Added) → IsPlaced live lines → All IsPublishable (unended (take count lines))
     → set_of (gained_of live.buckets.entries count (set_of (map prefix_of went)) (map prefix_of came)) ≡ added_members (set_with (unended (take count lines)) went) (set_with (unended (take count lines)) came)
-gained_is live lines count went came placed well =
-    rising_unique (set_of (filter is_new (map prefix_of came))) (added_members older newest) (rising-set_of (filter is_new (map prefix_of came)))
-    (IsStrictlySortedBy-filter bytes_cmp (lacks older) newest (rising-set_of (map prefix_of (first ++ came)))) there back
+gained_is laws live lines count went came placed well =
+    sym (set_is laws (added_members older newest) (filter is_new (map prefix_of came))
+    (IsStrictlySortedBy-filter bytes_cmp (lacks older) newest (laws.rising (map prefix_of (first ++ came)))) (λ z. (there z, back z)))
   where
     first : List Added
     first = unended (take count lines)
@@ -170,27 +161,27 @@ gained_is live lines count went came placed well =
       | inr j ↦ has_not_in z gone (or_second (is_first z) (has_member gone z) none) (in_set z (map prefix_of went) j)
     ]
 
-    there : (z : List ℕ) → Contains (set_of (filter is_new (map prefix_of came))) z → Contains (added_members older newest) z
-    there z c =
-        let from = from_filter is_new z (map prefix_of came) (from_set z (filter is_new (map prefix_of came)) (in_contained z (set_of (filter is_new (map prefix_of came))) c)) in
-        let none = not_true (was_published live.buckets.entries count gone z) from.1 in
-        contains_in z (added_members older newest)
-        (in_filter (lacks older) z newest (ap not (has_not older z (λ h. lacking z none (in_contained z older h)))) (into z first came (inr from.0)))
-
     unpublished : (z : List ℕ) → has_member older z ≡ false → is_new z ≡ true
     unpublished z none =
         ap not (or_false (is_first z) (has_member gone z)
         (unless_true (is_first z) (λ yes. has_not_in z older none (into z first went (inl (published_then live lines count z placed yes)))))
         (has_not gone z (λ h. has_not_in z older none (into z first went (inr (from_set z (map prefix_of went) (in_contained z gone h)))))))
 
-    back : (z : List ℕ) → Contains (added_members older newest) z → Contains (set_of (filter is_new (map prefix_of came))) z
-    back z c =
+    there : (z : List ℕ) → Contains (added_members older newest) z → Contains (filter is_new (map prefix_of came)) z
+    there z c =
         let from = from_filter (lacks older) z newest (in_contained z (added_members older newest) c) in
         let none = not_true (has_member older z) from.1 in
-        contains_in z (set_of (filter is_new (map prefix_of came))) (in_set z (filter is_new (map prefix_of came)) (elim (out z first came from.0) [
+        contains_in z (filter is_new (map prefix_of came)) (elim (out z first came from.0) [
           | inl i ↦ absurd (has_not_in z older none (into z first went (inl i)))
           | inr i ↦ in_filter is_new z (map prefix_of came) (unpublished z none) i
-        ]))
+        ])
+
+    back : (z : List ℕ) → Contains (filter is_new (map prefix_of came)) z → Contains (added_members older newest) z
+    back z c =
+        let from = from_filter is_new z (map prefix_of came) (in_contained z (filter is_new (map prefix_of came)) c) in
+        let none = not_true (was_published live.buckets.entries count gone z) from.1 in
+        contains_in z (added_members older newest)
+        (in_filter (lacks older) z newest (ap not (has_not older z (λ h. lacking z none (in_contained z older h)))) (into z first came (inr from.0)))
 
 -- ---- both
 
@@ -201,30 +192,30 @@ pub record AreApart (live : Live) (count : ℕ) (newest lost gained : List (List
   pub is_lost : lost ≡ set_of (added_members newest (map shown went))
   pub is_gained : gained ≡ set_of (gained_of live.buckets.entries count (set_of (map prefix_of went)) (map shown came))
 
-pub lost_apart : (live : Live) (lines : List Line) (count : ℕ) (newest lost gained : List (List ℕ)) (went came : List Added) → AreApart live count newest lost gained went came
+pub lost_apart : SetLaws → (live : Live) (lines : List Line) (count : ℕ) (newest lost gained : List (List ℕ)) (went came : List Added) → AreApart live count newest lost gained went came
     → newest ≡ set_of (map prefix_of (unended (take count lines) ++ came)) → lost ≡ added_members newest (set_of (map prefix_of (unended (take count lines) ++ went)))
-lost_apart live lines count newest lost gained went came are is =
+lost_apart laws live lines count newest lost gained went came are is =
     are.is_lost ∙ ap (λ (xs : List (List ℕ)). set_of (added_members newest xs)) (all_shown went are.well_went)
     ∙ subst (λ (n : List (List ℕ)). set_of (added_members n (map prefix_of went)) ≡ added_members n (set_with (unended (take count lines)) went)) (sym is)
-    (lost_is (unended (take count lines)) went came)
+    (lost_is laws (unended (take count lines)) went came)
 
-pub gained_apart : (live : Live) (lines : List Line) (count : ℕ) (newest lost gained : List (List ℕ)) (went came : List Added) → AreApart live count newest lost gained went came
+pub gained_apart : SetLaws → (live : Live) (lines : List Line) (count : ℕ) (newest lost gained : List (List ℕ)) (went came : List Added) → AreApart live count newest lost gained went came
     → IsPlaced live lines → All IsPublishable (unended (take count lines)) → newest ≡ set_of (map prefix_of (unended (take count lines) ++ came))
     → gained ≡ added_members (set_of (map prefix_of (unended (take count lines) ++ went))) newest
-gained_apart live lines count newest lost gained went came are placed well is =
+gained_apart laws live lines count newest lost gained went came are placed well is =
     are.is_gained ∙ ap (λ (xs : List (List ℕ)). set_of (gained_of live.buckets.entries count (set_of (map prefix_of went)) xs)) (all_shown came are.well_came)
-    ∙ gained_is live lines count went came placed well
+    ∙ gained_is laws live lines count went came placed well
     ∙ ap (added_members (set_with (unended (take count lines)) went)) (sym is)
 
-pub removals_apart : (live : Live) (lines : List Line) (count : ℕ) (newest lost gained : List (List ℕ)) (went came : List Added) (removals : List ℕ) → AreApart live count newest lost gained went came
+pub removals_apart : SetLaws → (live : Live) (lines : List Line) (count : ℕ) (newest lost gained : List (List ℕ)) (went came : List Added) (removals : List ℕ) → AreApart live count newest lost gained went came
     → IsPlaced live lines → All IsPublishable (unended (take count lines)) → newest ≡ set_of (map prefix_of (unended (take count lines) ++ came))
     → removals ≡ map (older_place newest lost gained) lost → removals ≡ removed_places (set_of (map prefix_of (unended (take count lines) ++ went))) newest
-removals_apart live lines count newest lost gained went came removals are placed well is places =
+removals_apart laws live lines count newest lost gained went came removals are placed well is places =
     let older = set_with (unended (take count lines)) went in
-    let up : IsRising newest = subst IsRising (sym is) (rising-set_of (map prefix_of (unended (take count lines) ++ came))) in
-    places ∙ ap (λ (l : List (List ℕ)). map (older_place newest l gained) l) (lost_apart live lines count newest lost gained went came are is)
-    ∙ ap (λ (g : List (List ℕ)). map (older_place newest (added_members newest older) g) (added_members newest older)) (gained_apart live lines count newest lost gained went came are placed well is)
-    ∙ sym (places_by_counts older newest (rising-set_of (map prefix_of (unended (take count lines) ++ went))) up)
+    let up : IsRising newest = subst IsRising (sym is) (laws.rising (map prefix_of (unended (take count lines) ++ came))) in
+    places ∙ ap (λ (l : List (List ℕ)). map (older_place newest l gained) l) (lost_apart laws live lines count newest lost gained went came are is)
+    ∙ ap (λ (g : List (List ℕ)). map (older_place newest (added_members newest older) g) (added_members newest older)) (gained_apart laws live lines count newest lost gained went came are placed well is)
+    ∙ sym (places_by_counts laws older newest (laws.rising (map prefix_of (unended (take count lines) ++ went))) up)
 
 pub ok_then : {D E : Type 0} (result : Result D E) (P Q : D → Type 0) → ((found : D) → P found → Q found) → IfOk result P → IfOk result Q
 ok_then (Err fault) P Q more h = tt

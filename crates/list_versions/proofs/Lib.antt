@@ -45,6 +45,7 @@ pub mod ReadBack
 pub mod Reading
 pub mod Records
 pub mod Renewed
+pub mod Rising
 pub mod Shiftings
 pub mod Shifts
 pub mod Shown

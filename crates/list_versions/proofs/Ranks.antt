@@ -1,6 +1,6 @@
 -- The places of the members of a rising list, by how many members come before them.
-use Rattle.std.proofs.Common.{◌≡◌, ◌≢◌, ℕ, ◌+◌, ◌<◌, ◌≤◌, inl, inr, Bool, true, false, not, cond, List, [], ◌∷◌, length, take, map, get_or, Some, refl, sym, ap, subst, ◌∙◌, arith}
-use Rattle.std.specs.Prelude.{Contains, filter, slice_get}
+use Rattle.std.proofs.Common.{◌≡◌, ◌≢◌, ℕ, zero, suc, ◌+◌, ◌<◌, ◌≤◌, inl, inr, Bool, true, false, not, cond, List, [], ◌∷◌, length, take, map, get_or, Some, refl, sym, ap, subst, ◌∙◌, arith}
+use Rattle.std.specs.Prelude.{Contains, count_by, filter, slice_get}
 use Rattle.std.specs.List.{enumerate_from}
 use Rattle.std.specs.Ordering.{is_lt}
 use Rattle.std.specs.declared.cmp.Ordering.{Ordering}
@@ -12,17 +12,28 @@ use Rattle.std.proofs.lemmas.List.Kept.{IsStrictlySortedBy-filter}
 use Rattle.std.proofs.lemmas.List.Sums.{sum_by-cons}
 use Rattle.std.proofs.lemmas.Map.Keys.{sorted_tail}
 use Rattle.std.proofs.lemmas.Option.{get_or_from_slice_get, slice_get_within}
-use Rattle.prefix_set.proofs.DifferenceFacts.{has_Contains, Contains-has}
-use Rattle.prefix_set.proofs.LookupFacts.{count_at_point}
-use Rattle.prefix_set.proofs.SearchFacts.{rising_places}
-use Rattle.prefix_set.proofs.SetFacts.{IsBefore, after_head, before_itself, before_trans, rising_unique}
 use Rattle.sb_model.specs.Difference.{has_member, removed_places, added_members}
 use Rattle.sb_model.specs.Prefixes.{bytes_cmp, IsRising}
 use Rattle.list_versions.specs.Leading.{count_before, older_place}
 use Rattle.list_versions.specs.Shifting.{IsFirstAt}
+use Rattle.list_versions.proofs.Mapped.{SetLaws}
 use Rattle.list_versions.proofs.Membership.{In, contains_in, in_contained, in_filter, from_filter}
+use Rattle.list_versions.proofs.Rising.{IsBefore, after_head, before_itself, before_trans, has_Contains, Contains-has, rising_places}
 
 -- ---- a place is a count
+
+-- what passes a test stands in front of what does not: then their count is the place between them
+count_at_point : (test : List ℕ → Bool) (xs : List (List ℕ)) (i : ℕ) → i ≤ length xs → ((k : ℕ) (d : List ℕ) → k < i → test (get_or xs k d) ≡ true)
+    → ((k : ℕ) (d : List ℕ) → i ≤ k → k < length xs → test (get_or xs k d) ≡ false) → count_by test xs ≡ i
+count_at_point test [] i within passes fails = omega arith
+count_at_point test (x ∷ xs) zero within passes fails =
+    let none : ◌≡◌ {A = ℕ} (cond (test x) 1 0) 0 = ap (λ (b : Bool). cond {A = ℕ} b 1 0) (fails 0 x (omega arith) (omega arith)) in
+    let rest = count_at_point test xs 0 (omega arith) (λ k d lt. absurd (omega arith)) (λ k d ge lt. fails (suc k) d (omega arith) (omega arith)) in
+    omega (arith, sum_by-cons (λ (y : List ℕ). cond (test y) 1 0) x xs, none, rest)
+count_at_point test (x ∷ xs) (suc i) within passes fails =
+    let one : ◌≡◌ {A = ℕ} (cond (test x) 1 0) 1 = ap (λ (b : Bool). cond {A = ℕ} b 1 0) (passes 0 x (omega arith)) in
+    let rest = count_at_point test xs i (omega arith) (λ k d lt. passes (suc k) d (omega arith)) (λ k d ge lt. fails (suc k) d (omega arith) (omega arith)) in
+    omega (arith, sum_by-cons (λ (y : List ℕ). cond (test y) 1 0) x xs, one, rest)
 
 not_lt : (o : Ordering) → (o ≡ Less → ⊥) → is_lt o ≡ false
 not_lt Less h = absurd (h refl)
@@ -107,26 +118,26 @@ shared xs ys z c =
     let from = from_filter (has_member ys) z xs (in_contained z (filter (has_member ys) xs) c) in
     contains_in z (filter (has_member xs) ys) (in_filter (has_member xs) z ys (Contains-has xs z (contains_in z xs from.0)) (in_contained z ys (has_Contains ys z from.1)))
 
-same_shared : (old newer : List (List ℕ)) → IsRising old → IsRising newer → filter (has_member newer) old ≡ filter (has_member old) newer
-same_shared old newer up_old up_newer =
-    rising_unique (filter (has_member newer) old) (filter (has_member old) newer)
+same_shared : SetLaws → (old newer : List (List ℕ)) → IsRising old → IsRising newer → filter (has_member newer) old ≡ filter (has_member old) newer
+same_shared laws old newer up_old up_newer =
+    laws.only (filter (has_member newer) old) (filter (has_member old) newer)
     (IsStrictlySortedBy-filter bytes_cmp (has_member newer) old up_old) (IsStrictlySortedBy-filter bytes_cmp (has_member old) newer up_newer)
-    (shared old newer) (shared newer old)
+    (λ z. (shared old newer z, shared newer old z))
 
 divided : (set xs : List (List ℕ)) (r : List ℕ) → count_before (filter (has_member set) xs) r + count_before (added_members set xs) r ≡ count_before xs r
 divided set xs r = sum_by-filter_both (has_member set) (λ (x : List ℕ). not (has_member set x)) (λ _. refl) (λ (y : List ℕ). cond (is_lt (bytes_cmp y r)) 1 0) xs
 
-balanced : (old newer : List (List ℕ)) (r : List ℕ) → IsRising old → IsRising newer
+balanced : SetLaws → (old newer : List (List ℕ)) (r : List ℕ) → IsRising old → IsRising newer
     → count_before old r + count_before (added_members old newer) r ≡ count_before newer r + count_before (added_members newer old) r
-balanced old newer r up_old up_newer =
-    let same : count_before (filter (has_member newer) old) r ≡ count_before (filter (has_member old) newer) r = ap (λ (xs : List (List ℕ)). count_before xs r) (same_shared old newer up_old up_newer) in
+balanced laws old newer r up_old up_newer =
+    let same : count_before (filter (has_member newer) old) r ≡ count_before (filter (has_member old) newer) r = ap (λ (xs : List (List ℕ)). count_before xs r) (same_shared laws old newer up_old up_newer) in
     omega (arith, same, divided newer old r, divided old newer r)
 
 -- The place of a member that a newer list lacks is counted in the newer list: with the others that it lacks, and without those
 -- that it alone has.
-pub places_by_counts : (old newer : List (List ℕ)) → IsRising old → IsRising newer
+pub places_by_counts : SetLaws → (old newer : List (List ℕ)) → IsRising old → IsRising newer
     → removed_places old newer ≡ map (older_place newer (added_members newer old) (added_members old newer)) (added_members newer old)
-places_by_counts old newer up_old up_newer =
+places_by_counts laws old newer up_old up_newer =
     counted 0 old newer up_old
     ∙ agree (λ r. 0 + count_before old r) (older_place newer (added_members newer old) (added_members old newer)) (added_members newer old)
-    (λ r k. omega (arith, balanced old newer r up_old up_newer))
+    (λ r k. omega (arith, balanced laws old newer r up_old up_newer))

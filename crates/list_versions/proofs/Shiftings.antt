@@ -9,8 +9,6 @@ use Rattle.std.proofs.lemmas.Bool.{ltb-true}
 use Rattle.std.proofs.lemmas.List.{append-nil, map-append, take_more, take-take}
 use Rattle.std.proofs.lemmas.List.Elements.{All-contains}
 use Rattle.std.proofs.lemmas.Option.{get_or_from_slice_get, slice_get_within, slice_get-get_or}
-use Rattle.prefix_set.proofs.SearchFacts.{rising_places}
-use Rattle.prefix_set.proofs.SetFacts.{IsBefore, before_itself, members-set_of, rising-set_of, rising_unique}
 use Rattle.prefix_set.specs.Apply.{Stays}
 use Rattle.sb_model.specs.declared.history.Added.{Added}
 use Rattle.sb_model.specs.History.{prefix_of}
@@ -21,7 +19,9 @@ use Rattle.list_versions.specs.Shifting.{AreGoing, Goes, is_published, publishes
 use Rattle.list_versions.specs.declared.bucket.Standing.{Standing}
 use Rattle.list_versions.specs.declared.live.Live.{Live}
 use Rattle.list_versions.proofs.Finding.{same_bytes, bytes_are_same}
+use Rattle.list_versions.proofs.Mapped.{SetLaws, set_is}
 use Rattle.list_versions.proofs.Membership.{In, Shows, contains_in, in_contained, in_left, in_right, in_either, in_map, from_map, in_filter, from_filter}
+use Rattle.list_versions.proofs.Rising.{IsBefore, before_itself, from_set, in_set, rising_places}
 
 -- ---- places of a set
 
@@ -201,49 +201,48 @@ then_published live lines count x h well there =
 
 -- ---- the set that is reached
 
-pub reached : (live : Live) (lines : List Line) (count : ℕ) (set next : List (List ℕ)) (leaving coming : List Added) (removals : List ℕ) → IsPlaced live lines → All IsPublishable (unended (take count lines))
+-- the prefixes of the first lines and of others
+pub into_both : (x : List ℕ) (first others : List Added) → In x (map prefix_of first) ⊎ In x (map prefix_of others) → In x (map prefix_of (first ++ others))
+into_both x first others e = subst (λ xs. In x xs) (sym (map-append {B = List ℕ} prefix_of first others)) (elim e [
+  | inl i ↦ in_left x (map prefix_of first) (map prefix_of others) i
+  | inr i ↦ in_right x (map prefix_of first) (map prefix_of others) i
+])
+
+pub from_both : (x : List ℕ) (first others : List Added) → In x (map prefix_of (first ++ others)) → In x (map prefix_of first) ⊎ In x (map prefix_of others)
+from_both x first others i = in_either x (map prefix_of first) (map prefix_of others) (subst (λ xs. In x xs) (map-append {B = List ℕ} prefix_of first others) i)
+
+pub reached : SetLaws → (live : Live) (lines : List Line) (count : ℕ) (set next : List (List ℕ)) (leaving coming : List Added) (removals : List ℕ) → IsPlaced live lines → All IsPublishable (unended (take count lines))
     → set ≡ set_of (map prefix_of (unended (take count lines) ++ leaving)) → AreGoing set live.buckets.entries count (map prefix_of leaving) removals
     → IsRising next → ((x : List ℕ) → Contains next x ↔ (Stays set removals x ⊎ Contains (map prefix_of coming) x))
     → next ≡ set_of (map prefix_of (unended (take count lines) ++ coming))
-reached live lines count set next leaving coming removals h well is going up members =
-    rising_unique next (set_of (map prefix_of (first ++ coming))) up (rising-set_of (map prefix_of (first ++ coming))) there back
+reached laws live lines count set next leaving coming removals h well is going up members = set_is laws next (map prefix_of (first ++ coming)) up (λ x. (there x, back x))
   where
     first : List Added
     first = unended (take count lines)
 
-    into : (x : List ℕ) (others : List Added) → In x (map prefix_of first) ⊎ In x (map prefix_of others) → Contains (set_of (map prefix_of (first ++ others))) x
-    into x others e =
-        (members-set_of (map prefix_of (first ++ others)) x).1 (contains_in x (map prefix_of (first ++ others)) (subst (λ xs. In x xs) (sym (map-append {B = List ℕ} prefix_of first others)) (elim e [
-          | inl i ↦ in_left x (map prefix_of first) (map prefix_of others) i
-          | inr i ↦ in_right x (map prefix_of first) (map prefix_of others) i
-        ])))
-
-    out : (x : List ℕ) (others : List Added) → Contains (set_of (map prefix_of (first ++ others))) x → In x (map prefix_of first) ⊎ In x (map prefix_of others)
-    out x others c =
-        in_either x (map prefix_of first) (map prefix_of others) (subst (λ xs. In x xs) (map-append {B = List ℕ} prefix_of first others)
-        (in_contained x (map prefix_of (first ++ others)) ((members-set_of (map prefix_of (first ++ others)) x).0 c)))
-
     stays_in : (x : List ℕ) (place : ℕ) → slice_get set place ≡ Some x → (Contains removals place → ⊥) → (b : Bool) → is_published count (lines_in live.buckets.entries (take 4 x)) x ≡ b → In x (map prefix_of first)
     stays_in x place at left true e = published_then live lines count x h e
-    stays_in x place at left false e = elim (out x leaving (subst (λ s. Contains s x) is (contains_at set place x at))) [
-      | inl i ↦ i
-      | inr i ↦ absurd (left (going.all place x (contains_in x (map prefix_of leaving) i) at e))
-    ]
+    stays_in x place at left false e =
+        let listed = subst (λ s. In x s) is (in_contained x set (contains_at set place x at)) in
+        elim (from_both x first leaving (from_set x (map prefix_of (first ++ leaving)) listed)) [
+          | inl i ↦ i
+          | inr i ↦ absurd (left (going.all place x (contains_in x (map prefix_of leaving) i) at e))
+        ]
 
-    there : (x : List ℕ) → Contains next x → Contains (set_of (map prefix_of (first ++ coming))) x
-    there x c = elim ((members x).0 c) [
-      | inl stays ↦ into x coming (inl (stays_in x stays.0 stays.1 stays.2 (is_published count (lines_in live.buckets.entries (take 4 x)) x) refl))
-      | inr came ↦ into x coming (inr (in_contained x (map prefix_of coming) came))
-    ]
+    there : (x : List ℕ) → Contains next x → Contains (map prefix_of (first ++ coming)) x
+    there x c = contains_in x (map prefix_of (first ++ coming)) (into_both x first coming (elim ((members x).0 c) [
+      | inl stays ↦ inl (stays_in x stays.0 stays.1 stays.2 (is_published count (lines_in live.buckets.entries (take 4 x)) x) refl)
+      | inr came ↦ inr (in_contained x (map prefix_of coming) came)
+    ]))
 
     kept : (x : List ℕ) → In x (map prefix_of first) → Stays set removals x
     kept x i =
-        let c : Contains set x = subst (λ s. Contains s x) (sym is) (into x leaving (inl i)) in
+        let c : Contains set x = contains_in x set (subst (λ s. In x s) (sym is) (in_set x (map prefix_of (first ++ leaving)) (into_both x first leaving (inl i)))) in
         let at : slice_get set c.0 ≡ Some x = slice_get-get_or set c.0 x c.1 ∙ ap Some c.2 in
         (c.0, at, λ gone. let none = going.only c.0 x gone at in let yes = then_published live lines count x h well i in cc (none, yes))
 
-    back : (x : List ℕ) → Contains (set_of (map prefix_of (first ++ coming))) x → Contains next x
-    back x c = (members x).1 (elim (out x coming c) [
+    back : (x : List ℕ) → Contains (map prefix_of (first ++ coming)) x → Contains next x
+    back x c = (members x).1 (elim (from_both x first coming (in_contained x (map prefix_of (first ++ coming)) c)) [
       | inl i ↦ inl (kept x i)
       | inr i ↦ inr (contains_in x (map prefix_of coming) i)
     ])

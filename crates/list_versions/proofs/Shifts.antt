@@ -5,7 +5,6 @@ use Rattle.std.proofs.lemmas.Bool.{eqb-true}
 use Rattle.std.proofs.lemmas.Bool.Decides.{nat_tests}
 use Rattle.std.proofs.lemmas.List.{map-append, take-append-drop, take_all}
 use Rattle.std.proofs.lemmas.List.Elements.{All-contains, Contains-get_or}
-use Rattle.prefix_set.proofs.SetFacts.{set_unique}
 use Rattle.sb_model.specs.declared.history.Added.{Added}
 use Rattle.sb_model.specs.declared.history.Change.{Change}
 use Rattle.sb_model.specs.declared.names.ListName.{ListName}
@@ -21,6 +20,7 @@ use Rattle.list_versions.specs.declared.draft.Draft.{Draft}
 use Rattle.list_versions.specs.declared.live.Live.{Live}
 use Rattle.list_versions.proofs.Ended.{unended_append}
 use Rattle.list_versions.proofs.Folds.{publishable_at}
+use Rattle.list_versions.proofs.Mapped.{SetLaws, set_is}
 use Rattle.list_versions.proofs.Membership.{In, contains_in, in_contained, in_left, in_right, in_either, in_map, from_map}
 use Rattle.list_versions.proofs.Shown.{all_shown}
 use Rattle.list_versions.proofs.Versions.{newest_lines}
@@ -66,8 +66,10 @@ join v [] x small (inr h) = absurd h
 join v (line ∷ lines) x small h = join_step v line (nat_lt v line.1) (line.1 == never) x lines small refl refl h (λ i. join v lines x small i)
 
 -- the prefixes of a version
-earlier_prefixes : (v : ℕ) (lines : List Line) → v < never → set_of (map prefix_of (standing v lines)) ≡ set_of (map prefix_of (unended lines ++ lasting v false lines))
-earlier_prefixes v lines small = set_unique (map prefix_of (standing v lines)) (map prefix_of (unended lines ++ lasting v false lines)) (λ z. (there z, back z))
+earlier_prefixes : SetLaws → (v : ℕ) (lines : List Line) → v < never → set_of (map prefix_of (standing v lines)) ≡ set_of (map prefix_of (unended lines ++ lasting v false lines))
+earlier_prefixes laws v lines small =
+    set_is laws (set_of (map prefix_of (standing v lines))) (map prefix_of (unended lines ++ lasting v false lines)) (laws.rising (map prefix_of (standing v lines)))
+    (λ z. (λ c. there z ((laws.members (map prefix_of (standing v lines)) z).0 c), λ c. (laws.members (map prefix_of (standing v lines)) z).1 (back z c)))
   where
     there : (z : List ℕ) → Contains (map prefix_of (standing v lines)) z → Contains (map prefix_of (unended lines ++ lasting v false lines)) z
     there z c =
@@ -96,9 +98,9 @@ pub record IsShifted (draft : Draft) (list : ListName) (version : ℕ) (lines : 
 all_in : (P : Added → Type 0) (whole part : List Added) → All P whole → ((x : Added) → In x part → In x whole) → All P part
 all_in P whole part h within k d lt = All-contains P whole (get_or part k d) h (contains_in (get_or part k d) whole (within (get_or part k d) (in_contained (get_or part k d) part (Contains-get_or part k d lt))))
 
-pub shifts : (draft : Draft) (list : ListName) (version count : ℕ) (live : Live) (placed : HasPlaced list draft.changes.items live) → IsStem draft → version ≤ length draft.changes.items
+pub shifts : SetLaws → (draft : Draft) (list : ListName) (version count : ℕ) (live : Live) (placed : HasPlaced list draft.changes.items live) → IsStem draft → version ≤ length draft.changes.items
     → count ≡ length (adds_of list (take version draft.changes.items)) → IsShifted draft list version placed.lines count
-shifts draft list version count live placed h within e =
+shifts laws draft list version count live placed h within e =
     let lines = placed.lines in
     let small : length draft.changes.items < never = omega (arith, h.few_changes) in
     let at : sizes_at (history_of draft) list version ≡ standing version (take count lines) =
@@ -110,7 +112,7 @@ shifts draft list version count live placed h within e =
     let well_now : All IsPublishable (unended (take count lines) ++ unended (drop count lines)) = subst (All IsPublishable) now (publishable_at draft list (length draft.changes.items) h) in
     let below : version < never = omega (arith, within, small) in
     record {
-      older = ap (λ es. set_of (map prefix_of es)) at ∙ earlier_prefixes version (take count lines) below;
+      older = ap (λ es. set_of (map prefix_of es)) at ∙ earlier_prefixes laws version (take count lines) below;
       newer = ap (λ es. set_of (map prefix_of es)) now;
       first = all_in IsPublishable _ (unended (take count lines)) well_now (λ x i. in_left x (unended (take count lines)) (unended (drop count lines)) i);
       went = all_in IsPublishable _ (lasting version false (take count lines)) well_at (λ x i. join version (take count lines) x below (inr i));

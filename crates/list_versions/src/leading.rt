@@ -14,7 +14,7 @@ use crate::places::first_at;
 use crate::published::{published_of, shown_prefix};
 use crate::shifting::{Shift, is_published_first, shift_since};
 use hash_prefixes::Prefix;
-use prefix_set::{Delta, PrefixSet};
+use prefix_set::{Delta, PrefixSet, sets_go_by_members};
 use sb_model::{Added, ListName, OutOfMemory, Row};
 use std::alloc::Global;
 
@@ -195,6 +195,7 @@ fn led_by(
         → newest.now ≡ set_of (map prefix_of (unended (take count lines) ++ came.now))
         → delta.additions ≡ added_members (set_of (map prefix_of (unended (take count lines) ++ went.now))) newest.now) }
 {
+    sets_go_by_members();
     let lost = lost_of(alloc, newest, went)?;
     let gained = gained_since(alloc, live, count, went, came)?;
     delta_of(alloc, newest, &lost, &gained)
@@ -216,6 +217,7 @@ pub(crate) fn leading(
     ensures removals { IfOk result (λ delta. delta.removals ≡ removed_places (prefixes_at (history_of draft.now) list version) newest.now) }
     ensures additions { IfOk result (λ delta. delta.additions ≡ added_members (prefixes_at (history_of draft.now) list version) newest.now) }
 {
+    sets_go_by_members();
     let changes = draft.changes.as_slice();
     let shift = shift_since(alloc, changes, list, live.ends.as_slice(), version)?;
     let Shift { went, came, count } = shift;

@@ -177,6 +177,7 @@ pub(crate) fn older_set(
     requires newest { newest.now ≡ prefixes_at (history_of draft.now) list (length draft.now.changes.items) }
     ensures { IfOk result (λ set. set ≡ prefixes_at (history_of draft.now) list version) }
 {
+    sets_go_by_members();
     let changes = draft.changes.as_slice();
     let shift = shift_since(alloc, changes, list, live.ends.as_slice(), version)?;
     let Shift { went, came, count } = shift;
@@ -200,6 +201,7 @@ pub(crate) fn newer_set(
     ensures set { IfOk result (λ newer. newer.set ≡ prefixes_at (history_of draft.now) list (length draft.now.changes.items)) }
     ensures numbers { IfOk result (λ newer. AreNumbersOf newer.set newer.numbers.items) }
 {
+    sets_go_by_members();
     let changes = draft.changes.as_slice();
     let shift = shift_since(alloc, changes, list, live.ends.as_slice(), version)?;
     let Shift { went, came, count } = shift;

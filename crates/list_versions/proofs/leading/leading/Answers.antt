@@ -9,6 +9,7 @@ use Rattle.list_versions.specs.Limits.{hash_lines}
 use Rattle.list_versions.specs.Live.{IsPublishable}
 use Rattle.list_versions.proofs.Folds.{read_placed}
 use Rattle.list_versions.proofs.Leads.{led_to}
+use Rattle.list_versions.proofs.Mapped.{SetLaws}
 use Rattle.list_versions.proofs.ReadBack.{ends_long}
 use Rattle.list_versions.proofs.Shifts.{found_of, shifts}
 use Rattle.list_versions.proofs.leading.leading.Goals as goal
@@ -26,7 +27,8 @@ led_by-requires c =
     let count = c.in_ok-shift.shift.count in
     let found = found_of c.args.list c.args.draft.now.changes.items c.args.live.now c.requires.placed c.args.version count c.in_ok-shift.shift.went.items c.in_ok-shift.shift.came.items c.as_slice-changes.result.now c.as_slice.result.now
     c.as_slice-changes.ensures.value c.as_slice.ensures.value c.in_ok-shift.ensures.went c.in_ok-shift.ensures.came in
-    let fact = shifts c.args.draft.now c.args.list c.args.version count c.args.live.now c.requires.placed c.requires.stem c.requires.version
+    let laws : SetLaws = record { rising = c.sets_go_by_members.ensures.rising; members = c.sets_go_by_members.ensures.members; only = c.sets_go_by_members.ensures.only } in
+    let fact = shifts laws c.args.draft.now c.args.list c.args.version count c.args.live.now c.requires.placed c.requires.stem c.requires.version
     (c.in_ok-shift.ensures.count ∙ ap (λ (cs : List Change). length (adds_of c.args.list (take c.args.version cs))) c.as_slice-changes.ensures.value) in
     record {
       went = subst (λ (es : List Added). All IsPublishable es) (sym (c.as_slice-2.ensures.value ∙ found.went)) fact.went;
@@ -38,7 +40,8 @@ returns-clause-removals c =
     let count = c.in_ok-shift.shift.count in
     let found = found_of c.args.list c.args.draft.now.changes.items c.args.live.now c.requires.placed c.args.version count c.in_ok-shift.shift.went.items c.in_ok-shift.shift.came.items c.as_slice-changes.result.now c.as_slice.result.now
     c.as_slice-changes.ensures.value c.as_slice.ensures.value c.in_ok-shift.ensures.went c.in_ok-shift.ensures.came in
-    let fact = shifts c.args.draft.now c.args.list c.args.version count c.args.live.now c.requires.placed c.requires.stem c.requires.version
+    let laws : SetLaws = record { rising = c.sets_go_by_members.ensures.rising; members = c.sets_go_by_members.ensures.members; only = c.sets_go_by_members.ensures.only } in
+    let fact = shifts laws c.args.draft.now c.args.list c.args.version count c.args.live.now c.requires.placed c.requires.stem c.requires.version
     (c.in_ok-shift.ensures.count ∙ ap (λ (cs : List Change). length (adds_of c.args.list (take c.args.version cs))) c.as_slice-changes.ensures.value) in
     led_to c.led_by.result (λ (delta : Delta) (older : List (List ℕ)). delta.removals ≡ removed_places older c.args.newest.now) c.args.live.now c.requires.placed.lines count _ c.args.newest.now c.as_slice-2.result.now c.as_slice-3.result.now
     (lasting c.args.version false (take count c.requires.placed.lines)) (unended (drop count c.requires.placed.lines))
@@ -49,7 +52,8 @@ returns-clause-additions c =
     let count = c.in_ok-shift.shift.count in
     let found = found_of c.args.list c.args.draft.now.changes.items c.args.live.now c.requires.placed c.args.version count c.in_ok-shift.shift.went.items c.in_ok-shift.shift.came.items c.as_slice-changes.result.now c.as_slice.result.now
     c.as_slice-changes.ensures.value c.as_slice.ensures.value c.in_ok-shift.ensures.went c.in_ok-shift.ensures.came in
-    let fact = shifts c.args.draft.now c.args.list c.args.version count c.args.live.now c.requires.placed c.requires.stem c.requires.version
+    let laws : SetLaws = record { rising = c.sets_go_by_members.ensures.rising; members = c.sets_go_by_members.ensures.members; only = c.sets_go_by_members.ensures.only } in
+    let fact = shifts laws c.args.draft.now c.args.list c.args.version count c.args.live.now c.requires.placed c.requires.stem c.requires.version
     (c.in_ok-shift.ensures.count ∙ ap (λ (cs : List Change). length (adds_of c.args.list (take c.args.version cs))) c.as_slice-changes.ensures.value) in
     led_to c.led_by.result (λ (delta : Delta) (older : List (List ℕ)). delta.additions ≡ added_members older c.args.newest.now) c.args.live.now c.requires.placed.lines count _ c.args.newest.now c.as_slice-2.result.now c.as_slice-3.result.now
     (lasting c.args.version false (take count c.requires.placed.lines)) (unended (drop count c.requires.placed.lines))

@@ -1,5 +1,5 @@
 use Rattle.std.proofs.Common.{arith, ◌∙◌, sym}
-use Rattle.prefix_set.proofs.SearchFacts.{before_upto, less_from_test, not_before_at}
+use Rattle.list_versions.proofs.Locating.{before_upto, less_from_test, not_before_at}
 use Rattle.list_versions.proofs.places.first_at.Goals as goal
 
 pub loop-low-preserved-then-eq : goal.loop-low-preserved-then-eq

@@ -7,6 +7,7 @@ use Rattle.list_versions.specs.Limits.{hash_lines}
 use Rattle.list_versions.specs.Live.{IsPublishable}
 use Rattle.list_versions.specs.Numbers.{AreNumbersOf}
 use Rattle.list_versions.proofs.Folds.{read_placed}
+use Rattle.list_versions.proofs.Mapped.{SetLaws}
 use Rattle.list_versions.proofs.ReadBack.{ends_long}
 use Rattle.list_versions.proofs.Shifts.{found_of, sets_shifted, shift_to, shifts}
 use Rattle.list_versions.proofs.shifting.newer_set.Goals as goal
@@ -24,7 +25,8 @@ shifted-requires c =
     let count = c.in_ok-shift.shift.count in
     let found = found_of c.args.list c.args.draft.now.changes.items c.args.live.now c.requires.placed c.args.version count c.in_ok-shift.shift.went.items c.in_ok-shift.shift.came.items c.as_slice-changes.result.now c.as_slice.result.now
     c.as_slice-changes.ensures.value c.as_slice.ensures.value c.in_ok-shift.ensures.went c.in_ok-shift.ensures.came in
-    let fact = shifts c.args.draft.now c.args.list c.args.version count c.args.live.now c.requires.placed c.requires.stem c.requires.version
+    let laws : SetLaws = record { rising = c.sets_go_by_members.ensures.rising; members = c.sets_go_by_members.ensures.members; only = c.sets_go_by_members.ensures.only } in
+    let fact = shifts laws c.args.draft.now c.args.list c.args.version count c.args.live.now c.requires.placed c.requires.stem c.requires.version
     (c.in_ok-shift.ensures.count ∙ ap (λ (cs : List Change). length (adds_of c.args.list (take c.args.version cs))) c.as_slice-changes.ensures.value) in
     record {
       leaving = subst (λ (es : List Added). All IsPublishable es) (sym (c.as_slice-went.ensures.value ∙ found.went)) fact.went;
@@ -36,7 +38,8 @@ renumbered-requires c =
     let count = c.in_ok-shift.shift.count in
     let found = found_of c.args.list c.args.draft.now.changes.items c.args.live.now c.requires.placed c.args.version count c.in_ok-shift.shift.went.items c.in_ok-shift.shift.came.items c.as_slice-changes.result.now c.as_slice.result.now
     c.as_slice-changes.ensures.value c.as_slice.ensures.value c.in_ok-shift.ensures.went c.in_ok-shift.ensures.came in
-    let fact = shifts c.args.draft.now c.args.list c.args.version count c.args.live.now c.requires.placed c.requires.stem c.requires.version
+    let laws : SetLaws = record { rising = c.sets_go_by_members.ensures.rising; members = c.sets_go_by_members.ensures.members; only = c.sets_go_by_members.ensures.only } in
+    let fact = shifts laws c.args.draft.now c.args.list c.args.version count c.args.live.now c.requires.placed c.requires.stem c.requires.version
     (c.in_ok-shift.ensures.count ∙ ap (λ (cs : List Change). length (adds_of c.args.list (take c.args.version cs))) c.as_slice-changes.ensures.value) in
     let set = shift_to {E = ℕ} (Ok c.in_ok-set.set) c.args.live.now c.requires.placed.lines count c.args.older.now.set _ c.as_slice-went.result.now c.as_slice-came.result.now
     (lasting c.args.version false (take count c.requires.placed.lines)) (unended (drop count c.requires.placed.lines))
@@ -53,7 +56,8 @@ returns-clause-set c =
     let count = c.in_ok-shift.shift.count in
     let found = found_of c.args.list c.args.draft.now.changes.items c.args.live.now c.requires.placed c.args.version count c.in_ok-shift.shift.went.items c.in_ok-shift.shift.came.items c.as_slice-changes.result.now c.as_slice.result.now
     c.as_slice-changes.ensures.value c.as_slice.ensures.value c.in_ok-shift.ensures.went c.in_ok-shift.ensures.came in
-    let fact = shifts c.args.draft.now c.args.list c.args.version count c.args.live.now c.requires.placed c.requires.stem c.requires.version
+    let laws : SetLaws = record { rising = c.sets_go_by_members.ensures.rising; members = c.sets_go_by_members.ensures.members; only = c.sets_go_by_members.ensures.only } in
+    let fact = shifts laws c.args.draft.now c.args.list c.args.version count c.args.live.now c.requires.placed c.requires.stem c.requires.version
     (c.in_ok-shift.ensures.count ∙ ap (λ (cs : List Change). length (adds_of c.args.list (take c.args.version cs))) c.as_slice-changes.ensures.value) in
     shift_to {E = ℕ} (Ok c.in_ok-set.set) c.args.live.now c.requires.placed.lines count c.args.older.now.set _ c.as_slice-went.result.now c.as_slice-came.result.now
     (lasting c.args.version false (take count c.requires.placed.lines)) (unended (drop count c.requires.placed.lines))
