@@ -23,7 +23,7 @@ use Rattle.update_client.specs.declared.fault.ListResult.TheVariants.{Installed,
 use Rattle.update_client.specs.declared.options.FetchOptions.{FetchOptions}
 use Rattle.wait_rules.specs.declared.waits.WaitState.{WaitState}
 use Rattle.sb_round.specs.Round.{Round, IsRound, named_results, taken_from, lists_after_round, waits_after_round, updates_of}
-use Rattle.sb_round.specs.Rounds.{AreRounds, body_of, entry_of}
+use Rattle.sb_round.specs.Rounds.{AreRounds, round_updates, round_entry}
 use Rattle.sb_round.specs.Run.{lists_after}
 use Rattle.sb_round.specs.declared.rounds.RoundFault.{RoundFault}
 use Rattle.sb_round.specs.declared.rounds.Taken.{Taken}
@@ -100,7 +100,7 @@ module _ (under : Below) (go : NamesGo) (itself : (name : ListName) → same_nam
     (history : History) (token_at : Naming) (can : CanBeServed history) (naming : IsNaming history token_at) (bytes : HasByteTokens history token_at)
     (options : FetchOptions) (target : Target) (need : Bool)
   where
-    is_answered : (lists : List Held) (waits : WaitState) (round : Round) → AreServed history token_at lists → IsRound lists waits options target need round → (version : ℕ) → IsAnsweredAt history token_at target (entry_of round) version
+    is_answered : (lists : List Held) (waits : WaitState) (round : Round) → AreServed history token_at lists → IsRound lists waits options target need round → (version : ℕ) → IsAnsweredAt history token_at target (round_entry round) version
         → IsAnsweredRound history token_at options lists round version
     is_answered lists waits round served is version answered =
         answered_round under history token_at lists waits options target need round is (request_in_range options lists served.askable) version answered
@@ -133,41 +133,41 @@ module _ (under : Below) (go : NamesGo) (itself : (name : ListName) → same_nam
         }
 
     served_then : (lists : List Held) (waits : WaitState) (round : Round) → AreServed history token_at lists → IsRound lists waits options target need round
-        → IsLost need (entry_of round) ⊎ IsAnsweredIn history token_at target (entry_of round) → AreServed history token_at (lists_after_round lists round)
+        → IsLost need (round_entry round) ⊎ IsAnsweredIn history token_at target (round_entry round) → AreServed history token_at (lists_after_round lists round)
     served_then lists waits round served is (inl lost) =
         subst (AreServed history token_at) (sym (nothing_came lists round (lost_round under history token_at lists waits options target need round is lost))) served
     served_then lists waits round served is (inr answered) = served_after lists round answered.0 served (is_answered lists waits round served is answered.0 answered.1)
 
     each_installs : (lists : List Held) (waits : WaitState) (round : Round) → AreServed history token_at lists → IsRound lists waits options target need round
-        → IsAnsweredIn history token_at target (entry_of round) → InstallsEach history lists round
+        → IsAnsweredIn history token_at target (round_entry round) → InstallsEach history lists round
     each_installs lists waits round served is answered = installs_each lists round answered.0 served (is_answered lists waits round served is answered.0 answered.1)
 
     abbrev OrLost : Session → Type 0
     OrLost session = IsLost need session ⊎ IsAnsweredIn history token_at target session
 
-    all_install : (lists : List Held) (waits : WaitState) (rounds : List Round) → AreServed history token_at lists → AreRounds lists waits options target need rounds → All OrLost (map entry_of rounds)
+    all_install : (lists : List Held) (waits : WaitState) (rounds : List Round) → AreServed history token_at lists → AreRounds lists waits options target need rounds → All OrLost (map round_entry rounds)
         → InstallAnswers history token_at target lists rounds
     all_install lists waits [] served are h = tt
     all_install lists waits (round ∷ rounds) served are h = (
       each_installs lists waits round served are.0,
       all_install (lists_after_round lists round) (waits_after_round waits round) rounds
-          (served_then lists waits round served are.0 (All-head OrLost (entry_of round) (map entry_of rounds) h)) are.1 (All-tail OrLost (entry_of round) (map entry_of rounds) h),
+          (served_then lists waits round served are.0 (All-head OrLost (round_entry round) (map round_entry rounds) h)) are.1 (All-tail OrLost (round_entry round) (map round_entry rounds) h),
     )
 
-    served_at_end : (lists : List Held) (waits : WaitState) (rounds : List Round) → AreServed history token_at lists → AreRounds lists waits options target need rounds → All OrLost (map entry_of rounds)
-        → AreReplicas history token_at (lists_after lists (map body_of rounds))
+    served_at_end : (lists : List Held) (waits : WaitState) (rounds : List Round) → AreServed history token_at lists → AreRounds lists waits options target need rounds → All OrLost (map round_entry rounds)
+        → AreReplicas history token_at (lists_after lists (map round_updates rounds))
     served_at_end lists waits [] served are h = served.replicas
     served_at_end lists waits (round ∷ rounds) served are h =
         served_at_end (lists_after_round lists round) (waits_after_round waits round) rounds
-        (served_then lists waits round served are.0 (All-head OrLost (entry_of round) (map entry_of rounds) h)) are.1 (All-tail OrLost (entry_of round) (map entry_of rounds) h)
+        (served_then lists waits round served are.0 (All-head OrLost (round_entry round) (map round_entry rounds) h)) are.1 (All-tail OrLost (round_entry round) (map round_entry rounds) h)
 
 no_refusals : (history : History) (token_at : Naming) (target : Target) (lists : List Held) (rounds : List Round) → InstallAnswers history token_at target lists rounds
-    → All (IsAnsweredIn history token_at target) (map entry_of rounds) → has_refusals lists rounds ≡ false
+    → All (IsAnsweredIn history token_at target) (map round_entry rounds) → has_refusals lists rounds ≡ false
 no_refusals history token_at target lists [] h k = refl
 no_refusals history token_at target lists (round ∷ rounds) h k =
     or_none (has_refusal (taken_from lists round.answer)) (has_refusals (lists_after_round lists round) rounds)
-    (no_refusal_in history lists round (h.0 (All-head (IsAnsweredIn history token_at target) (entry_of round) (map entry_of rounds) k)))
-    (no_refusals history token_at target (lists_after_round lists round) rounds h.1 (All-tail (IsAnsweredIn history token_at target) (entry_of round) (map entry_of rounds) k))
+    (no_refusal_in history lists round (h.0 (All-head (IsAnsweredIn history token_at target) (round_entry round) (map round_entry rounds) k)))
+    (no_refusals history token_at target (lists_after_round lists round) rounds h.1 (All-tail (IsAnsweredIn history token_at target) (round_entry round) (map round_entry rounds) k))
 
 -- ---- the laws
 

@@ -25,8 +25,8 @@ use Rattle.update_client.specs.Asked.{request_asked}
 use Rattle.update_client.specs.Held.{Held}
 use Rattle.update_client.specs.declared.options.FetchOptions.{FetchOptions}
 use Rattle.wait_rules.specs.declared.waits.WaitState.{WaitState}
-use Rattle.sb_round.specs.Round.{Round, IsRound, IsAnswerOf, body_asked}
-use Rattle.sb_round.specs.Rounds.{entry_of}
+use Rattle.sb_round.specs.Round.{Round, IsRound, IsRoundAnswerOf, round_body_asked}
+use Rattle.sb_round.specs.Rounds.{round_entry}
 use Rattle.sb_round.specs.declared.rounds.RoundFault.{RoundFault}
 use Rattle.sb_round.specs.declared.rounds.RoundFault.TheVariants.{Exchange, Message}
 use Rattle.both_ends_laws.specs.Answered.{IsAnsweredAt, IsLost}
@@ -84,7 +84,7 @@ not_a_fault under text message fault h told =
     cc (at, clean)
 
 -- a body that reads as a message is read as it
-taken_as : Below → (body : List ℕ) (message : FetchResponse) (answer : Result FetchResponse RoundFault) → IsTextOf ReadsResponse body message → IsAnswerOf (Ok body) answer → answer ≡ Ok message
+taken_as : Below → (body : List ℕ) (message : FetchResponse) (answer : Result FetchResponse RoundFault) → IsTextOf ReadsResponse body message → IsRoundAnswerOf (Ok body) answer → answer ≡ Ok message
 taken_as under body message (Ok other) h k = ap (λ (m : FetchResponse). Ok m) (one_reading ReadsResponse under.one_response body other message k h)
 taken_as under body message (Err (Message fault)) h k = absurd (not_a_fault under body message fault h k)
 taken_as under body message (Err (Exchange fault)) h k = absurd k
@@ -107,18 +107,18 @@ brings under need history token_at target session version answered =
 module _ (under : Below) (history : History) (token_at : Naming) (lists : List Held) (waits : WaitState) (options : FetchOptions) (target : Target) (need : Bool) (round : Round)
     (is : IsRound lists waits options target need round)
   where
-    asks_it : IsRequestInRange (request_asked lists options) → (version : ℕ) → (answered : IsAnsweredAt history token_at target (entry_of round) version) → answered.request ≡ request_asked lists options
+    asks_it : IsRequestInRange (request_asked lists options) → (version : ℕ) → (answered : IsAnsweredAt history token_at target (round_entry round) version) → answered.request ≡ request_asked lists options
     asks_it range version answered =
-        let asked : answered.asked ≡ body_asked lists options = one_asked target Update answered.asked (body_asked lists options) (sym answered.sent ∙ is.held.sends answered.whole) in
-        one_reading ReadsRequest under.one_request (body_asked lists options) answered.request (request_asked lists options)
+        let asked : answered.asked ≡ round_body_asked lists options = one_asked target Update answered.asked (round_body_asked lists options) (sym answered.sent ∙ is.held.sends answered.whole) in
+        one_reading ReadsRequest under.one_request (round_body_asked lists options) answered.request (request_asked lists options)
         (subst (λ (text : List ℕ). IsTextOf ReadsRequest text answered.request) asked answered.reads) (under.again lists options range)
 
-    pub answered_round : IsRequestInRange (request_asked lists options) → (version : ℕ) → IsAnsweredAt history token_at target (entry_of round) version → IsAnsweredRound history token_at options lists round version
+    pub answered_round : IsRequestInRange (request_asked lists options) → (version : ℕ) → IsAnsweredAt history token_at target (round_entry round) version → IsAnsweredRound history token_at options lists round version
     answered_round range version answered =
-        let body : is.outcome ≡ Ok answered.body = under.one_body need (entry_of round) answered.body is.outcome (brings under need history token_at target (entry_of round) version answered) is.held.decides in
+        let body : is.outcome ≡ Ok answered.body = under.one_body need (round_entry round) answered.body is.outcome (brings under need history token_at target (round_entry round) version answered) is.held.decides in
         let message = fetch_answer (up_to_version version history) token_at answered.wait answered.request in
         let taken : round.answer ≡ Ok message =
-        taken_as under answered.body message round.answer answered.answers (subst (λ (outcome : Result (List ℕ) ExchangeFault). IsAnswerOf outcome round.answer) body is.answers) in
+        taken_as under answered.body message round.answer answered.answers (subst (λ (outcome : Result (List ℕ) ExchangeFault). IsRoundAnswerOf outcome round.answer) body is.answers) in
         record {
           within = answered.within;
           wait = answered.wait;
@@ -126,20 +126,20 @@ module _ (under : Below) (history : History) (token_at : Naming) (lists : List H
         }
 
     -- an outcome that is a message is no fault
-    not_both : (outcome other : Result (List ℕ) ExchangeFault) (message : FetchResponse) (fault : RoundFault) → SessionOutcome need (entry_of round) outcome → SessionOutcome need (entry_of round) other
-        → IsAnswerOf outcome (Ok message) → IsAnswerOf other (Err fault) → ⊥
+    not_both : (outcome other : Result (List ℕ) ExchangeFault) (message : FetchResponse) (fault : RoundFault) → SessionOutcome need (round_entry round) outcome → SessionOutcome need (round_entry round) other
+        → IsRoundAnswerOf outcome (Ok message) → IsRoundAnswerOf other (Err fault) → ⊥
     not_both (Err why) other message fault h k a b = cc a
     not_both (Ok body) other message fault h k a b =
-        let same : other ≡ Ok body = under.one_body need (entry_of round) body other h k in
-        let is_fault : IsAnswerOf (Ok body) (Err fault) = subst (λ (outcome : Result (List ℕ) ExchangeFault). IsAnswerOf outcome (Err fault)) same b in
+        let same : other ≡ Ok body = under.one_body need (round_entry round) body other h k in
+        let is_fault : IsRoundAnswerOf (Ok body) (Err fault) = subst (λ (outcome : Result (List ℕ) ExchangeFault). IsRoundAnswerOf outcome (Err fault)) same b in
         none_there (taken_as under body message (Err fault) a is_fault)
       where
         none_there : Err fault ≡ Ok message → ⊥
         none_there e = cc e
 
-    lost_answer : IsLost need (entry_of round) → (answer : Result FetchResponse RoundFault) → IsAnswerOf is.outcome answer → (fault : RoundFault) × (answer ≡ Err fault)
+    lost_answer : IsLost need (round_entry round) → (answer : Result FetchResponse RoundFault) → IsRoundAnswerOf is.outcome answer → (fault : RoundFault) × (answer ≡ Err fault)
     lost_answer lost (Err fault) h = (fault, refl)
     lost_answer lost (Ok message) h = absurd (not_both is.outcome lost.outcome message lost.fault is.held.decides lost.decides h lost.none)
 
-    pub lost_round : IsLost need (entry_of round) → IsLostRound round
+    pub lost_round : IsLost need (round_entry round) → IsLostRound round
     lost_round lost = let none = lost_answer lost round.answer is.answers in record { fault = none.0; none = none.1 }

@@ -11,7 +11,7 @@ use Rattle.update_client.specs.Held.{Held}
 use Rattle.update_client.specs.declared.options.FetchOptions.{FetchOptions}
 use Rattle.wait_rules.specs.declared.waits.WaitState.{WaitState}
 use Rattle.sb_round.specs.Round.{Round, lists_after_round, waits_after_round}
-use Rattle.sb_round.specs.Rounds.{AreRounds, entry_of, trace_of_rounds}
+use Rattle.sb_round.specs.Rounds.{AreRounds, round_entry, trace_of_rounds}
 use Rattle.update_run.specs.Run.{HasMade}
 use Rattle.update_run.specs.declared.plan.Plan.{Plan}
 use Rattle.client_laws.specs.Met.{IsLogged}
@@ -24,7 +24,7 @@ use Rattle.both_ends_laws.proofs.Rounds.{Below, answered_round, lost_round}
 module _ (under : Below) (last : TargetsAreVersions) (history : History) (token_at : Naming) (naming : IsNaming history token_at) (bytes : HasByteTokens history token_at) (options : FetchOptions) (target : Target) (need : Bool)
   where
     pub are_answered : (lists : List Held) (waits : WaitState) (rounds : List Round) (least : ℕ) → CanBeAsked lists → AreRounds lists waits options target need rounds
-        → AreAnsweredInOrder history token_at target need least (map entry_of rounds) → AreAnsweredFrom history token_at options least lists rounds
+        → AreAnsweredInOrder history token_at target need least (map round_entry rounds) → AreAnsweredFrom history token_at options least lists rounds
     are_answered lists waits [] least askable are sessions = tt
     are_answered lists waits (round ∷ rounds) least askable are (inl (lost, rest)) =
         let nothing = lost_round under history token_at lists waits options target need round are.0 lost in
@@ -47,9 +47,9 @@ sessions_are_rounds under last history token_at lists waits options target need 
 
 -- ---- the log of a run has the sessions of its rounds
 
-sessions_of : (waits : WaitState) (rounds : List Round) → (trace_of_rounds waits rounds).sessions ≡ map entry_of rounds
+sessions_of : (waits : WaitState) (rounds : List Round) → (trace_of_rounds waits rounds).sessions ≡ map round_entry rounds
 sessions_of waits [] = refl
-sessions_of waits (round ∷ rounds) = ap (λ (sessions : List Session). entry_of round ∷ sessions) (sessions_of (waits_after_round waits round) rounds)
+sessions_of waits (round ∷ rounds) = ap (λ (sessions : List Session). round_entry round ∷ sessions) (sessions_of (waits_after_round waits round) rounds)
 
 or_none : Option (List Session) → List Session
 or_none (Some a) = a
@@ -79,7 +79,7 @@ same_more earlier more sessions (Some here) (Some now) told then is =
     append_cancel_left earlier more sessions (ap (λ (front : List Session). front ++ more) begins ∙ next ∙ whole)
 
 pub logged_sessions : (plan : Plan) (kept : Option (List ℕ)) (rounds : List Round) (before after : Outside) (sessions : List Session) → HasMade plan kept rounds before after
-    → IsLogged sessions before.log after.log → map entry_of rounds ≡ sessions
+    → IsLogged sessions before.log after.log → map round_entry rounds ≡ sessions
 logged_sessions plan kept rounds before after sessions made logged =
     sym (sessions_of made.waits rounds)
     ∙ same_more logged.earlier (trace_of_rounds made.waits rounds).sessions sessions made.opened.log after.log

@@ -10,7 +10,7 @@ use Rattle.update_client.specs.Held.{Held}
 use Rattle.update_client.specs.Step.{after_updates}
 use Rattle.update_client.specs.declared.options.FetchOptions.{FetchOptions}
 use Rattle.sb_round.specs.Round.{Round, lists_after_round, updates_of}
-use Rattle.sb_round.specs.Rounds.{body_of}
+use Rattle.sb_round.specs.Rounds.{round_updates}
 use Rattle.sb_round.specs.Run.{lists_after}
 use Rattle.sb_round.specs.declared.rounds.RoundFault.{RoundFault}
 use Rattle.both_ends_laws.specs.Versions.{HasNoLimits, IsAnsweredRound, IsLostRound, AreAnsweredFrom, HoldsVersion, StaysOrRises, StayOrRise, KeepsVersions}
@@ -69,16 +69,16 @@ module _ (go : NamesGo) (greatest : TargetsAreGreatest) (last : TargetsAreVersio
   nothing_came lists round is = ap (λ (answer : Result FetchResponse RoundFault). after_updates lists (updates_of answer)) is.none
 
   pub keeps : (least : ℕ) (lists : List Held) (rounds : List Round) → AreAnsweredFrom history token_at options least lists rounds
-      → StayOrRise history token_at least lists (lists_after lists (map body_of rounds))
+      → StayOrRise history token_at least lists (lists_after lists (map round_updates rounds))
   keeps least lists [] are = all_stay history token_at least lists
   keeps least lists (round ∷ rounds) (inl (unanswered, rest)) =
       let same = nothing_came lists round unanswered in
-      subst (λ (ls : List Held). StayOrRise history token_at least ls (lists_after (lists_after_round lists round) (map body_of rounds))) same
+      subst (λ (ls : List Held). StayOrRise history token_at least ls (lists_after (lists_after_round lists round) (map round_updates rounds))) same
       (keeps least (lists_after_round lists round) rounds rest)
   keeps least lists (round ∷ rounds) (inr (version, low, is, rest)) =
       let comes = comes_in lists round version is in
       let later = keeps version (lists_after_round lists round) rounds rest in
-      let final = lists_after (lists_after_round lists round) (map body_of rounds) in
+      let final = lists_after (lists_after_round lists round) (map round_updates rounds) in
       each_is history token_at least lists final
       (each_through (ComesTo token_at version) (StaysOrRises history token_at version) (StaysOrRises history token_at least) (went_on history token_at least version low is.within) lists (lists_after_round lists round) final
       comes (is_each history token_at version (lists_after_round lists round) final later))

@@ -21,8 +21,8 @@ use Rattle.update_messages.specs.Writing.{spelling_of_response}
 use Rattle.update_client.specs.Held.{Held, most_lists}
 use Rattle.update_client.specs.declared.options.FetchOptions.{FetchOptions}
 use Rattle.wait_rules.specs.declared.waits.WaitState.{WaitState}
-use Rattle.sb_round.specs.Round.{Round, IsAnswerOf}
-use Rattle.sb_round.specs.Rounds.{AreRounds, entry_of}
+use Rattle.sb_round.specs.Round.{Round, IsRoundAnswerOf}
+use Rattle.sb_round.specs.Rounds.{AreRounds, round_entry}
 use Rattle.sb_round.specs.declared.rounds.RoundFault.{RoundFault}
 use Rattle.both_ends_laws.specs.Versions.{AreAnsweredFrom}
 
@@ -55,7 +55,7 @@ pub record IsLost (need : Bool) (session : Session) : Type 0 where
   pub outcome : Result (List ℕ) ExchangeFault
   pub decides : SessionOutcome need session outcome
   pub fault : RoundFault
-  pub none : IsAnswerOf outcome (Err fault)
+  pub none : IsRoundAnswerOf outcome (Err fault)
 
 -- What a server writes of its answer to a request of at most 8 items is a body that reads as this answer, where the answer keeps to the
 -- ranges of messages.
@@ -108,5 +108,5 @@ AnsweredSessionsAreAnsweredRounds =
     → HasByteTokens history token_at
     → CanBeAsked lists
     → AreRounds lists waits options target need rounds
-    → AreAnsweredInOrder history token_at target need least (map entry_of rounds)
+    → AreAnsweredInOrder history token_at target need least (map round_entry rounds)
     → AreAnsweredFrom history token_at options least lists rounds

@@ -9,7 +9,7 @@ use Rattle.update_client.specs.Held.{Held, most_lists}
 use Rattle.update_client.specs.Genuine.{IsWithinLimitsAlways}
 use Rattle.update_client.specs.Replica.{AreReplicas}
 use Rattle.sb_round.specs.Round.{Round, taken_from, lists_after_round}
-use Rattle.sb_round.specs.Rounds.{body_of, entry_of}
+use Rattle.sb_round.specs.Rounds.{round_updates, round_entry}
 use Rattle.sb_round.specs.Run.{lists_after}
 use Rattle.sb_round.specs.declared.rounds.Taken.{Taken}
 use Rattle.update_run.specs.Opening.{first_lists}
@@ -38,7 +38,7 @@ pub record InstallsEach (history : History) (lists : List Held) (round : Round) 
 abbrev pub InstallAnswers : History → Naming → Target → List Held → List Round → Type 0
 InstallAnswers history token_at target lists [] = Unit {0}
 InstallAnswers history token_at target lists (round ∷ rounds) =
-    (IsAnsweredIn history token_at target (entry_of round) → InstallsEach history lists round)
+    (IsAnsweredIn history token_at target (round_entry round) → InstallsEach history lists round)
     × InstallAnswers history token_at target (lists_after_round lists round) rounds
 
 -- A run of this plan asks a server of this history, from what was kept: at most 8 names, and the lists that it begins with are
@@ -53,7 +53,7 @@ pub record AsksServer (history : History) (token_at : Naming) (plan : Plan) (kep
 -- Each answered round installs the update of every declared list, the lists stay replicas, and where no session was lost the run tells of no refusal.
 pub record IsCompleteRun (history : History) (token_at : Naming) (plan : Plan) (kept : Option (List ℕ)) (rounds : List Round) (sessions : List Session) : Type 0 where
   pub install : InstallAnswers history token_at plan.target (first_lists plan.names kept) rounds
-  pub replicas : AreReplicas history token_at (lists_after (first_lists plan.names kept) (map body_of rounds))
+  pub replicas : AreReplicas history token_at (lists_after (first_lists plan.names kept) (map round_updates rounds))
   pub no_refusal : All (IsAnsweredIn history token_at plan.target) sessions → has_refusals (first_lists plan.names kept) rounds ≡ false
 
 -- Where each new session of the log was answered by the server, or lost, the rounds of a run are complete.
@@ -86,4 +86,4 @@ AnsweredRunsKeepVersions =
     → HasMade plan kept rounds before after
     → IsLogged sessions before.log after.log
     → AreAnsweredInOrder history token_at plan.target plan.need_digest least sessions
-    → StayOrRise history token_at least (first_lists plan.names kept) (lists_after (first_lists plan.names kept) (map body_of rounds))
+    → StayOrRise history token_at least (first_lists plan.names kept) (lists_after (first_lists plan.names kept) (map round_updates rounds))

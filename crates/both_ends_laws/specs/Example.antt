@@ -13,7 +13,7 @@ use Rattle.update_messages.specs.Writing.{spelling_of_response}
 use Rattle.update_messages.specs.declared.response.FetchResponse.{FetchResponse}
 use Rattle.update_client.specs.Held.{Held}
 use Rattle.update_client.specs.declared.options.FetchOptions.{FetchOptions}
-use Rattle.update_run.specs.Run.{Seen}
+use Rattle.update_run.specs.Run.{Seen, seen}
 use Rattle.update_run.specs.Saved.{keeping}
 use Rattle.update_run.specs.declared.plan.Plan.{Plan}
 use Rattle.timed_sessions.specs.Told.{outside}
@@ -66,19 +66,15 @@ example_bodies = (example_whole_update ∷ []) ∷ [] ∷ []
 
 -- ---- what is seen
 
--- the link tells these sessions, and nothing is kept
-abbrev pub seen_with : List Session → Seen
-seen_with sessions = record {
-  outside = outside (Some sessions) (Some []) (Some []) (Some []);
-  keeper = keeping (Some []) (Some None);
-  held = Some [];
-}
+-- the link tells these sessions and so many faults, and nothing is kept
+abbrev pub seen_with : List Session → ℕ → Seen
+seen_with sessions faults = seen (outside (Some sessions) (Some []) (Some []) (Some []) faults) (keeping (Some []) (Some None)) (Some [])
 
 abbrev pub example_before : Seen
-example_before = seen_with []
+example_before = seen_with [] 0
 
 abbrev pub example_after : Seen
-example_after = seen_with example_sessions
+example_after = seen_with example_sessions 1
 
 -- the list as it is held in the end
 abbrev pub held_at_end : Held

@@ -8,7 +8,7 @@ use Rattle.update_client.specs.Genuine.{IsWithinLimitsAlways}
 use Rattle.update_client.specs.Held.{Held}
 use Rattle.update_client.specs.declared.options.FetchOptions.{FetchOptions}
 use Rattle.sb_round.specs.Round.{Round, lists_after_round}
-use Rattle.sb_round.specs.Rounds.{body_of}
+use Rattle.sb_round.specs.Rounds.{round_updates}
 use Rattle.sb_round.specs.Run.{lists_after}
 use Rattle.sb_round.specs.declared.rounds.RoundFault.{RoundFault}
 
@@ -65,4 +65,4 @@ KeepsVersions history token_at options least lists rounds =
     HasNoLimits options
     → IsWithinLimitsAlways history
     → AreAnsweredFrom history token_at options least lists rounds
-    → StayOrRise history token_at least lists (lists_after lists (map body_of rounds))
+    → StayOrRise history token_at least lists (lists_after lists (map round_updates rounds))

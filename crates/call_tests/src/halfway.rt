@@ -3,8 +3,9 @@ ghost use Rattle.std.specs.Prelude.{◌≡◌, ◌+◌, ◌^◌, ◌<◌, ◌≤
 ghost use Rattle.parallel_checks.specs.Checks.{AreSeatsOf, AreChecks};
 
 use crate::gates::Halt;
-use crate::lists::{FIRST, SECOND, lists, urls};
+use crate::lists::{FIRST, SECOND, lent, lists, urls};
 use crate::shown::shown;
+use input_lines::Lines;
 use parallel_checks::{CheckRun, check_all, seats_remain, settle};
 use sb_model::{Bytes, Row};
 use snapshot_publish::{Publisher, Seat, start};
@@ -40,7 +41,7 @@ fn check_beside<R: Threads + Wait + Sync>(
     alloc: Global,
     publisher: &mut Publisher,
     seats: Row<Seat>,
-    urls: &[Bytes],
+    urls: &Lines<'_>,
     count: u64,
 ) -> Option<CheckRun>
     requires some { 0 < length seats }
@@ -84,7 +85,10 @@ fn check_halfway<R: Threads + Wait + Sync>(rt: &R, alloc: Global, count: u64) ->
 {
     let (mut publisher, seats) = begin(rt, alloc, 1)?;
     let urls = urls(alloc, 2)?;
-    let run = check_beside(rt, alloc, &mut publisher, seats, urls.as_slice(), count)?;
+    let run = {
+        let lines = lent(alloc, urls.as_slice())?;
+        check_beside(rt, alloc, &mut publisher, seats, &lines, count)?
+    };
     Some(Halfway {
         publisher,
         urls,
@@ -102,7 +106,8 @@ fn settled(alloc: Global, half: Halfway) -> Option<(Publisher, Bytes)>
         urls,
         run,
     } = half;
-    let run = settle(alloc, &mut publisher, run, urls.as_slice()).ok()?;
+    let lines = lent(alloc, urls.as_slice())?;
+    let run = settle(alloc, &mut publisher, run, &lines).ok()?;
     let text = shown(alloc, run.checks.as_slice())?;
     Some((publisher, text))
 }

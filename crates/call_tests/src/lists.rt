@@ -1,6 +1,7 @@
 //! The lists that the tests publish, and the URLs that they check.
 ghost use Rattle.std.specs.Prelude.{◌≡◌, ◌+◌, length, IfSome, OnOk};
 
+use input_lines::Lines;
 use sb_model::{Bytes, EntryType, ListName, OutOfMemory, PlatformType, Row, ThreatType};
 use std::alloc::Global;
 use update_client::ClientLists;
@@ -57,4 +58,15 @@ pub fn urls(alloc: Global, count: u64) -> Option<Row<Bytes>>
         push_url(&mut urls, alloc, b'a' + (number % 3) as u8, number).ok()?;
     }
     Some(urls)
+}
+
+/// URLs as lines that are lent.
+pub fn lent(alloc: Global, urls: &[Bytes]) -> Option<Lines<'_>>
+    ensures { IfSome result (λ lines. lines ≡ urls.now) }
+{
+    let mut lines = Lines::new(alloc);
+    for url in urls {
+        lines.push(url.as_slice()).ok()?;
+    }
+    Some(lines)
 }

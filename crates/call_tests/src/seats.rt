@@ -4,7 +4,7 @@ ghost use Rattle.parallel_checks.specs.Checks.{AreSeatsOf};
 ghost use Rattle.snapshot_publish.specs.Publishing.{IsOf};
 
 use crate::halfway::begin;
-use crate::lists::{FIRST, SECOND, lists, urls};
+use crate::lists::{FIRST, SECOND, lent, lists, urls};
 use crate::shown::{push_finding, shown};
 use parallel_checks::{CheckRun, check_all, local_check};
 use sb_model::{Bytes, OutOfMemory, Row};
@@ -66,7 +66,8 @@ fn run_after_end<R: Threads + Wait + Sync>(rt: &R, alloc: Global) -> Option<Chec
     publisher.end();
     published.ok()?;
     let urls = urls(alloc, 2)?;
-    let (run, ()) = check_all(rt, alloc, seats, urls.as_slice(), &OpenGate, &mut || {});
+    let lines = lent(alloc, urls.as_slice())?;
+    let (run, ()) = check_all(rt, alloc, seats, &lines, &OpenGate, &mut || {});
     run.ok()
 }
 

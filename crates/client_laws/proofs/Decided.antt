@@ -11,7 +11,7 @@ use Rattle.verdict_report.specs.declared.verdicts.Cause.TheVariants.{NotBefore}
 use Rattle.verdict_report.specs.declared.verdicts.Verdict.TheVariants.{Undecided}
 use Rattle.full_hash_cache.specs.Cache.{Pairs}
 use Rattle.url_checker.specs.declared.findings.Hit.{Hit}
-use Rattle.url_checker.specs.Resolving.{Resolution, FindTalk, IsResolution, answer_in, cause_of, hits_asked, is_in_reach, makes_find, message_in, unsafe_lists, verdict_from, verdict_of}
+use Rattle.url_checker.specs.Resolving.{Resolution, FindTalk, IsResolution, answer_in, open_cause, hits_asked, is_in_reach, makes_find, message_in, unsafe_lists, verdict_from, verdict_of}
 use Rattle.client_laws.specs.Decided.{IsCompleteVerdict, IsSafeOrUnsafe, IsWhyUnanswered}
 
 open_from : (names : List ListName) (why : Option Cause) (cause : Cause) → verdict_from names why ≡ Undecided cause → why ≡ Some cause
@@ -23,12 +23,12 @@ decided_from : (names : List ListName) → IsSafeOrUnsafe (verdict_from names No
 decided_from [] = tt
 decided_from (name ∷ names) = tt
 
-open_cause : (answer : Result FindResponse Cause) (asked : List Hit) (cause : Cause) → cause_of answer asked ≡ Some cause → (asked ≢ []) × (answer ≡ Err cause)
-open_cause (Ok message) asked cause e = absurd (cc)
-open_cause (Err other) [] cause e = absurd (cc)
-open_cause (Err other) (hit ∷ asked) cause e = ((λ h. cc), (let same : other ≡ cause = cc in ap Err same))
+left_open_for : (answer : Result FindResponse Cause) (asked : List Hit) (cause : Cause) → open_cause answer asked ≡ Some cause → (asked ≢ []) × (answer ≡ Err cause)
+left_open_for (Ok message) asked cause e = absurd (cc)
+left_open_for (Err other) [] cause e = absurd (cc)
+left_open_for (Err other) (hit ∷ asked) cause e = ((λ h. cc), (let same : other ≡ cause = cc in ap Err same))
 
-answered_by : (answer : Result FindResponse Cause) (asked : List Hit) → (asked ≡ []) ⊎ (message : FindResponse) × (answer ≡ Ok message) → cause_of answer asked ≡ None
+answered_by : (answer : Result FindResponse Cause) (asked : List Hit) → (asked ≡ []) ⊎ (message : FindResponse) × (answer ≡ Ok message) → open_cause answer asked ≡ None
 answered_by (Ok message) asked why = refl
 answered_by (Err cause) [] why = refl
 answered_by (Err cause) (hit ∷ asked) (inl h) = absurd (cc)
@@ -53,8 +53,8 @@ complete states patience target need hits pairs waits r is = record {
       (sym (answered_by (answer_in waits r.talk) (hits_asked pairs r.now hits) why))
       (decided_from (unsafe_lists pairs r.now (message_in (answer_in waits r.talk)) hits));
   left_open = λ cause e.
-      let why = open_from (unsafe_lists pairs r.now (message_in (answer_in waits r.talk)) hits) (cause_of (answer_in waits r.talk) (hits_asked pairs r.now hits)) cause e in
-      let left = open_cause (answer_in waits r.talk) (hits_asked pairs r.now hits) cause why in
+      let why = open_from (unsafe_lists pairs r.now (message_in (answer_in waits r.talk)) hits) (open_cause (answer_in waits r.talk) (hits_asked pairs r.now hits)) cause e in
+      let left = left_open_for (answer_in waits r.talk) (hits_asked pairs r.now hits) cause why in
       record {
         asked = left.0;
         unanswered = unanswered_by waits patience r.now (hits_asked pairs r.now hits) r.talk cause left.0 is.asks left.1;

@@ -16,7 +16,7 @@ use Rattle.sb_round.specs.Honest.{IsHonest}
 use Rattle.sb_round.specs.Law.{KeepsReplicas as StaysReplicas}
 use Rattle.sb_round.specs.Round.{Round, BreaksOff}
 use Rattle.sb_round.specs.Run.{lists_after}
-use Rattle.sb_round.specs.Rounds.{body_of, entry_of, RoundsAreTheirSessions}
+use Rattle.sb_round.specs.Rounds.{round_updates, round_entry, RoundsAreTheirSessions}
 use Rattle.sb_round.specs.Sessions.{AreBodiesOf, HasOneListOfBodies}
 use Rattle.update_run.specs.Opening.{first_lists}
 use Rattle.update_run.specs.Run.{Seen, HasMade, IsLoaded, IsRun, HasNotBegun, StopsAtSave, StopsAfter, BreaksOffAfter, RunEnding, EndsRun}
@@ -38,24 +38,24 @@ module _ (stays : (lists : List Held) (bodies : List (List UpdatedList)) → Sta
     -- ---- the rounds of a run, as the log tells them
 
     entries : (kept : Option (List ℕ)) (rounds : List Round) (before middle : Outside) → HasMade plan kept rounds before middle
-        → IfTold middle.log (with_more before.log (map entry_of rounds))
+        → IfTold middle.log (with_more before.log (map round_entry rounds))
     entries kept rounds before middle made =
         let law = theirs (first_lists plan.names kept) made.waits plan.options plan.target plan.need_digest rounds made.made.are in
         let rest = subst (λ more. IfTold middle.log (with_more made.opened.log more)) law.0 made.made.told.log in
-        told_both before.log made.opened.log middle.log [] (map entry_of rounds) made.opens.told.log rest
+        told_both before.log made.opened.log middle.log [] (map round_entry rounds) made.opens.told.log rest
 
-    counted : (rounds : List Round) → length rounds ≡ length (map entry_of rounds)
-    counted rounds = sym (length-map rounds entry_of)
+    counted : (rounds : List Round) → length rounds ≡ length (map round_entry rounds)
+    counted rounds = sym (length-map rounds round_entry)
 
     with_none : (kept : Option (List ℕ)) (rounds : List Round) (before middle : Outside) → HasMade plan kept rounds before middle
-        → IfTold middle.log (with_more before.log (map entry_of rounds ++ []))
+        → IfTold middle.log (with_more before.log (map round_entry rounds ++ []))
     with_none kept rounds before middle made =
-        subst (λ more. IfTold middle.log (with_more before.log more)) (sym (append-nil (map entry_of rounds))) (entries kept rounds before middle made)
+        subst (λ more. IfTold middle.log (with_more before.log more)) (sym (append-nil (map round_entry rounds))) (entries kept rounds before middle made)
 
     with_one : (kept : Option (List ℕ)) (rounds : List Round) (before middle after : Outside) (last : Session) → HasMade plan kept rounds before middle
-        → IfTold after.log (with_more middle.log (last ∷ [])) → IfTold after.log (with_more before.log (map entry_of rounds ++ last ∷ []))
+        → IfTold after.log (with_more middle.log (last ∷ [])) → IfTold after.log (with_more before.log (map round_entry rounds ++ last ∷ []))
     with_one kept rounds before middle after last made told =
-        told_both before.log middle.log after.log (map entry_of rounds) (last ∷ []) (entries kept rounds before middle made) told
+        told_both before.log middle.log after.log (map round_entry rounds) (last ∷ []) (entries kept rounds before middle made) told
 
     -- ---- where their bodies are honest
 
@@ -64,26 +64,26 @@ module _ (stays : (lists : List Held) (bodies : List (List UpdatedList)) → Sta
       same_kept kept text known loaded = sym (subst (λ all. IsLoaded kept all) known loaded)
 
       stay : (kept : Option (List ℕ)) (rounds : List Round) (middle : Outside) (more : List Session) → IsLoaded kept before.keeper.kept
-          → HasMade plan kept rounds before.outside middle → IfTold after.outside.log (with_more before.outside.log (map entry_of rounds ++ more))
+          → HasMade plan kept rounds before.outside middle → IfTold after.outside.log (with_more before.outside.log (map round_entry rounds ++ more))
           → MeetsHonest history token_at plan (length rounds) before after → StayReplicas history token_at (first_lists plan.names kept) rounds
       stay kept rounds middle more loaded made told meets =
           let server = meets.server in
           let same : server.kept ≡ kept = same_kept kept server.kept server.known loaded in
           let law = theirs (first_lists plan.names kept) made.waits plan.options plan.target plan.need_digest rounds made.made.are in
-          let sessions : server.sessions ≡ map entry_of rounds ++ more = logged_are server.sessions (map entry_of rounds ++ more) before.outside.log after.outside.log server.log told in
-          let bodies : take (length rounds) server.bodies ≡ map body_of rounds =
-          taken_are one plan.need_digest (map entry_of rounds) more (map body_of rounds) server.bodies (length rounds) (counted rounds) law.1
+          let sessions : server.sessions ≡ map round_entry rounds ++ more = logged_are server.sessions (map round_entry rounds ++ more) before.outside.log after.outside.log server.log told in
+          let bodies : take (length rounds) server.bodies ≡ map round_updates rounds =
+          taken_are one plan.need_digest (map round_entry rounds) more (map round_updates rounds) server.bodies (length rounds) (counted rounds) law.1
           (subst (λ all. AreBodiesOf plan.need_digest all server.bodies) sessions server.are)
           in
-          let honest : IsHonest history token_at (first_lists plan.names kept) (map body_of rounds) =
+          let honest : IsHonest history token_at (first_lists plan.names kept) (map round_updates rounds) =
           subst (λ all. IsHonest history token_at (first_lists plan.names kept) all) bodies
           (subst (λ text. IsHonest history token_at (first_lists plan.names text) (take (length rounds) server.bodies)) same server.honest)
           in
-          let apart : HasNoCollision history (candidates_of (first_lists plan.names kept) (map body_of rounds)) =
+          let apart : HasNoCollision history (candidates_of (first_lists plan.names kept) (map round_updates rounds)) =
           subst (λ all. HasNoCollision history (candidates_of (first_lists plan.names kept) all)) bodies
           (subst (λ text. HasNoCollision history (candidates_of (first_lists plan.names text) (take (length rounds) server.bodies))) same server.no_collision)
           in
-          stays (first_lists plan.names kept) (map body_of rounds) history token_at server.well_formed server.names_versions
+          stays (first_lists plan.names kept) (map round_updates rounds) history token_at server.well_formed server.names_versions
           (subst (λ text. AreReplicas history token_at (first_lists plan.names text)) same meets.replicas) honest apart
 
       -- all that rounds save
@@ -106,7 +106,7 @@ module _ (stays : (lists : List Held) (bodies : List (List UpdatedList)) → Sta
         rounds = run.rounds;
         all = run.all;
         made = run.made;
-        lists = lists_after (first_lists plan.names run.kept) (map body_of run.rounds);
+        lists = lists_after (first_lists plan.names run.kept) (map round_updates run.rounds);
         are = refl;
         replicas = last_are history token_at plan.names (first_lists plan.names run.kept) run.rounds (first_named names_go plan.names run.kept) stay;
         text = run.text;
@@ -120,7 +120,7 @@ module _ (stays : (lists : List Held) (bodies : List (List UpdatedList)) → Sta
         let told_with = with_none run.kept run.rounds before.outside after.outside run.made in
         record {
           taken = length run.rounds;
-          some = all_taken (lacks_memory (Ok refused)) (length run.rounds) before.outside.log after.outside.log (map entry_of run.rounds) (counted run.rounds) told;
+          some = all_taken (lacks_memory (Ok refused)) (length run.rounds) before.outside.log after.outside.log (map round_entry run.rounds) (counted run.rounds) told;
           holds = λ history token_at meets.
               let through = stay history token_at before after run.kept run.rounds after.outside [] run.loaded run.made told_with meets in
               let hands = hands_some history token_at before after run.kept run.rounds (saved_lists (first_lists plan.names run.kept) run.rounds) through (inl refl) run.saved in
@@ -144,7 +144,7 @@ module _ (stays : (lists : List Held) (bodies : List (List UpdatedList)) → Sta
         let told_with = with_none stops.kept stops.rounds before.outside after.outside stops.made in
         record {
           taken = length stops.rounds;
-          some = all_taken (lacks_memory (Err why)) (length stops.rounds) before.outside.log after.outside.log (map entry_of stops.rounds) (counted stops.rounds) told;
+          some = all_taken (lacks_memory (Err why)) (length stops.rounds) before.outside.log after.outside.log (map round_entry stops.rounds) (counted stops.rounds) told;
           holds = λ history token_at meets.
               let through = stay history token_at before after stops.kept stops.rounds after.outside [] stops.loaded stops.made told_with meets in
               let hands = hands_some history token_at before after stops.kept stops.rounds stops.stores through stops.most stops.saved in
@@ -157,7 +157,7 @@ module _ (stays : (lists : List Held) (bodies : List (List UpdatedList)) → Sta
         let told_with = with_none stops.kept stops.rounds before.outside after.outside stops.made in
         record {
           taken = length stops.rounds;
-          some = all_taken (lacks_memory (Err stop.KeepFault)) (length stops.rounds) before.outside.log after.outside.log (map entry_of stops.rounds) (counted stops.rounds) told;
+          some = all_taken (lacks_memory (Err stop.KeepFault)) (length stops.rounds) before.outside.log after.outside.log (map round_entry stops.rounds) (counted stops.rounds) told;
           holds = λ history token_at meets.
               let through = stay history token_at before after stops.kept stops.rounds after.outside [] stops.loaded stops.made told_with meets in
               let replicas = subst (λ all. All (AreReplicasOf history token_at plan.names) all) stops.saves (saved_are history token_at before after stops.kept stops.rounds through) in
@@ -168,7 +168,7 @@ module _ (stays : (lists : List Held) (bodies : List (List UpdatedList)) → Sta
     in_round : (before after : Seen) → BreaksOffAfter plan before after → IsHeadline plan (Err stop.OutOfMemory) before after
     in_round before after stops = either stops.breaks
       where
-        holds_with : (more : List Session) → IfTold after.outside.log (with_more before.outside.log (map entry_of stops.rounds ++ more))
+        holds_with : (more : List Session) → IfTold after.outside.log (with_more before.outside.log (map round_entry stops.rounds ++ more))
             → (history : History) (token_at : Naming) → MeetsHonest history token_at plan (length stops.rounds) before after
             → HoldsReplicas history token_at plan (Err stop.OutOfMemory) before after
         holds_with more told history token_at meets =
@@ -178,18 +178,18 @@ module _ (stays : (lists : List Held) (bodies : List (List UpdatedList)) → Sta
 
         either : BreaksOff stops.made.lists stops.made.waits_now plan.options plan.target stops.between after.outside → IsHeadline plan (Err stop.OutOfMemory) before after
         either (inl same) =
-            let told = subst (λ (later : Outside). IfTold later.log (with_more before.outside.log (map entry_of stops.rounds))) (sym same) (entries stops.kept stops.rounds before.outside stops.between stops.made) in
-            let told_with = subst (λ more. IfTold after.outside.log (with_more before.outside.log more)) (sym (append-nil (map entry_of stops.rounds))) told in
+            let told = subst (λ (later : Outside). IfTold later.log (with_more before.outside.log (map round_entry stops.rounds))) (sym same) (entries stops.kept stops.rounds before.outside stops.between stops.made) in
+            let told_with = subst (λ more. IfTold after.outside.log (with_more before.outside.log more)) (sym (append-nil (map round_entry stops.rounds))) told in
             record {
               taken = length stops.rounds;
-              some = all_taken true (length stops.rounds) before.outside.log after.outside.log (map entry_of stops.rounds) (counted stops.rounds) told;
+              some = all_taken true (length stops.rounds) before.outside.log after.outside.log (map round_entry stops.rounds) (counted stops.rounds) told;
               holds = holds_with [] told_with;
             }
         either (inr held) =
             let told = with_one stops.kept stops.rounds before.outside stops.between after.outside held.session.entry stops.made held.told.log in
             record {
               taken = length stops.rounds;
-              some = last_not_taken true (length stops.rounds) before.outside.log after.outside.log (map entry_of stops.rounds) held.session.entry refl (counted stops.rounds) told;
+              some = last_not_taken true (length stops.rounds) before.outside.log after.outside.log (map round_entry stops.rounds) held.session.entry refl (counted stops.rounds) told;
               holds = holds_with (held.session.entry ∷ []) told;
             }
 

@@ -8,7 +8,7 @@ use Rattle.sb_outside.specs.Outside.{IfTold}
 use Rattle.update_client.specs.Held.{Held}
 use Rattle.client_store.specs.Store.{store_text}
 use Rattle.sb_round.specs.Round.{Round, lists_after_round, taken_from}
-use Rattle.sb_round.specs.Rounds.{body_of}
+use Rattle.sb_round.specs.Rounds.{round_updates}
 use Rattle.sb_round.specs.Run.{lists_after}
 use Rattle.update_run.specs.Opening.{first_lists}
 use Rattle.update_run.specs.Run.{Seen}
@@ -30,8 +30,8 @@ record LastSaved (saved : List (List Held)) (lists : List Held) : Type 0 where
 -- Nothing was saved and the lists are the first, or those that were saved last are the lists.
 abbrev SavesLast : List Held → List Round → Type 0
 SavesLast lists rounds =
-    ((saved_lists lists rounds ≡ []) × AreSameLists (lists_after lists (map body_of rounds)) lists)
-    ⊎ LastSaved (saved_lists lists rounds) (lists_after lists (map body_of rounds))
+    ((saved_lists lists rounds ≡ []) × AreSameLists (lists_after lists (map round_updates rounds)) lists)
+    ⊎ LastSaved (saved_lists lists rounds) (lists_after lists (map round_updates rounds))
 
 abbrev AreRising : List Held → Type 0
 AreRising lists = IsStrictlySortedBy name_cmp (map name_of_held lists)
@@ -49,13 +49,13 @@ module _ (leaves : LeavesListsAlone) where
   saves_last lists [] rising = inl (refl, refl)
   saves_last lists (round ∷ rounds) rising =
       either (has_installed (taken_from lists round.answer)) refl
-      (saves_last (lists_after_round lists round) rounds (subst (IsStrictlySortedBy name_cmp) (sym (bodies_keep_names lists (body_of round ∷ []))) rising))
+      (saves_last (lists_after_round lists round) rounds (subst (IsStrictlySortedBy name_cmp) (sym (bodies_keep_names lists (round_updates round ∷ []))) rising))
     where
       later : List Held
       later = lists_after_round lists round
 
       last : List Held
-      last = lists_after later (map body_of rounds)
+      last = lists_after later (map round_updates rounds)
 
       either : (installed : Bool) → has_installed (taken_from lists round.answer) ≡ installed → SavesLast later rounds
           → (((if installed then later ∷ [] else []) ++ saved_lists later rounds ≡ []) × AreSameLists last lists)
@@ -92,7 +92,7 @@ pub kept_printed : LeavesListsAlone → NamesGo → KeptIsPrinted
 kept_printed leaves names_go plan refused before after run some saves =
     either (saves_last leaves (first_lists plan.names run.kept) run.rounds (subst (IsStrictlySortedBy name_cmp) (sym (first_named names_go plan.names run.kept)) (in_order_rises plan.names)))
   where
-    either : SavesLast (first_lists plan.names run.kept) run.rounds → KeepsStoreOf (lists_after (first_lists plan.names run.kept) (map body_of run.rounds)) after
+    either : SavesLast (first_lists plan.names run.kept) run.rounds → KeepsStoreOf (lists_after (first_lists plan.names run.kept) (map round_updates run.rounds)) after
     either (inl (none, same)) = absurd (saves none)
     either (inr last) =
-        keeps_last (saved_lists (first_lists plan.names run.kept) run.rounds) (lists_after (first_lists plan.names run.kept) (map body_of run.rounds)) before.keeper.kept after some run.saved.keeps run.saved.reads last
+        keeps_last (saved_lists (first_lists plan.names run.kept) run.rounds) (lists_after (first_lists plan.names run.kept) (map round_updates run.rounds)) before.keeper.kept after some run.saved.keeps run.saved.reads last

@@ -15,7 +15,7 @@ use Rattle.full_hash_cache.specs.declared.pair.Cached.{Cached}
 use Rattle.full_hash_cache.specs.declared.pair.Cached.TheVariants.{Unsafe, Safe, Ask}
 use Rattle.verdict_report.specs.declared.verdicts.Cause.{Cause}
 use Rattle.url_checker.specs.declared.findings.Hit.{Hit}
-use Rattle.url_checker.specs.Resolving.{said_of, is_ask, hits_asked, is_returned, is_unsafe_by, message_in, unsafe_lists, cause_of}
+use Rattle.url_checker.specs.Resolving.{said_of, is_ask, hits_asked, is_returned, is_unsafe_by, message_in, unsafe_lists, open_cause}
 use Rattle.client_laws.specs.Rulings.{Rulings, IsRight, IsNoneOpen, IsCalledUnsafe}
 use Rattle.client_laws.specs.Faithful.{HasMatchOf, PairBeginsHash, IsFaithfulFor, pair_of_hit}
 use Rattle.client_laws.specs.Resolved.{ruling_by}
@@ -126,13 +126,13 @@ never_open message Ask hit h = go (is_returned message hit) h
     go true is = cc is
     go false is = cc is
 
-no_cause : (answer : Result FindResponse Cause) (asked : List Hit) → ((cause : Cause) → answer ≡ Err cause → (hit : Hit) → Contains asked hit → ⊥) → cause_of answer asked ≡ None
+no_cause : (answer : Result FindResponse Cause) (asked : List Hit) → ((cause : Cause) → answer ≡ Err cause → (hit : Hit) → Contains asked hit → ⊥) → open_cause answer asked ≡ None
 no_cause (Ok message) [] none = refl
 no_cause (Ok message) (hit ∷ asked) none = refl
 no_cause (Err cause) [] none = refl
 no_cause (Err cause) (hit ∷ asked) none = absurd (none cause refl hit (here hit asked))
 
-a_cause : (answer : Result FindResponse Cause) (asked : List Hit) (hit : Hit) (kept : Cached) → Contains asked hit → ruling_by (message_in answer) kept hit ≡ Ask → cause_of answer asked ≡ None → ⊥
+a_cause : (answer : Result FindResponse Cause) (asked : List Hit) (hit : Hit) (kept : Cached) → Contains asked hit → ruling_by (message_in answer) kept hit ≡ Ask → open_cause answer asked ≡ None → ⊥
 a_cause answer [] hit kept member left none = nothing hit member
 a_cause (Ok message) (other ∷ asked) hit kept member left none = never_open message kept hit left
 a_cause (Err cause) (other ∷ asked) hit kept member left none = cc none
@@ -144,14 +144,14 @@ module _ (pairs : Pairs) (now : Moment) (answer : Result FindResponse Cause) (hi
   abbrev Decided : Rulings
   Decided hit = ruling_by (message_in answer) (said_of pairs now hit) hit
 
-  pub none_open_no_cause : IsNoneOpen hits Decided → cause_of answer (hits_asked pairs now hits) ≡ None
+  pub none_open_no_cause : IsNoneOpen hits Decided → open_cause answer (hits_asked pairs now hits) ≡ None
   none_open_no_cause none = no_cause answer (hits_asked pairs now hits) (λ cause is hit member.
       let passed = from_filter is_asked hits hit member in
       none hit passed.0
       (ap (λ (a : Result FindResponse Cause). ruling_by (message_in a) (said_of pairs now hit) hit) is
       ∙ ap (λ (kept : Cached). ruling_by None kept hit) (ask_is (said_of pairs now hit) passed.1)))
 
-  pub no_cause_none_open : cause_of answer (hits_asked pairs now hits) ≡ None → IsNoneOpen hits Decided
+  pub no_cause_none_open : open_cause answer (hits_asked pairs now hits) ≡ None → IsNoneOpen hits Decided
   no_cause_none_open none hit member left =
       let was = open_was_asked (message_in answer) (said_of pairs now hit) hit left in
       a_cause answer (hits_asked pairs now hits) hit (said_of pairs now hit) (in_filter is_asked hits hit member (ap is_ask was)) left none

@@ -9,7 +9,7 @@ use Rattle.update_messages.specs.Messages.{UpdatedList}
 use Rattle.update_client.specs.Held.{Held}
 use Rattle.sb_round.specs.Law.{KeepsReplicas as StaysReplicas}
 use Rattle.sb_round.specs.Round.{Round}
-use Rattle.sb_round.specs.Rounds.{body_of}
+use Rattle.sb_round.specs.Rounds.{round_updates}
 use Rattle.update_run.specs.Opening.{first_lists}
 use Rattle.update_run.specs.Saved.{saved_lists}
 use Rattle.client_laws.specs.Runs.{SavesReplicas, StoresBeginRuns}
@@ -27,7 +27,7 @@ module _ (stays : (lists : List Held) (bodies : List (List UpdatedList)) → Sta
       let lists = first_lists names kept in
       let all = round ∷ rounds in
       all_saved history token_at names lists all (first_named names_go names kept)
-      (stays lists (map body_of all) history token_at formed naming (begin history token_at kept names safe) honest apart)
+      (stays lists (map round_updates all) history token_at formed naming (begin history token_at kept names safe) honest apart)
 
   pub saves_replicas : SavesReplicas
   saves_replicas = of_rounds

@@ -14,7 +14,7 @@ use Rattle.client_store.specs.Reading.{store_reading}
 use Rattle.client_store.specs.Store.{store_text, AreKept, IsStoreOf, IsCutStore}
 use Rattle.timed_sessions.specs.Told.{with_more}
 use Rattle.sb_round.specs.Round.{Round, lists_after_round, taken_from}
-use Rattle.sb_round.specs.Rounds.{body_of}
+use Rattle.sb_round.specs.Rounds.{round_updates}
 use Rattle.sb_round.specs.Run.{lists_after}
 use Rattle.update_run.specs.Run.{Seen}
 use Rattle.update_run.specs.Saved.{Keeping, HasSaved, FailsToSave, MayLackLast, ReadsAgain, has_installed, kept_then, saved_in, saved_lists}
@@ -50,7 +50,7 @@ module _ (history : History) (token_at : Naming) where
 
   -- Through each number of rounds the lists are replicas.
   abbrev pub StayReplicas : List Held → List Round → Type 0
-  StayReplicas lists rounds = (count : ℕ) → AreReplicas history token_at (lists_after lists (take count (map body_of rounds)))
+  StayReplicas lists rounds = (count : ℕ) → AreReplicas history token_at (lists_after lists (take count (map round_updates rounds)))
 
   module _ (names : List ListName) where
     saved_here : (lists : List Held) (installed : Bool) → AreReplicasOf history token_at names lists → All (AreReplicasOf history token_at names) (if installed then lists ∷ [] else [])
@@ -60,15 +60,15 @@ module _ (history : History) (token_at : Naming) where
     pub all_saved : (lists : List Held) (rounds : List Round) → HaveNames names lists → StayReplicas lists rounds → All (AreReplicasOf history token_at names) (saved_lists lists rounds)
     all_saved lists [] named stay = All-nil (AreReplicasOf history token_at names)
     all_saved lists (round ∷ rounds) named stay =
-        let named_after : HaveNames names (lists_after_round lists round) = bodies_keep_names lists (body_of round ∷ []) ∙ named in
+        let named_after : HaveNames names (lists_after_round lists round) = bodies_keep_names lists (round_updates round ∷ []) ∙ named in
         All-append (AreReplicasOf history token_at names) (saved_in lists round) (saved_lists (lists_after_round lists round) rounds)
         (saved_here (lists_after_round lists round) (has_installed (taken_from lists round.answer)) (record { named = named_after; replicas = stay 1 }))
         (all_saved (lists_after_round lists round) rounds named_after (λ count. stay (suc count)))
 
-    pub last_are : (lists : List Held) (rounds : List Round) → HaveNames names lists → StayReplicas lists rounds → AreReplicasOf history token_at names (lists_after lists (map body_of rounds))
+    pub last_are : (lists : List Held) (rounds : List Round) → HaveNames names lists → StayReplicas lists rounds → AreReplicasOf history token_at names (lists_after lists (map round_updates rounds))
     last_are lists rounds named stay = record {
-      named = bodies_keep_names lists (map body_of rounds) ∙ named;
-      replicas = subst (λ bodies. AreReplicas history token_at (lists_after lists bodies)) (take_all (length (map body_of rounds)) (map body_of rounds) (omega arith)) (stay (length (map body_of rounds)));
+      named = bodies_keep_names lists (map round_updates rounds) ∙ named;
+      replicas = subst (λ bodies. AreReplicas history token_at (lists_after lists bodies)) (take_all (length (map round_updates rounds)) (map round_updates rounds) (omega arith)) (stay (length (map round_updates rounds)));
     }
 
     pub some_of : (all some : List (List Held)) → MayLackLast all some → All (AreReplicasOf history token_at names) all → All (AreReplicasOf history token_at names) some

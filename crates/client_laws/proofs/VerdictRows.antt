@@ -16,7 +16,8 @@ use Rattle.url_checker.specs.Resolving.{Resolution, verdict_of, pairs_after}
 use Rattle.verdict_report.specs.declared.verdicts.Judged.TheVariants as judged
 use Rattle.client_laws.specs.Rulings.{IsNoneOpen}
 use Rattle.client_laws.specs.Resolved.{IsLookup, IsBorneOut, IsDecidedFaithfully, said_in, steps_after}
-use Rattle.judge_run.specs.Judging.{Answered, Case, FindState, lists_of, IsFoundIn, AreCases, finds_after, judged_of, judged_of_all}
+use Rattle.url_checker.specs.declared.finds.Finds.{Finds}
+use Rattle.judge_run.specs.Judging.{Answered, Case, lists_of_finding, IsFoundIn, AreCases, finds_after, judged_of, judged_of_all}
 use Rattle.judge_run.specs.declared.plan.JudgePlan.{JudgePlan}
 use Rattle.client_laws.specs.Reports.{ArePublishedReplicas}
 use Rattle.client_laws.specs.Verdicts.{VerdictHolds, VerdictsHold, steps_after_case}
@@ -35,12 +36,12 @@ module _ (history : History) (token_at : Naming) (plan : JudgePlan) (published :
     (lookup : (lists : List Held) (url : Url) (steps : List Step) (waits : WaitState) (r : Resolution) → AreReplicas history token_at lists
     → IsDecidedFaithfully history token_at lists steps waits (hits_of lists url) r → IsNoneOpen (hits_of lists url) (said_in steps waits r)
     → IsLookup history token_at lists url (verdict_of (after_steps [] steps) waits (hits_of lists url) r)) where
-  verdict_holds : (finds : FindState) (steps : List Step) (line : List ℕ) (answered : Answered) → finds.pairs ≡ after_steps [] steps → IsFoundIn published line answered.finding
-      → VerdictHolds history token_at answered.finding.number (lists_of published answered.finding) steps finds.waits line answered.resolution (judged_of finds (Ok answered))
+  verdict_holds : (finds : Finds) (steps : List Step) (line : List ℕ) (answered : Answered) → finds.cache ≡ after_steps [] steps → IsFoundIn published line answered.finding
+      → VerdictHolds history token_at answered.finding.number (lists_of_finding published answered.finding) steps finds.waits line answered.resolution (judged_of finds (Ok answered))
   verdict_holds finds steps line answered pairs_are found =
       let r = answered.resolution in
       let number = answered.finding.number in
-      let lists = lists_of published answered.finding in
+      let lists = lists_of_finding published answered.finding in
       let url = found.is.url in
       let are = replicas_of history token_at published number found.there replicas in
       record {
@@ -48,20 +49,20 @@ module _ (history : History) (token_at : Naming) (plan : JudgePlan) (published :
         canonical = found.is.canonical;
         verdict = verdict_of (after_steps [] steps) finds.waits (hits_of lists url) r;
         said =
-            ap (λ (text : List ℕ). judged.Verdict number text (verdict_of finds.pairs finds.waits answered.finding.hits r)) found.is.text_is
-            ∙ ap (λ (hits : List Hit). judged.Verdict number (text_of_url url) (verdict_of finds.pairs finds.waits hits r)) found.is.hits
+            ap (λ (text : List ℕ). judged.Verdict number text (verdict_of finds.cache finds.waits answered.finding.hits r)) found.is.text_is
+            ∙ ap (λ (hits : List Hit). judged.Verdict number (text_of_url url) (verdict_of finds.cache finds.waits hits r)) found.is.hits
             ∙ ap (λ (pairs : Pairs). judged.Verdict number (text_of_url url) (verdict_of pairs finds.waits (hits_of lists url) r)) pairs_are;
         borne_out = borne_out lists url steps finds.waits r are;
         lookup = lookup lists url steps finds.waits r are;
       }
 
-  pub cases_hold : (finds : FindState) (steps : List Step) (lines : List (List ℕ)) (cases : List Case) → finds.pairs ≡ after_steps [] steps → AreCases plan published finds lines cases
+  pub cases_hold : (finds : Finds) (steps : List Step) (lines : List (List ℕ)) (cases : List Case) → finds.cache ≡ after_steps [] steps → AreCases plan published finds lines cases
       → VerdictsHold history token_at published finds steps lines cases (judged_of_all published finds cases)
   cases_hold finds steps [] [] pairs_are are = tt
   cases_hold finds steps [] (case ∷ cases) pairs_are are = absurd are
   cases_hold finds steps (line ∷ lines) [] pairs_are are = absurd are
   cases_hold finds steps (line ∷ lines) (Ok answered ∷ cases) pairs_are are =
-      let states = tokens_of (lists_of published answered.finding) in (
+      let states = tokens_of (lists_of_finding published answered.finding) in (
         verdict_holds finds steps line answered pairs_are are.0.0,
         cases_hold (finds_after published finds (Ok answered)) (steps_after_case published steps (Ok answered)) lines cases
             (ap (λ (pairs : Pairs). pairs_after states answered.finding.hits pairs answered.resolution) pairs_are

@@ -9,7 +9,7 @@ use Rattle.update_client.specs.Replica.{AreReplicas}
 use Rattle.sb_round.specs.Collision.{candidates_of, HasNoCollision}
 use Rattle.sb_round.specs.Honest.{IsHonest}
 use Rattle.sb_round.specs.Round.{Round}
-use Rattle.sb_round.specs.Rounds.{body_of}
+use Rattle.sb_round.specs.Rounds.{round_updates}
 use Rattle.sb_round.specs.Sessions.{AreBodiesOf}
 use Rattle.update_run.specs.Opening.{first_lists}
 use Rattle.update_run.specs.Run.{Seen}
@@ -51,5 +51,5 @@ pub record MeetsHonest (history : History) (token_at : Naming) (plan : Plan) (ta
 abbrev pub AreHonestRounds : History → Naming → List Held → List Round → Type 0
 AreHonestRounds history token_at lists [] = Unit {0}
 AreHonestRounds history token_at lists (round ∷ rounds) =
-    IsNaming history token_at × IsHonest history token_at lists (map body_of (round ∷ rounds))
-    × HasNoCollision history (candidates_of lists (map body_of (round ∷ rounds)))
+    IsNaming history token_at × IsHonest history token_at lists (map round_updates (round ∷ rounds))
+    × HasNoCollision history (candidates_of lists (map round_updates (round ∷ rounds)))

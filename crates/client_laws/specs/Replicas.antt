@@ -11,7 +11,7 @@ use Rattle.client_store.specs.Reading.{store_reading}
 use Rattle.client_store.specs.Store.{store_text}
 use Rattle.timed_sessions.specs.Told.{with_more}
 use Rattle.sb_round.specs.Round.{Round}
-use Rattle.sb_round.specs.Rounds.{body_of}
+use Rattle.sb_round.specs.Rounds.{round_updates}
 use Rattle.sb_round.specs.Run.{lists_after}
 use Rattle.update_run.specs.Opening.{first_lists}
 use Rattle.update_run.specs.Printed.{told_rounds, list_line}
@@ -63,6 +63,6 @@ pub record TellsReplicas (history : History) (token_at : Naming) (plan : Plan) (
   pub all : length rounds ≡ plan.rounds
   pub made : HasMade plan kept rounds before.outside after.outside
   pub lists : List Held
-  pub are : lists ≡ lists_after (first_lists plan.names kept) (map body_of rounds)
+  pub are : lists ≡ lists_after (first_lists plan.names kept) (map round_updates rounds)
   pub replicas : AreReplicasOf history token_at plan.names lists
-  pub text : after.held ≡ appended before.held (told_rounds kept (first_lists plan.names kept) rounds ++ flat_map list_line lists)
+  pub text : after.output ≡ appended before.output (told_rounds kept (first_lists plan.names kept) rounds ++ flat_map list_line lists)

@@ -14,12 +14,11 @@ use Rattle.client_laws.specs.Met.{AreHonestRounds}
 use Rattle.client_laws.specs.Replicas.{IsKeptSafely}
 use Rattle.verdict_report.specs.Printed.{report_lines, summary_text}
 use Rattle.verdict_report.specs.declared.verdicts.Judged.{Judged}
-use Rattle.judge_run.specs.Judging.{Case, FindState, AreCases, JudgesLines, first_finds, judged_of_all}
-use Rattle.judge_run.specs.Run.{Seen}
+use Rattle.url_checker.specs.declared.finds.Finds.{Finds}
+use Rattle.judge_run.specs.Judging.{Case, AreCases, JudgesLines, first_finds, judged_of_all}
+use Rattle.judge_run.specs.Run.{Judging, EndsOpened, publications_of}
+use Rattle.judge_run.specs.declared.judgement.Judgement.{Judgement}
 use Rattle.judge_run.specs.declared.plan.JudgePlan.{JudgePlan}
-use Rattle.judge_beside.specs.Run.{EndsOpened, publications_of}
-use Rattle.judge_beside.specs.declared.outcome.Outcome.{Outcome}
-use Rattle.judge_beside.specs.declared.plan.BesidePlan.{BesidePlan}
 use Rattle.client_laws.specs.Complete.{AreComplete}
 use Rattle.client_laws.specs.Verdicts.{VerdictsHold}
 
@@ -36,39 +35,39 @@ RowsOfVerdictsHold = (history : History) (token_at : Naming) (plan : JudgePlan) 
 
 -- So it is of each verdict of lines that are seen to have been judged so, those too of a run that stopped later.
 abbrev pub JudgedVerdictsHold : Type 0
-JudgedVerdictsHold = (history : History) (token_at : Naming) (plan : JudgePlan) (published : Publications) (waits : WaitState) (finds : FindState)
-    (before after : Outside) (faults faults' : ℕ) (lines : List (List ℕ)) (all : List Judged)
-    (judges : JudgesLines plan published (first_finds waits) finds before after faults faults' lines all)
+JudgedVerdictsHold = (history : History) (token_at : Naming) (plan : JudgePlan) (published : Publications) (waits : WaitState) (finds : Finds)
+    (before after : Outside) (lines : List (List ℕ)) (all : List Judged)
+    (judges : JudgesLines plan published (first_finds waits) finds before after lines all)
     → IsWellFormed history → ArePublishedReplicas history token_at published
     → VerdictsHold history token_at published (first_finds waits) [] lines judges.cases all
 
 -- ---- a run that came to its end
 
 -- the publications of a run
-abbrev pub publications_in : {plan : BesidePlan} {outcome : Outcome} {before after : Seen} → EndsOpened plan (Ok outcome) before after → Publications
-publications_in {plan = plan} run = publications_of (first_lists plan.names run.begins.kept) run.ends.updated.rounds
+abbrev pub publications_in : {plan : JudgePlan} {judgement : Judgement} {before after : Judging} → EndsOpened plan (Ok judgement) before after → Publications
+publications_in {plan = plan} run = publications_of (first_lists plan.updates.names run.begins.kept) run.ends.updated.rounds
 
 -- The lists of each publication of a run are replicas, and of the lines of its input each verdict holds, on the publication that it names, by
 -- the run's own cases. These verdicts are what was printed: one line for each, counted from 1, behind the lines of the rounds and before
 -- the summary.
-pub record ReportHolds (history : History) (token_at : Naming) (plan : BesidePlan) (outcome : Outcome) (before after : Seen) (run : EndsOpened plan (Ok outcome) before after) : Type 0 where
+pub record ReportHolds (history : History) (token_at : Naming) (plan : JudgePlan) (judgement : Judgement) (before after : Judging) (run : EndsOpened plan (Ok judgement) before after) : Type 0 where
   pub published : ArePublishedReplicas history token_at (publications_in run)
   pub hold : VerdictsHold history token_at (publications_in run) (first_finds run.begins.finds) [] (lines_of run.begins.input) run.ends.judges.judged.judges.cases run.ends.judges.all
-  pub text : after.held ≡ appended before.held
-      (told_rounds run.begins.kept (first_lists plan.names run.begins.kept) run.ends.updated.rounds ++ (report_lines 1 run.ends.judges.all ++ summary_text run.ends.judges.all))
+  pub text : after.seen.output ≡ appended before.seen.output
+      (told_rounds run.begins.kept (first_lists plan.updates.names run.begins.kept) run.ends.updated.rounds ++ (report_lines 1 run.ends.judges.all ++ summary_text run.ends.judges.all))
 
 -- The report of a run holds that came to its end, where what was kept is no store, or reads as replicas, or nothing was kept, and the rounds
 -- that it made met an honest server.
 abbrev pub RunsOfVerdictsHold : Type 0
-RunsOfVerdictsHold = (history : History) (token_at : Naming) (plan : BesidePlan) (outcome : Outcome) (before after : Seen) (run : EndsOpened plan (Ok outcome) before after)
+RunsOfVerdictsHold = (history : History) (token_at : Naming) (plan : JudgePlan) (judgement : Judgement) (before after : Judging) (run : EndsOpened plan (Ok judgement) before after)
     → IsWellFormed history → IsKeptSafely history token_at run.begins.kept
-    → AreHonestRounds history token_at (first_lists plan.names run.begins.kept) run.ends.updated.rounds
-    → ReportHolds history token_at plan outcome before after run
+    → AreHonestRounds history token_at (first_lists plan.updates.names run.begins.kept) run.ends.updated.rounds
+    → ReportHolds history token_at plan judgement before after run
 
 -- ---- what is left open
 
 -- Each verdict of lines that are seen to have been judged in order is decided if its finding was answered, and else names its cause.
 abbrev pub JudgedAreComplete : Type 0
-JudgedAreComplete = (plan : JudgePlan) (published : Publications) (finds finds' : FindState) (before after : Outside) (faults faults' : ℕ)
-    (lines : List (List ℕ)) (all : List Judged) (judges : JudgesLines plan published finds finds' before after faults faults' lines all)
+JudgedAreComplete = (plan : JudgePlan) (published : Publications) (finds finds' : Finds) (before after : Outside)
+    (lines : List (List ℕ)) (all : List Judged) (judges : JudgesLines plan published finds finds' before after lines all)
     → AreComplete plan published finds judges.cases all

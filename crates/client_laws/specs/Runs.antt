@@ -8,7 +8,7 @@ use Rattle.sb_model.specs.declared.names.ListName.{ListName}
 use Rattle.update_client.specs.Held.{Held}
 use Rattle.update_client.specs.Replica.{AreReplicas}
 use Rattle.sb_round.specs.Round.{Round, taken_from, lists_after_round}
-use Rattle.sb_round.specs.Rounds.{body_of}
+use Rattle.sb_round.specs.Rounds.{round_updates}
 use Rattle.sb_round.specs.Run.{lists_after}
 use Rattle.update_run.specs.Opening.{first_lists}
 use Rattle.update_run.specs.Run.{Seen, RunEnding, EndsRun, IsRun}
@@ -39,7 +39,7 @@ abbrev pub KeptIsPrinted : Type 0
 KeptIsPrinted = (plan : Plan) (refused : Bool) (before after : Seen) (run : IsRun plan refused before after)
     → IsSome after.keeper.kept
     → saved_lists (first_lists plan.names run.kept) run.rounds ≢ []
-    → KeepsStoreOf (lists_after (first_lists plan.names run.kept) (map body_of run.rounds)) after
+    → KeepsStoreOf (lists_after (first_lists plan.names run.kept) (map round_updates run.rounds)) after
 
 -- A round that installed no list leaves every token and every set, where each name stands once: of two lists of one name only the first is told of.
 abbrev pub LeavesListsAlone : Type 0

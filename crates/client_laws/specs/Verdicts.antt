@@ -15,7 +15,8 @@ use Rattle.verdict_report.specs.declared.verdicts.Judged.TheVariants as judged
 use Rattle.verdict_report.specs.declared.verdicts.Verdict.{Verdict}
 use Rattle.client_laws.specs.Rulings.{IsNoneOpen}
 use Rattle.client_laws.specs.Resolved.{IsLookup, IsBorneOut, IsDecidedFaithfully, said_in, steps_after}
-use Rattle.judge_run.specs.Judging.{Case, FindState, finds_after, lists_of}
+use Rattle.url_checker.specs.declared.finds.Finds.{Finds}
+use Rattle.judge_run.specs.Judging.{Case, finds_after, lists_of_finding}
 
 -- ---- one URL
 
@@ -35,19 +36,19 @@ pub record VerdictHolds (history : History) (token_at : Naming) (number : ℕ) (
 -- A line's verdict holds, or the line has no canonical form, and this is what is said of it.
 abbrev pub IsJudgedRightly : History → Naming → Publications → List Step → WaitState → List ℕ → Case → Judged → Type 0
 IsJudgedRightly history token_at published steps waits line (Ok answered) one =
-    VerdictHolds history token_at answered.finding.number (lists_of published answered.finding) steps waits line answered.resolution one
+    VerdictHolds history token_at answered.finding.number (lists_of_finding published answered.finding) steps waits line answered.resolution one
 IsJudgedRightly history token_at published steps waits line (Err fault) one =
     (canonical_of line ≡ Err fault) × (one ≡ judged.Refused fault)
 
 -- the steps of the cache after a case: it asks for each hit, and takes the answer that was got
 abbrev pub steps_after_case : Publications → List Step → Case → List Step
-steps_after_case published steps (Ok answered) = steps_after steps (tokens_of (lists_of published answered.finding)) answered.finding.hits answered.resolution
+steps_after_case published steps (Ok answered) = steps_after steps (tokens_of (lists_of_finding published answered.finding)) answered.finding.hits answered.resolution
 steps_after_case published steps (Err fault) = steps
 
 -- ---- URLs in order
 
 -- Each line is judged rightly by its case, from the steps and the wait that the cases before it left.
-abbrev pub VerdictsHold : History → Naming → Publications → FindState → List Step → List (List ℕ) → List Case → List Judged → Type 0
+abbrev pub VerdictsHold : History → Naming → Publications → Finds → List Step → List (List ℕ) → List Case → List Judged → Type 0
 VerdictsHold history token_at published finds steps [] [] [] = Unit {0}
 VerdictsHold history token_at published finds steps [] [] (one ∷ all) = ⊥
 VerdictsHold history token_at published finds steps [] (case ∷ cases) all = ⊥

@@ -10,7 +10,7 @@ ghost use Rattle.verdict_report.specs.declared.verdicts.Cause.{Cause};
 ghost use Rattle.full_hash_cache.specs.Law.{Step, after_steps};
 ghost use Rattle.full_hash_cache.specs.Law.Step.{Asks};
 ghost use Rattle.url_checker.specs.Hits.{hits_of};
-ghost use Rattle.url_checker.specs.Resolving.{cause_of, find_asked, hits_asked, kept_by, lists_hit, looked_up_pairs, verdict_by};
+ghost use Rattle.url_checker.specs.Resolving.{open_cause, find_asked, hits_asked, kept_by, lists_hit, looked_up_pairs, verdict_by};
 ghost use Rattle.url_checker.specs.Several.{all_asked, IsLookOf};
 ghost use Rattle.url_checker.specs.declared.findings.Hit.{Hit};
 ghost use Rattle.url_checker.specs.declared.looking.Looks.{Looks};
@@ -42,7 +42,7 @@ pub fn shared_verdicts_are_lookups()
     // Hits are left open exactly where there is a cause for it: some were asked, and no answer was got.
     ensures open { (steps : List Step) (now : Moment) (answer : Result FindResponse Cause) (hits : List Hit)
         → IsNoneOpen hits (said_by_answer steps now answer)
-        ↔ (cause_of answer (hits_asked (after_steps [] steps) now hits) ≡ None) }
+        ↔ (open_cause answer (hits_asked (after_steps [] steps) now hits) ≡ None) }
 {
     names_go_by_their_codes();
     faithful_answers_rule_rightly();

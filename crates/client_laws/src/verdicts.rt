@@ -17,7 +17,7 @@ ghost use Rattle.http_edge.specs.declared.messages.Target.{Target};
 ghost use Rattle.full_hash_cache.specs.Law.{Step, after_steps};
 ghost use Rattle.url_hashes.specs.Hashes.{hashes_of};
 ghost use Rattle.url_checker.specs.Hits.{hits_of};
-ghost use Rattle.url_checker.specs.Resolving.{IsResolution, Resolution, answer_in, cause_of, find_asked, hits_asked, pairs_after, verdict_of};
+ghost use Rattle.url_checker.specs.Resolving.{IsResolution, Resolution, answer_in, open_cause, find_asked, hits_asked, pairs_after, verdict_of};
 ghost use Rattle.url_checker.specs.declared.findings.Hit.{Hit};
 ghost use Rattle.client_laws.specs.Full.{HasHit, IsFullOf, IsListed};
 ghost use Rattle.client_laws.specs.Decided.{IsCompleteVerdict};
@@ -143,7 +143,7 @@ pub fn resolved_verdicts_are_lookups()
     // Hits are left open exactly where there is a cause for it: some were asked, and no answer was got.
     ensures open { (steps : List Step) (waits : WaitState) (hits : List Hit) (r : Resolution)
         → IsNoneOpen hits (said_in steps waits r)
-        ↔ (cause_of (answer_in waits r.talk) (hits_asked (after_steps [] steps) r.now hits) ≡ None) }
+        ↔ (open_cause (answer_in waits r.talk) (hits_asked (after_steps [] steps) r.now hits) ≡ None) }
 {
     shared_verdicts_are_lookups();
 }

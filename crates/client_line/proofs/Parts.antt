@@ -10,9 +10,9 @@ use Rattle.client_line.specs.Lines.{LineView, KeepsClock, ClosesAt}
 -- the first part did not read the clock
 closes : (at closed : Moment) (a b c : LineView) → KeepsClock a b → ClosesAt at closed b c → ClosesAt at closed a c
 closes at closed a b c keeps is = record {
-  read = subst (λ (answers : Option (List Moment)). IfTold c.told.answers (with_entry answers closed)) keeps.answers is.read;
+  read = subst (λ (readings : Option (List Moment)). IfTold c.told.readings (with_entry readings closed)) keeps.readings is.read;
   waits = is.waits ∙ keeps.waits;
-  words = is.words ∙ keeps.words;
+  drawn = is.drawn ∙ keeps.drawn;
   rises = is.rises;
   last = is.last;
 }

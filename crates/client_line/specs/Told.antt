@@ -9,39 +9,41 @@ use Rattle.sb_outside.specs.declared.links.Session.{Session}
 abbrev pub with_more : {A : Type 0} → Option (List A) → List A → Option (List A)
 with_more known more = option_map (λ items. items ++ more) known
 
--- what is told outside: the link's sessions, the clock's answers and the moments that it was bidden to wait until, and the
--- words of the dice
+-- what is told outside: the link's sessions, the clock's readings and the moments that it was bidden to wait until, the words that
+-- were drawn of the dice, and how many faults the link had
 pub record Outside : Type 0 where
   pub log : Option (List Session)
-  pub answers : Option (List Moment)
+  pub readings : Option (List Moment)
   pub waits : Option (List Moment)
-  pub words : Option (List ℕ)
+  pub drawn : Option (List ℕ)
+  pub faults : ℕ
 
-abbrev pub outside : Option (List Session) → Option (List Moment) → Option (List Moment) → Option (List ℕ) → Outside
-outside log answers waits words = record { log = log; answers = answers; waits = waits; words = words }
+abbrev pub outside : Option (List Session) → Option (List Moment) → Option (List Moment) → Option (List ℕ) → ℕ → Outside
+outside log readings waits drawn faults = record { log = log; readings = readings; waits = waits; drawn = drawn; faults = faults }
 
--- What is told more after something was done: sessions, answers of the clock, moments that it was bidden to wait until, and words.
+-- What is told more after something was done: sessions, readings of the clock, moments that it was bidden to wait until, and words
+-- that were drawn.
 pub record Trace : Type 0 where
   pub sessions : List Session
-  pub answers : List Moment
+  pub readings : List Moment
   pub waits : List Moment
-  pub words : List ℕ
+  pub drawn : List ℕ
 
 abbrev pub no_trace : Trace
-no_trace = record { sessions = []; answers = []; waits = []; words = [] }
+no_trace = record { sessions = []; readings = []; waits = []; drawn = [] }
 
 -- one thing done after another
 abbrev pub then_trace : Trace → Trace → Trace
 then_trace first next = record {
   sessions = first.sessions ++ next.sessions;
-  answers = first.answers ++ next.answers;
+  readings = first.readings ++ next.readings;
   waits = first.waits ++ next.waits;
-  words = first.words ++ next.words;
+  drawn = first.drawn ++ next.drawn;
 }
 
--- What is told grew by this.
+-- What is told grew by this. It says nothing of faults.
 pub record Grows (before after : Outside) (more : Trace) : Type 0 where
   pub log : IfTold after.log (with_more before.log more.sessions)
-  pub answers : IfTold after.answers (with_more before.answers more.answers)
+  pub readings : IfTold after.readings (with_more before.readings more.readings)
   pub waits : IfTold after.waits (with_more before.waits more.waits)
-  pub words : IfTold after.words (with_more before.words more.words)
+  pub drawn : IfTold after.drawn (with_more before.drawn more.drawn)

@@ -16,11 +16,11 @@ impl<'l, 'c, 'd, L: Link, C: Clock, D: Dice> Line for LentLine<'l, 'c, 'd, L, C,
     ghost view = { λ line. record {
       told = record {
         log = L.log line.link.now;
-        answers = C.answers line.clock.now;
+        readings = C.answers line.clock.now;
         waits = C.waits line.clock.now;
-        words = D.given line.dice.now;
+        drawn = D.given line.dice.now;
+        faults = L.faults line.link.now;
       };
-      faults = L.faults line.link.now;
       last = C.last line.clock.now;
       objects = record {
         link = line.link.ghost_name;

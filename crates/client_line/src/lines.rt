@@ -59,9 +59,9 @@ pub trait Line {
             × ClosesAt at ended (view self.old) (view self.new)) }
 
         // A fault of the link is counted, and nothing else is.
-        ensures faults { IfOk result (λ sent. CountsSendFault sent (view self.old).faults (view self.new).faults) }
-        ensures unmoved { OnErr result ((view self.new).faults ≡ (view self.old).faults) }
-        ensures counted { (view self.old).faults ≤ (view self.new).faults }
+        ensures faults { IfOk result (λ sent. CountsSendFault sent (view self.old).told.faults (view self.new).told.faults) }
+        ensures unmoved { OnErr result ((view self.new).told.faults ≡ (view self.old).told.faults) }
+        ensures counted { (view self.old).told.faults ≤ (view self.new).told.faults }
 
         // The objects are the same.
         ensures same { (view self.new).objects ≡ (view self.old).objects };
@@ -88,13 +88,13 @@ pub trait Line {
             × ((at : Moment) → (view self.old).last ≡ at.0 → ClosesAt at ended (view self.old) (view self.new))) }
 
         // Over both parts, from a count at the start, a fault of the link is counted, and nothing else is.
-        ensures failed { (start : ℕ) → CountsSendFault sent start (view self.old).faults
-            → IfOk result (λ done. IsErrOf done.answer ExchangeFault.Link → Rose start (view self.new).faults) }
-        ensures kept { (start : ℕ) → CountsSendFault sent start (view self.old).faults
-            → IfOk result (λ done. done.answer ≢ Err ExchangeFault.Link → (view self.new).faults ≡ start) }
-        ensures unmoved { (start : ℕ) → CountsSendFault sent start (view self.old).faults
-            → OnErr result ((view self.new).faults ≡ start) }
-        ensures counted { (view self.old).faults ≤ (view self.new).faults }
+        ensures failed { (start : ℕ) → CountsSendFault sent start (view self.old).told.faults
+            → IfOk result (λ done. IsErrOf done.answer ExchangeFault.Link → Rose start (view self.new).told.faults) }
+        ensures kept { (start : ℕ) → CountsSendFault sent start (view self.old).told.faults
+            → IfOk result (λ done. done.answer ≢ Err ExchangeFault.Link → (view self.new).told.faults ≡ start) }
+        ensures unmoved { (start : ℕ) → CountsSendFault sent start (view self.old).told.faults
+            → OnErr result ((view self.new).told.faults ≡ start) }
+        ensures counted { (view self.old).told.faults ≤ (view self.new).told.faults }
 
         // The objects are the same.
         ensures same { (view self.new).objects ≡ (view self.old).objects };
@@ -123,11 +123,11 @@ pub trait Line {
 
         // A fault of the link is counted, and nothing else is.
         ensures failed { IfOk result (λ done. IsErrOf done.answer ExchangeFault.Link
-            → Rose (view self.old).faults (view self.new).faults) }
+            → Rose (view self.old).told.faults (view self.new).told.faults) }
         ensures kept { IfOk result (λ done. done.answer ≢ Err ExchangeFault.Link
-            → (view self.new).faults ≡ (view self.old).faults) }
-        ensures unmoved { OnErr result ((view self.new).faults ≡ (view self.old).faults) }
-        ensures counted { (view self.old).faults ≤ (view self.new).faults }
+            → (view self.new).told.faults ≡ (view self.old).told.faults) }
+        ensures unmoved { OnErr result ((view self.new).told.faults ≡ (view self.old).told.faults) }
+        ensures counted { (view self.old).told.faults ≤ (view self.new).told.faults }
 
         // The objects are the same.
         ensures same { (view self.new).objects ≡ (view self.old).objects }

@@ -7,8 +7,10 @@
 
 pub use input::{MAX_INPUT, MAX_LINES, first_line, read_input};
 pub use laws::{fronts_are_within, lines_are_the_input};
+pub use rows::{Lines, split_lines};
 pub use stop::Stop;
 
 mod input;
 mod laws;
+mod rows;
 mod stop;

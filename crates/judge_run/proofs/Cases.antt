@@ -14,45 +14,46 @@ use Rattle.url_canon.specs.Canonical.{canonical_of}
 use Rattle.url_canon.specs.declared.fault.UrlFault.{UrlFault}
 use Rattle.url_checker.specs.Checking.{IsFindingOf}
 use Rattle.url_checker.specs.Resolving.{IsResolution, pairs_after}
-use Rattle.url_checker.specs.Resolved.{Resolves}
+use Rattle.url_checker.specs.Resolved.{Resolves, unresolved}
 use Rattle.url_checker.specs.declared.findings.Finding.{Finding}
 use Rattle.url_checker.specs.declared.findings.Checked.TheVariants.{Found, Refused}
 use Rattle.verdict_report.specs.declared.verdicts.Judged.{Judged}
 use Rattle.verdict_report.specs.declared.verdicts.Judged.TheVariants as judged
 use Rattle.verdict_report.specs.declared.verdicts.Verdict.{Verdict}
-use Rattle.judge_run.specs.Judging.{Case, FindState, find_state, lists_of, IsFoundIn, IsCase, finds_after, trace_of_case, judged_of, LinkFailedIn, AreCases, finds_after_all, trace_of_cases, judged_of_all, LinkFailedInSome, JudgesLine, JudgesCheck, JudgesLines, BreaksOff, StopsJudging}
+use Rattle.url_checker.specs.declared.finds.Finds.{Finds}
+use Rattle.judge_run.specs.Judging.{Case, lists_of_finding, IsFoundIn, IsCase, finds_after, trace_of_case, judged_of, LinkFailedIn, AreCases, finds_after_all, trace_of_cases, judged_of_all, LinkFailedInSome, JudgesLine, JudgesCheck, JudgesLines, BreaksOffLine, StopsJudging, first_finds}
 use Rattle.judge_run.specs.declared.plan.JudgePlan.{JudgePlan}
 
 -- ---- what is told of one thing after the other
 
 abbrev trace : List Session → List Moment → List Moment → List ℕ → Trace
-trace sessions answers waits words = record { sessions = sessions; answers = answers; waits = waits; words = words }
+trace sessions readings waits words = record { sessions = sessions; readings = readings; waits = waits; drawn = words }
 
-same_trace : (a b : Trace) → a.sessions ≡ b.sessions → a.answers ≡ b.answers → a.waits ≡ b.waits → a.words ≡ b.words → a ≡ b
-same_trace a b sessions answers waits words =
-    ap (λ all. trace all a.answers a.waits a.words) sessions
-    ∙ ap (λ all. trace b.sessions all a.waits a.words) answers
-    ∙ ap (λ all. trace b.sessions b.answers all a.words) waits
-    ∙ ap (λ all. trace b.sessions b.answers b.waits all) words
+same_trace : (a b : Trace) → a.sessions ≡ b.sessions → a.readings ≡ b.readings → a.waits ≡ b.waits → a.drawn ≡ b.drawn → a ≡ b
+same_trace a b sessions readings waits words =
+    ap (λ all. trace all a.readings a.waits a.drawn) sessions
+    ∙ ap (λ all. trace b.sessions all a.waits a.drawn) readings
+    ∙ ap (λ all. trace b.sessions b.readings all a.drawn) waits
+    ∙ ap (λ all. trace b.sessions b.readings b.waits all) words
 
 then_nothing : (a : Trace) → then_trace a no_trace ≡ then_trace no_trace a
-then_nothing a = same_trace _ _ (append-nil a.sessions) (append-nil a.answers) (append-nil a.waits) (append-nil a.words)
+then_nothing a = same_trace _ _ (append-nil a.sessions) (append-nil a.readings) (append-nil a.waits) (append-nil a.drawn)
 
 then_both : (a b c : Trace) → then_trace a (then_trace b c) ≡ then_trace (then_trace a b) c
 then_both a b c =
     same_trace _ _
-    (sym (append_assoc a.sessions b.sessions c.sessions)) (sym (append_assoc a.answers b.answers c.answers))
-    (sym (append_assoc a.waits b.waits c.waits)) (sym (append_assoc a.words b.words c.words))
+    (sym (append_assoc a.sessions b.sessions c.sessions)) (sym (append_assoc a.readings b.readings c.readings))
+    (sym (append_assoc a.waits b.waits c.waits)) (sym (append_assoc a.drawn b.drawn c.drawn))
 
 -- ---- the definitions, with one case more
 
 module _ (published : Publications) where
-  after_one_more : (finds : FindState) (cases : List Case) (case : Case)
+  after_one_more : (finds : Finds) (cases : List Case) (case : Case)
       → finds_after_all published finds (cases ++ case ∷ []) ≡ finds_after published (finds_after_all published finds cases) case
   after_one_more finds [] case = refl
   after_one_more finds (first ∷ cases) case = after_one_more (finds_after published finds first) cases case
 
-  trace_one_more : (finds : FindState) (cases : List Case) (case : Case)
+  trace_one_more : (finds : Finds) (cases : List Case) (case : Case)
       → trace_of_cases published finds (cases ++ case ∷ []) ≡ then_trace (trace_of_cases published finds cases) (trace_of_case (finds_after_all published finds cases) case)
   trace_one_more finds [] case = then_nothing (trace_of_case finds case)
   trace_one_more finds (first ∷ cases) case =
@@ -60,12 +61,12 @@ module _ (published : Publications) where
       ap (λ rest. then_trace (trace_of_case finds first) rest) (trace_one_more after cases case)
       ∙ then_both (trace_of_case finds first) (trace_of_cases published after cases) (trace_of_case (finds_after_all published after cases) case)
 
-  judged_one_more : (finds : FindState) (cases : List Case) (case : Case)
+  judged_one_more : (finds : Finds) (cases : List Case) (case : Case)
       → judged_of_all published finds (cases ++ case ∷ []) ≡ judged_of_all published finds cases ++ judged_of (finds_after_all published finds cases) case ∷ []
   judged_one_more finds [] case = refl
   judged_one_more finds (first ∷ cases) case = ap (λ rest. judged_of finds first ∷ rest) (judged_one_more (finds_after published finds first) cases case)
 
-  cases_one_more : (plan : JudgePlan) (finds : FindState) (lines : List (List ℕ)) (cases : List Case) (line : List ℕ) (case : Case)
+  cases_one_more : (plan : JudgePlan) (finds : Finds) (lines : List (List ℕ)) (cases : List Case) (line : List ℕ) (case : Case)
       → AreCases plan published finds lines cases → IsCase plan published (finds_after_all published finds cases) line case
       → AreCases plan published finds (lines ++ line ∷ []) (cases ++ case ∷ [])
   cases_one_more plan finds [] [] line case are is = (is, tt)
@@ -75,7 +76,7 @@ module _ (published : Publications) where
       (first_is, cases_one_more plan (finds_after published finds one) lines cases line case are is)
 
   -- where the link failed in one of them, it failed before the last or in the last
-  failed_before : (finds : FindState) (cases : List Case) (case : Case)
+  failed_before : (finds : Finds) (cases : List Case) (case : Case)
       → LinkFailedInSome published finds (cases ++ case ∷ []) → LinkFailedInSome published finds cases ⊎ LinkFailedIn (finds_after_all published finds cases) case
   failed_before finds [] case (inl failed) = inr failed
   failed_before finds [] case (inr none) = absurd none
@@ -87,12 +88,12 @@ module _ (published : Publications) where
       later (inl here) = inl (inr here)
       later (inr last) = inr last
 
-  failed_in_front : (finds : FindState) (cases : List Case) (case : Case) → LinkFailedInSome published finds cases → LinkFailedInSome published finds (cases ++ case ∷ [])
+  failed_in_front : (finds : Finds) (cases : List Case) (case : Case) → LinkFailedInSome published finds cases → LinkFailedInSome published finds (cases ++ case ∷ [])
   failed_in_front finds [] case none = absurd none
   failed_in_front finds (first ∷ cases) case (inl failed) = inl failed
   failed_in_front finds (first ∷ cases) case (inr failed) = inr (failed_in_front (finds_after published finds first) cases case failed)
 
-  failed_in_last : (finds : FindState) (cases : List Case) (case : Case) → LinkFailedIn (finds_after_all published finds cases) case → LinkFailedInSome published finds (cases ++ case ∷ [])
+  failed_in_last : (finds : Finds) (cases : List Case) (case : Case) → LinkFailedIn (finds_after_all published finds cases) case → LinkFailedInSome published finds (cases ++ case ∷ [])
   failed_in_last finds [] case failed = inl failed
   failed_in_last finds (first ∷ cases) case failed = inr (failed_in_last (finds_after published finds first) cases case failed)
 
@@ -126,14 +127,14 @@ told_both (Some items) (Some known) (Some told) more next h k =
 grows_by_nothing : (before : Outside) → Grows before before no_trace
 grows_by_nothing before = record {
   log = told_nothing before.log;
-  answers = told_nothing before.answers;
+  readings = told_nothing before.readings;
   waits = told_nothing before.waits;
-  words = told_nothing before.words;
+  drawn = told_nothing before.drawn;
 }
 
-pub judges_nothing : (plan : JudgePlan) (published : Publications) (finds : FindState) (before : Outside) (faults : ℕ) (all : List Judged)
-    → all ≡ [] → JudgesLines plan published finds finds before before faults faults [] all
-judges_nothing plan published finds before faults all none = record {
+pub judges_nothing : (plan : JudgePlan) (published : Publications) (finds : Finds) (before : Outside) (all : List Judged)
+    → all ≡ [] → JudgesLines plan published finds finds before before [] all
+judges_nothing plan published finds before all none = record {
   cases = [];
   are = tt;
   told = grows_by_nothing before;
@@ -143,58 +144,61 @@ judges_nothing plan published finds before faults all none = record {
   kept = λ _. refl;
 }
 
-judges_one_more : (plan : JudgePlan) (published : Publications) (finds mid finds' : FindState) (before between after : Outside) (a b c : ℕ) (lines : List (List ℕ)) (all : List Judged) (line : List ℕ) (one : Judged)
-    → GoesOnWithTrace → a ≤ b → b ≤ c → JudgesLines plan published finds mid before between a b lines all → JudgesLine plan published mid finds' between after b c line one
-    → JudgesLines plan published finds finds' before after a c (lines ++ line ∷ []) (all ++ one ∷ [])
-judges_one_more plan published finds mid finds' before between after a b c lines all line one go ab bc so_far more =
+judges_one_more : (plan : JudgePlan) (published : Publications) (finds mid finds' : Finds) (before between after : Outside) (lines : List (List ℕ)) (all : List Judged) (line : List ℕ) (one : Judged)
+    → GoesOnWithTrace → before.faults ≤ between.faults → between.faults ≤ after.faults → JudgesLines plan published finds mid before between lines all → JudgesLine plan published mid finds' between after line one
+    → JudgesLines plan published finds finds' before after (lines ++ line ∷ []) (all ++ one ∷ [])
+judges_one_more plan published finds mid finds' before between after lines all line one go ab bc so_far more =
     let cases = so_far.cases in
     let case = more.case in
     let here : mid ≡ finds_after_all published finds cases = so_far.finds_are in
     record {
       cases = cases ++ case ∷ [];
-      are = cases_one_more published plan finds lines cases line case so_far.are (subst (λ (f : FindState). IsCase plan published f line case) here more.is);
+      are = cases_one_more published plan finds lines cases line case so_far.are (subst (λ (f : Finds). IsCase plan published f line case) here more.is);
       told = subst (λ told. Grows before after told) (sym (trace_one_more published finds cases case))
           (go before between after (trace_of_cases published finds cases) (trace_of_case (finds_after_all published finds cases) case) so_far.told
-          (subst (λ (f : FindState). Grows between after (trace_of_case f case)) here more.told));
-      finds_are = more.finds_are ∙ ap (λ (f : FindState). finds_after published f case) here ∙ sym (after_one_more published finds cases case);
+          (subst (λ (f : Finds). Grows between after (trace_of_case f case)) here more.told));
+      finds_are = more.finds_are ∙ ap (λ (f : Finds). finds_after published f case) here ∙ sym (after_one_more published finds cases case);
       judged_are = ap (λ front. front ++ one ∷ []) so_far.judged_are
-          ∙ ap (λ last. judged_of_all published finds cases ++ last ∷ []) (more.judged_is ∙ ap (λ (f : FindState). judged_of f case) here)
+          ∙ ap (λ last. judged_of_all published finds cases ++ last ∷ []) (more.judged_is ∙ ap (λ (f : Finds). judged_of f case) here)
           ∙ sym (judged_one_more published finds cases case);
       failed = λ failed. rises (failed_before published finds cases case failed);
       kept = λ none.
-          more.kept (λ failed. none (failed_in_last published finds cases case (subst (λ (f : FindState). LinkFailedIn f case) here failed)))
+          more.kept (λ failed. none (failed_in_last published finds cases case (subst (λ (f : Finds). LinkFailedIn f case) here failed)))
           ∙ so_far.kept (λ failed. none (failed_in_front published finds cases case failed));
     }
   where
-    rises : LinkFailedInSome published finds so_far.cases ⊎ LinkFailedIn (finds_after_all published finds so_far.cases) more.case → Rose a c
-    rises (inl failed) = rose_more a b c (so_far.failed failed) bc
-    rises (inr failed) = rose_later a b c ab (more.failed (subst (λ (f : FindState). LinkFailedIn f more.case) (sym so_far.finds_are) failed))
+    rises : LinkFailedInSome published finds so_far.cases ⊎ LinkFailedIn (finds_after_all published finds so_far.cases) more.case → Rose before.faults after.faults
+    rises (inl failed) = rose_more before.faults between.faults after.faults (so_far.failed failed) bc
+    rises (inr failed) = rose_later before.faults between.faults after.faults ab (more.failed (subst (λ (f : Finds). LinkFailedIn f more.case) (sym so_far.finds_are) failed))
 
 -- the cases of none, and of one more
 
-pub none_judged : (plan : JudgePlan) (published : Publications) (finds : FindState) (before : Outside) (faults : ℕ) → (made : JudgesLines plan published finds finds before before faults faults [] []) × (made.cases ≡ [])
+pub none_judged : (plan : JudgePlan) (published : Publications) (finds : Finds) (before : Outside) → (made : JudgesLines plan published finds finds before before [] []) × (made.cases ≡ [])
 unfolding judges_nothing
-none_judged plan published finds before faults = (judges_nothing plan published finds before faults [] refl, refl)
+none_judged plan published finds before = (judges_nothing plan published finds before [] refl, refl)
 
-pub one_more_judged : (plan : JudgePlan) (published : Publications) (finds mid finds' : FindState) (before between after : Outside) (a b c : ℕ) (lines : List (List ℕ)) (all : List Judged) (line : List ℕ) (one : Judged)
-    → GoesOnWithTrace → a ≤ b → b ≤ c → (so_far : JudgesLines plan published finds mid before between a b lines all) → (more : JudgesLine plan published mid finds' between after b c line one)
-    → (made : JudgesLines plan published finds finds' before after a c (lines ++ line ∷ []) (all ++ one ∷ [])) × (made.cases ≡ so_far.cases ++ more.case ∷ [])
+pub one_more_judged : (plan : JudgePlan) (published : Publications) (finds mid finds' : Finds) (before between after : Outside) (lines : List (List ℕ)) (all : List Judged) (line : List ℕ) (one : Judged)
+    → GoesOnWithTrace → before.faults ≤ between.faults → between.faults ≤ after.faults → (so_far : JudgesLines plan published finds mid before between lines all) → (more : JudgesLine plan published mid finds' between after line one)
+    → (made : JudgesLines plan published finds finds' before after (lines ++ line ∷ []) (all ++ one ∷ [])) × (made.cases ≡ so_far.cases ++ more.case ∷ [])
 unfolding judges_one_more
-one_more_judged plan published finds mid finds' before between after a b c lines all line one go ab bc so_far more =
-    (judges_one_more plan published finds mid finds' before between after a b c lines all line one go ab bc so_far more, refl)
+one_more_judged plan published finds mid finds' before between after lines all line one go ab bc so_far more =
+    (judges_one_more plan published finds mid finds' before between after lines all line one go ab bc so_far more, refl)
 
-pub judges_next : (plan : JudgePlan) (published : Publications) (finds mid finds' : FindState) (before between after : Outside) (a b c : ℕ) (lines : List (List ℕ)) (all all' : List Judged) (line : List ℕ) (one : Judged)
-    → GoesOnWithTrace → a ≤ b → b ≤ c → all' ≡ all ++ one ∷ [] → JudgesLines plan published finds mid before between a b lines all → JudgesLine plan published mid finds' between after b c line one
-    → JudgesLines plan published finds finds' before after a c (lines ++ line ∷ []) all'
-judges_next plan published finds mid finds' before between after a b c lines all all' line one go ab bc are so_far more =
-    subst (λ (xs : List Judged). JudgesLines plan published finds finds' before after a c (lines ++ line ∷ []) xs) (sym are)
-    (judges_one_more plan published finds mid finds' before between after a b c lines all line one go ab bc so_far more)
+pub judges_next : (plan : JudgePlan) (published : Publications) (finds mid finds' : Finds) (before between after : Outside) (lines : List (List ℕ)) (all all' : List Judged) (line : List ℕ) (one : Judged)
+    → GoesOnWithTrace → before.faults ≤ between.faults → between.faults ≤ after.faults → all' ≡ all ++ one ∷ [] → JudgesLines plan published finds mid before between lines all → JudgesLine plan published mid finds' between after line one
+    → JudgesLines plan published finds finds' before after (lines ++ line ∷ []) all'
+judges_next plan published finds mid finds' before between after lines all all' line one go ab bc are so_far more =
+    subst (λ (xs : List Judged). JudgesLines plan published finds finds' before after (lines ++ line ∷ []) xs) (sym are)
+    (judges_one_more plan published finds mid finds' before between after lines all line one go ab bc so_far more)
 
 -- the lines that are left after one more
 pub left_after : (first left all : List (List ℕ)) (line : List ℕ) (rest : List (List ℕ)) → left ≡ line ∷ rest → first ++ left ≡ all → (first ++ line ∷ []) ++ rest ≡ all
 left_after first left all line rest is h = append_assoc first (line ∷ []) rest ∙ ap (λ (ls : List (List ℕ)). first ++ ls) (sym is) ∙ h
 
 -- ---- one of them
+
+abbrev finds_with : Pairs → WaitState → Finds
+finds_with cache waits = record { cache = cache; waits = waits }
 
 -- what the lists of the first publication have
 pub found_first : (lists : List Held) (line : List ℕ) (finding : Finding) → IsFindingOf lists 0 line finding → IsFoundIn (lists ∷ []) line finding
@@ -203,21 +207,24 @@ found_first lists line finding found = record {
   is = subst (λ (n : ℕ). IsFindingOf (slice_index_or (lists ∷ []) n []) n line finding) (sym found.numbered) found;
 }
 
-pub first_lists_are : (lists : List Held) (line : List ℕ) (finding : Finding) → IsFindingOf lists 0 line finding → lists_of (lists ∷ []) finding ≡ lists
+pub first_lists_are : (lists : List Held) (line : List ℕ) (finding : Finding) → IsFindingOf lists 0 line finding → lists_of_finding (lists ∷ []) finding ≡ lists
 first_lists_are lists line finding found = ap (λ (n : ℕ). slice_index_or (lists ∷ []) n []) found.numbered
 
-pub resolved_check : (plan : JudgePlan) (published : Publications) (states : List (List ℕ)) (finding : Finding) (pairs pairs' : Pairs) (waits waits' : WaitState) (before after : Outside) (f f' : ℕ) (line : List ℕ) (verdict : Verdict)
-    → states ≡ tokens_of (lists_of published finding) → IsFoundIn published line finding → Resolves states plan.patience plan.target plan.need_digest finding.hits pairs pairs' waits waits' before after f f' verdict
-    → JudgesCheck plan published (find_state pairs waits) (find_state pairs' waits') before after f f' line (Found finding) (judged.Verdict finding.number finding.text verdict)
-resolved_check plan published states finding pairs pairs' waits waits' before after f f' line verdict same found resolves =
+same_finds : (a b : Finds) → a.cache ≡ b.cache → a.waits ≡ b.waits → a ≡ b
+same_finds a b cache waits = ap (λ ps. finds_with ps a.waits) cache ∙ ap (λ ws. finds_with b.cache ws) waits
+
+pub resolved_check : (plan : JudgePlan) (published : Publications) (states : List (List ℕ)) (finding : Finding) (finds finds' : Finds) (before after : Outside) (line : List ℕ) (verdict : Verdict)
+    → states ≡ tokens_of (lists_of_finding published finding) → IsFoundIn published line finding → Resolves (unresolved states finding.hits) plan.patience plan.updates.target plan.updates.need_digest finds finds' before after verdict
+    → JudgesCheck plan published finds finds' before after line (Found finding) (judged.Verdict finding.number finding.text verdict)
+resolved_check plan published states finding finds finds' before after line verdict same found resolves =
     let r = resolves.resolution in
     record {
       judges = record {
         case = Ok (record { finding = finding; resolution = r });
-        is = (found, subst (λ (st : List (List ℕ)). IsResolution st plan.patience plan.target plan.need_digest finding.hits pairs waits r) same resolves.is);
+        is = (found, subst (λ (st : List (List ℕ)). IsResolution st plan.patience plan.updates.target plan.updates.need_digest finding.hits finds.cache finds.waits r) same resolves.is);
         told = resolves.told;
-        finds_are = ap (λ (ps : Pairs). find_state ps waits') (resolves.pairs_are ∙ ap (λ (st : List (List ℕ)). pairs_after st finding.hits pairs r) same)
-            ∙ ap (λ (ws : WaitState). find_state (pairs_after (tokens_of (lists_of published finding)) finding.hits pairs r) ws) resolves.waits_are;
+        finds_are = same_finds finds' (finds_after published finds (Ok (record { finding = finding; resolution = r })))
+            (resolves.pairs_are ∙ ap (λ (st : List (List ℕ)). pairs_after st finding.hits finds.cache r) same) resolves.waits_are;
         judged_is = ap (λ (v : Verdict). judged.Verdict finding.number finding.text v) resolves.verdict_is;
         failed = resolves.failed;
         kept = resolves.kept;
@@ -225,9 +232,9 @@ resolved_check plan published states finding pairs pairs' waits waits' before af
       checked = refl;
     }
 
-pub refused_line : (plan : JudgePlan) (published : Publications) (finds : FindState) (before : Outside) (f : ℕ) (line : List ℕ) (fault told : UrlFault)
-    → told ≡ fault → canonical_of line ≡ Err fault → JudgesLine plan published finds finds before before f f line (judged.Refused told)
-refused_line plan published finds before f line fault told same is = record {
+pub refused_line : (plan : JudgePlan) (published : Publications) (finds : Finds) (before : Outside) (line : List ℕ) (fault told : UrlFault)
+    → told ≡ fault → canonical_of line ≡ Err fault → JudgesLine plan published finds finds before before line (judged.Refused told)
+refused_line plan published finds before line fault told same is = record {
   case = Err fault;
   is = is;
   told = grows_by_nothing before;
@@ -237,21 +244,25 @@ refused_line plan published finds before f line fault told same is = record {
   kept = λ _. refl;
 }
 
-pub refused_check : (plan : JudgePlan) (published : Publications) (finds : FindState) (before : Outside) (f : ℕ) (line : List ℕ) (fault : UrlFault)
-    → canonical_of line ≡ Err fault → JudgesCheck plan published finds finds before before f f line (Refused fault) (judged.Refused fault)
+pub refused_check : (plan : JudgePlan) (published : Publications) (finds : Finds) (before : Outside) (line : List ℕ) (fault : UrlFault)
+    → canonical_of line ≡ Err fault → JudgesCheck plan published finds finds before before line (Refused fault) (judged.Refused fault)
 unfolding refused_line
-refused_check plan published finds before f line fault is = record { judges = refused_line plan published finds before f line fault fault refl is; checked = refl }
+refused_check plan published finds before line fault is = record { judges = refused_line plan published finds before line fault fault refl is; checked = refl }
+
+-- what there is before the first find
+pub first_are : (finds : Finds) (waits : WaitState) → finds.cache ≡ [] → finds.waits ≡ waits → finds ≡ first_finds waits
+first_are finds waits cache is = same_finds finds (first_finds waits) cache is
 
 -- ---- where memory was refused
 
-pub unbroken : (plan : JudgePlan) (published : Publications) (finds : FindState) (before after : Outside) (left : List (List ℕ)) → after ≡ before → BreaksOff plan published finds before after left
+pub unbroken : (plan : JudgePlan) (published : Publications) (finds : Finds) (before after : Outside) (left : List (List ℕ)) → after ≡ before → BreaksOffLine plan published finds before after left
 unbroken plan published finds before after [] same = same
 unbroken plan published finds before after (line ∷ left) same = inl same
 
 -- after some lines, before the next
-pub stops_after : (plan : JudgePlan) (published : Publications) (finds finds' : FindState) (before after : Outside) (a c : ℕ) (lines first left : List (List ℕ)) (all : List Judged)
-    → first ++ left ≡ lines → JudgesLines plan published finds finds' before after a c first all → StopsJudging plan published finds before after a c lines
-stops_after plan published finds finds' before after a c lines first left all are judges = record {
+pub stops_after : (plan : JudgePlan) (published : Publications) (finds finds' : Finds) (before after : Outside) (lines first left : List (List ℕ)) (all : List Judged)
+    → first ++ left ≡ lines → JudgesLines plan published finds finds' before after first all → StopsJudging plan published finds before after lines
+stops_after plan published finds finds' before after lines first left all are judges = record {
   first = first;
   left = left;
   lines_are = are;
@@ -260,23 +271,25 @@ stops_after plan published finds finds' before after a c lines first left all ar
   all = all;
   judges = judges;
   breaks = unbroken plan published finds' after after left refl;
+  unmoved = refl;
 }
 
 -- within the next
-pub stops_within : (plan : JudgePlan) (published : Publications) (finds mid : FindState) (before between after : Outside) (a b b' : ℕ) (lines first left : List (List ℕ)) (line : List ℕ) (rest : List (List ℕ)) (all : List Judged)
-    → left ≡ line ∷ rest → first ++ left ≡ lines → b' ≡ b → JudgesLines plan published finds mid before between a b first all → BreaksOff plan published mid between after (line ∷ rest)
-    → StopsJudging plan published finds before after a b' lines
-stops_within plan published finds mid before between after a b b' lines first left line rest all is are same judges breaks = record {
+pub stops_within : (plan : JudgePlan) (published : Publications) (finds mid : Finds) (before between after : Outside) (lines first left : List (List ℕ)) (line : List ℕ) (rest : List (List ℕ)) (all : List Judged)
+    → left ≡ line ∷ rest → first ++ left ≡ lines → after.faults ≡ between.faults → JudgesLines plan published finds mid before between first all → BreaksOffLine plan published mid between after (line ∷ rest)
+    → StopsJudging plan published finds before after lines
+stops_within plan published finds mid before between after lines first left line rest all is are same judges breaks = record {
   first = first;
   left = line ∷ rest;
   lines_are = ap (λ (ls : List (List ℕ)). first ++ ls) (sym is) ∙ are;
   between = between;
   finds_now = mid;
   all = all;
-  judges = subst (λ (n : ℕ). JudgesLines plan published finds mid before between a n first all) (sym same) judges;
+  judges = judges;
   breaks = breaks;
+  unmoved = same;
 }
 
-pub stops_at_once : (plan : JudgePlan) (published : Publications) (finds : FindState) (before : Outside) (f : ℕ) (lines : List (List ℕ)) → StopsJudging plan published finds before before f f lines
-stops_at_once plan published finds before f lines =
-    stops_after plan published finds finds before before f f lines [] lines [] refl (judges_nothing plan published finds before f [] refl)
+pub stops_at_once : (plan : JudgePlan) (published : Publications) (finds : Finds) (before : Outside) (lines : List (List ℕ)) → StopsJudging plan published finds before before lines
+stops_at_once plan published finds before lines =
+    stops_after plan published finds finds before before lines [] lines [] refl (judges_nothing plan published finds before [] refl)

@@ -1,102 +1,172 @@
 -- How a run ends.
-use Rattle.std.proofs.Common.{◌≡◌, ℕ, List, [], ◌∷◌, ◌++◌, sym, ap, ◌∙◌, subst, inl, inr, append-nil, Option, Ok, Err}
-use Rattle.sb_model.specs.declared.names.ListName.{ListName}
-use Rattle.sb_model.specs.declared.time.Moment.{Moment}
-use Rattle.sb_outside.specs.Outside.{IfTold, appended}
-use Rattle.sb_outside.specs.Writing.{HasFront}
-use Rattle.update_client.specs.Held.{Held}
+use Rattle.std.proofs.Common.{◌≡◌, ◌≤◌, ℕ, List, [], ◌∷◌, ◌++◌, Bool, map, refl, sym, ap, ◌∙◌, subst, inl, inr, Option, Ok, Err}
+use Rattle.std.specs.Prelude.{IfOk}
+use Rattle.sb_outside.specs.Outside.{appended}
+use Rattle.sb_outside.specs.Writing.{IsOnItsWay, HasFront}
+use Rattle.input_lines.specs.Ways.{appended-twice, way_end, way_front, way_longer, way_lost}
 use Rattle.snapshot_publish.specs.Publications.{Publications}
-use Rattle.wait_rules.specs.Waits.{first_state}
-use Rattle.wait_rules.specs.declared.waits.WaitState.{WaitState}
-use Rattle.client_line.specs.Lines.{LineView, ReadsClock, Draws}
-use Rattle.timed_sessions.specs.Told.{Outside, with_more}
-use Rattle.input_lines.specs.Lines.{lines_of}
-use Rattle.input_lines.specs.Ways.{way_front}
-use Rattle.update_run.specs.Opening.{first_lists}
-use Rattle.update_run.specs.Saved.{keeping}
 use Rattle.verdict_report.specs.declared.verdicts.Judged.{Judged}
-use Rattle.judge_run.specs.Judging.{HasJudged}
-use Rattle.judge_run.specs.Opening.{OpensFinds, ReadsWhole, Begins}
-use Rattle.judge_run.specs.Printed.{report_text}
-use Rattle.judge_run.specs.Run.{Seen, Ending, EndsFrom, EndsBegun, EndsJudging}
-use Rattle.judge_run.specs.Stops.{IsStopped}
-use Rattle.judge_run.specs.declared.beginning.Begun.{Begun}
+use Rattle.wait_rules.specs.declared.waits.WaitState.{WaitState}
+use Rattle.timed_sessions.specs.Told.{Outside}
+use Rattle.update_run.specs.Printed.{has_refusals}
+use Rattle.update_run.specs.Rounding.{text_so_far}
+use Rattle.update_run.specs.Run.{Seen, seen}
+use Rattle.update_run.specs.Saved.{Keeping, saved_lists}
+use Rattle.update_run.specs.Steps.{round_state_of}
+use Rattle.update_run.specs.declared.client.Client.{Client}
+use Rattle.update_run.specs.declared.stop.RunStop.{RunStop}
+use Rattle.update_run.specs.declared.stop.RunStop.TheVariants as run
+use Rattle.judge_run.specs.Beside.{StopsBeside}
+use Rattle.judge_run.specs.Checked.{NumbersNeverFall}
+use Rattle.judge_run.specs.Judging.{check_of, first_finds, HasJudged, StopsJudging}
+use Rattle.judge_run.specs.Printed.{outcome_of_all, report_text}
+use Rattle.judge_run.specs.Rounds.{PublishesAllRounds}
+use Rattle.judge_run.specs.Run.{JudgeEnding, EndsReporting, EndsUpdating, StopsAmongRounds, Updated, publications_of}
+use Rattle.judge_run.specs.Stops.{StopsWriting, stop_after_rounds}
+use Rattle.judge_run.specs.declared.judgement.Judgement.{Judgement}
 use Rattle.judge_run.specs.declared.plan.JudgePlan.{JudgePlan}
 use Rattle.judge_run.specs.declared.stop.JudgeStop.{JudgeStop}
 use Rattle.judge_run.specs.declared.stop.JudgeStop.TheVariants as stop
-use Rattle.judge_run.proofs.Cases.{told_same, told_both}
+use Rattle.judge_run.proofs.ReportFacts.{front_behind}
 
--- ---- a report behind what was written before it
+-- ---- the judging ends, of which nothing is seen of the keeper
 
-pub front_behind : (a b c : Option (List ℕ)) (page text : List ℕ) → b ≡ appended a page → HasFront b c text → HasFront a c (page ++ text)
-front_behind a b c page text h front = way_front [] page text (record { taken = page; has = h; rest = append-nil page }) front
+module _ (plan : JudgePlan) (published : Publications) (finds : WaitState) (waiting : List ℕ) (lines : List (List ℕ)) (keeper : Keeping) where
+  pub stops_at_waiting : (o : Outside) (a b : Option (List ℕ)) → HasFront a b waiting → EndsReporting plan (Err stop.WriteFault) published finds waiting lines (seen o keeper a) (seen o keeper b)
+  stops_at_waiting o a b front = inl (record { outside = refl; keeper = refl; front = front })
 
--- the report stopped
-module _ (plan : JudgePlan) (published : Publications) (waits : WaitState) (waiting : List ℕ) (lines : List (List ℕ)) (before after : Outside) (f f' a b : ℕ) (held held' : Option (List ℕ)) (all : List Judged) where
-  pub stops_at_report : (why : JudgeStop) → IsStopped why a b → HasJudged plan published waits before after f f' lines all → HasFront held held' (waiting ++ report_text all)
-      → EndsFrom plan (Err why) published waits waiting lines before after f f' held held'
-  stops_at_report stop.WriteFault is judged front = inr (record { all = all; judged = judged; front = front })
-  stops_at_report stop.OutOfMemory is judged front = inr (record { all = all; judged = judged; front = front })
-  stops_at_report stop.ReadFault (inl h) judged front = absurd (let other = h.0 in cc)
-  stops_at_report stop.ReadFault (inr h) judged front = absurd (let other = h.0 in cc)
-  stops_at_report stop.PastLimits (inl h) judged front = absurd (let other = h.0 in cc)
-  stops_at_report stop.PastLimits (inr h) judged front = absurd (let other = h.0 in cc)
-  stops_at_report stop.KeepFault (inl h) judged front = absurd (let other = h.0 in cc)
-  stops_at_report stop.KeepFault (inr h) judged front = absurd (let other = h.0 in cc)
+  pub stops_among : (o o' : Outside) (a b : Option (List ℕ)) → StopsJudging plan published (first_finds finds) o o' lines → b ≡ appended a waiting
+      → EndsReporting plan (Err stop.OutOfMemory) published finds waiting lines (seen o keeper a) (seen o' keeper b)
+  stops_among o o' a b stops text = inl (record { stops = stops; keeper = refl; text = text })
 
--- ---- a run that began
+  module _ (o o' : Outside) (a b c : Option (List ℕ)) (all : List Judged) (judged : HasJudged plan published finds o o' lines all) (waited : b ≡ appended a waiting) where
+    pub judges_all : (judgement : Judgement) → NumbersNeverFall plan.workers (map check_of judged.judges.cases) → c ≡ appended b (report_text all) → judgement.outcome ≡ outcome_of_all all
+        → EndsReporting plan (Ok judgement) published finds waiting lines (seen o keeper a) (seen o' keeper c)
+    judges_all judgement never text is = record {
+      all = all;
+      judged = judged;
+      never_fall = never;
+      keeper = refl;
+      text = text ∙ ap (λ (known : Option (List ℕ)). appended known (report_text all)) waited ∙ appended-twice a waiting (report_text all);
+      is = is;
+    }
 
-pub same_keeping : (handed handed' : Option (List (List ℕ))) (kept kept' : Option (Option (List ℕ))) → handed' ≡ handed → kept' ≡ kept → keeping handed' kept' ≡ keeping handed kept
-same_keeping handed handed' kept kept' h k = ap (λ x. keeping x kept') h ∙ ap (λ x. keeping handed x) k
+    pub stops_reporting : (why : JudgeStop) (f f' : ℕ) → StopsWriting why f f' → HasFront b c (report_text all)
+        → EndsReporting plan (Err why) published finds waiting lines (seen o keeper a) (seen o' keeper c)
+    stops_reporting stop.WriteFault f f' is front = inr (record { all = all; judged = judged; keeper = refl; front = front_behind a b c waiting (report_text all) waited front })
+    stops_reporting stop.OutOfMemory f f' is front = inr (record { all = all; judged = judged; keeper = refl; front = front_behind a b c waiting (report_text all) waited front })
+    stops_reporting stop.ReadFault f f' (inl h) front = absurd (let other = h.0 in cc)
+    stops_reporting stop.ReadFault f f' (inr h) front = absurd (let other = h.0 in cc)
+    stops_reporting stop.PastLimits f f' (inl h) front = absurd (let other = h.0 in cc)
+    stops_reporting stop.PastLimits f f' (inr h) front = absurd (let other = h.0 in cc)
+    stops_reporting stop.KeepFault f f' (inl h) front = absurd (let other = h.0 in cc)
+    stops_reporting stop.KeepFault f f' (inr h) front = absurd (let other = h.0 in cc)
 
--- the clock is read, and two words are drawn
-pub opens : (start : Moment) (first second : ℕ) (updates waits : WaitState) (before read between after : LineView)
-    → ReadsClock start before read → Draws (first ∷ []) read between → Draws (second ∷ []) between after
-    → updates ≡ first_state start first → waits ≡ first_state start second → OpensFinds updates waits before.told after.told
-opens start first second updates waits before read between after reads draws again first_update first_find = record {
-  start = start;
-  update_word = first;
-  find_word = second;
-  first_update = first_update;
-  first = first_find;
-  told = record {
-    log = told_same before.told.log after.told.log (again.log ∙ draws.log ∙ reads.others.log);
-    answers = rw again.answers (rw draws.answers reads.read);
-    waits = told_same before.told.waits after.told.waits (again.waits ∙ draws.waits ∙ reads.waits);
-    words = told_both before.told.words between.told.words after.told.words (first ∷ []) (second ∷ [])
-        (subst (λ words. IfTold between.told.words (with_more words (first ∷ []))) reads.others.words draws.drawn) again.drawn;
-  };
-}
+-- what waited is on its way to the output, and then the judging ends
+on_way : (ending : JudgeEnding) (plan : JudgePlan) (published : Publications) (finds : WaitState) (waiting done : List ℕ) (lines : List (List ℕ)) (start : Option (List ℕ)) (before after : Seen)
+    → IsOnItsWay start before.output waiting done → EndsReporting plan ending published finds waiting lines before after
+    → EndsReporting plan ending published finds done lines (seen before.outside before.keeper start) after
+on_way (Ok judgement) plan published finds waiting done lines start before after way judges =
+    let report = report_text judges.all in
+    record {
+      all = judges.all;
+      judged = judges.judged;
+      never_fall = judges.never_fall;
+      keeper = judges.keeper;
+      text = way_end (waiting ++ report) (done ++ report) (way_longer waiting done report way) judges.text;
+      is = judges.is;
+    }
+on_way (Err stop.WriteFault) plan published finds waiting done lines start before after way (inl at) =
+    inl (record { outside = at.outside; keeper = at.keeper; front = way_lost waiting done way at.front })
+on_way (Err stop.WriteFault) plan published finds waiting done lines start before after way (inr at) =
+    inr (record { all = at.all; judged = at.judged; keeper = at.keeper; front = way_front waiting done (report_text at.all) way at.front })
+on_way (Err stop.OutOfMemory) plan published finds waiting done lines start before after way (inl at) =
+    inl (record { stops = at.stops; keeper = at.keeper; text = way_end waiting done way at.text })
+on_way (Err stop.OutOfMemory) plan published finds waiting done lines start before after way (inr at) =
+    inr (record { all = at.all; judged = at.judged; keeper = at.keeper; front = way_front waiting done (report_text at.all) way at.front })
+on_way (Err stop.ReadFault) plan published finds waiting done lines start before after way none = none
+on_way (Err stop.PastLimits) plan published finds waiting done lines start before after way none = none
+on_way (Err stop.KeepFault) plan published finds waiting done lines start before after way none = none
 
--- a run that began ends as its judging did
-any_ending : (ending : Ending) (plan : JudgePlan) (before after : Seen) → EndsBegun plan ending before after → EndsJudging plan ending before after
-any_ending (Ok judgement) plan before after ends = ends
-any_ending (Err stop.ReadFault) plan before after ends = absurd ends.ends
-any_ending (Err stop.PastLimits) plan before after ends = absurd ends.ends
-any_ending (Err stop.KeepFault) plan before after ends = absurd ends.ends
-any_ending (Err stop.WriteFault) plan before after ends = ends
-any_ending (Err stop.OutOfMemory) plan before after ends = inr ends
+-- ---- from a client on
 
-pub begun_ends : (ending : Ending) (plan : JudgePlan) (names : List ListName) (begun : Begun) (input : List ℕ) (opened : Outside) (faults : ℕ) (before after : Seen)
-    → names ≡ plan.names → input ≡ begun.text → Begins names begun before.left after.left before.keeper.kept before.outside opened → faults ≡ before.faults → after.keeper ≡ before.keeper
-    → EndsFrom plan ending (begun.lists ∷ []) begun.waits begun.page (lines_of input) opened after.outside faults after.faults before.held after.held
-    → EndsJudging plan ending before after
-begun_ends ending plan names begun input opened faults before after same text begins uncounted keeper ends =
-    let kept = begins.loaded.kept in
-    let are = begins.loaded.are ∙ ap (λ (ns : List ListName). first_lists ns kept) same in
-    let from = λ (ls : List Held) (page : List ℕ). EndsFrom plan ending (ls ∷ []) begun.waits page (lines_of input) opened after.outside before.faults after.faults before.held after.held in
-    let here = subst (λ (count : ℕ). EndsFrom plan ending (begun.lists ∷ []) begun.waits begun.page (lines_of input) opened after.outside count after.faults before.held after.held) uncounted ends in
-    any_ending ending plan before after (record {
-      begins = record {
-        input = input;
-        reads = subst (λ (bytes : List ℕ). ReadsWhole bytes before.left after.left) (sym text) begins.input;
-        kept = kept;
-        loaded = begins.loaded.loaded;
-        keeper = keeper;
-        updates = begun.updates;
-        waits = begun.waits;
-        opened = opened;
-        opens = begins.opens;
-      };
-      ends = subst (λ (page : List ℕ). from (first_lists plan.names kept) page) begins.loaded.told (subst (λ (ls : List Held). from ls begun.page) are here);
-    })
+-- what is known once the rounds are made
+pub any_end : (ending : JudgeEnding) (plan : JudgePlan) (client : Client) (finds : WaitState) (lines : List (List ℕ)) (before between after : Seen) (updated : Updated plan client before between)
+    → EndsReporting plan ending (publications_of client.lists updated.rounds) finds (text_so_far client updated.rounds) lines between after
+    → IfOk ending (λ judgement. judgement.refused ≡ has_refusals client.lists updated.rounds)
+    → EndsUpdating plan ending client finds lines before after
+any_end (Ok judgement) plan client finds lines before between after updated judges refused = record { between = between; updated = updated; judges = judges; refused = refused }
+any_end (Err stop.WriteFault) plan client finds lines before between after updated stops refused = inr (record { between = between; updated = updated; stops = stops })
+any_end (Err stop.OutOfMemory) plan client finds lines before between after updated stops refused = inr (inr (record { between = between; updated = updated; stops = stops }))
+any_end (Err stop.ReadFault) plan client finds lines before between after updated none refused = none
+any_end (Err stop.PastLimits) plan client finds lines before between after updated none refused = none
+any_end (Err stop.KeepFault) plan client finds lines before between after updated none refused = absurd none
+
+refused_as : (ending : JudgeEnding) (a b : Bool) → a ≡ b → IfOk ending (λ judgement. judgement.refused ≡ a) → IfOk ending (λ judgement. judgement.refused ≡ b)
+refused_as (Ok judgement) a b same is = is ∙ same
+refused_as (Err why) a b same is = tt
+
+-- What is seen once the rounds are made, but for what they print, which waits still.
+module _ (plan : JudgePlan) (client client' : Client) (published published' : Publications) (before mid : Seen) (refused : Bool)
+    (publishes : PublishesAllRounds plan.updates client client' published published' before mid refused)
+    (counted : before.outside.faults ≤ mid.outside.faults) (idle : plan.updates.rounds ≡ 0 → mid ≡ before)
+  where
+    between : Seen
+    between = seen mid.outside mid.keeper before.output
+
+    updated : Updated plan client before between
+    unfolding between
+    updated = record {
+      rounds = publishes.rounds;
+      all = publishes.all;
+      state = round_state_of client';
+      made = publishes.publishes.takes.made;
+      saved = publishes.publishes.takes.saved;
+      waiting = refl;
+      counted = counted;
+      idle = λ none. ap (λ (s : Seen). seen s.outside s.keeper before.output) (idle none);
+    }
+
+    pub ends_checked : (ending : JudgeEnding) (finds : WaitState) (lines : List (List ℕ)) (after : Seen) → published ≡ client.lists ∷ []
+        → EndsReporting plan ending published' finds client'.page lines mid after → IfOk ending (λ judgement. judgement.refused ≡ refused)
+        → EndsUpdating plan ending client finds lines before after
+    unfolding between updated
+    ends_checked ending finds lines after first ends is =
+        let are = publishes.publishes.published_are ∙ ap (λ (ps : Publications). ps ++ saved_lists client.lists publishes.rounds) first in
+        let here = subst (λ (ps : Publications). EndsReporting plan ending ps finds client'.page lines mid after) are ends in
+        any_end ending plan client finds lines before between after updated
+        (on_way ending plan (publications_of client.lists publishes.rounds) finds client'.page (text_so_far client publishes.rounds) lines before.output mid after publishes.publishes.takes.text here)
+        (refused_as ending refused _ publishes.publishes.takes.refusal is)
+
+-- the same over what the calls were given
+pub ended : (plan : JudgePlan) (first client client' : Client) (published published' : Publications) (before mid after : Seen) (refused : Bool) (ending : JudgeEnding) (finds : WaitState) (urls lines : List (List ℕ))
+    → client ≡ first → published ≡ first.lists ∷ [] → urls ≡ lines → PublishesAllRounds plan.updates client client' published published' before mid refused
+    → before.outside.faults ≤ mid.outside.faults → (plan.updates.rounds ≡ 0 → mid ≡ before)
+    → EndsReporting plan ending published' finds client'.page urls mid after → IfOk ending (λ judgement. judgement.refused ≡ refused)
+    → EndsUpdating plan ending first finds lines before after
+ended plan first client client' published published' before mid after refused ending finds urls lines same list are publishes counted idle ends is =
+    let here = subst (λ (ls : List (List ℕ)). EndsReporting plan ending published' finds client'.page ls mid after) are ends in
+    subst (λ (one : Client). EndsUpdating plan ending one finds lines before after) same
+    (ends_checked plan client client' published published' before mid refused publishes counted idle ending finds lines after (list ∙ ap (λ (one : Client). one.lists ∷ []) (sym same)) here is)
+
+-- ---- where the rounds stop
+
+stops_rounds : (why : RunStop) (plan : JudgePlan) (client : Client) (finds : WaitState) (lines : List (List ℕ)) (before after : Seen)
+    → StopsAmongRounds why plan client before after → EndsUpdating plan (Err (stop_after_rounds why)) client finds lines before after
+stops_rounds run.WriteFault plan client finds lines before after stops = inl stops
+stops_rounds run.KeepFault plan client finds lines before after stops = stops
+stops_rounds run.OutOfMemory plan client finds lines before after stops = inr (inl stops)
+
+pub stopped : (why : RunStop) (told : JudgeStop) (plan : JudgePlan) (first client client' : Client) (published published' : Publications) (finds : WaitState) (lines : List (List ℕ)) (before after : Seen)
+    → told ≡ stop_after_rounds why → client ≡ first → published ≡ first.lists ∷ [] → before.outside.faults ≤ after.outside.faults → (plan.updates.rounds ≡ 0 → after ≡ before)
+    → StopsBeside why plan.updates client client' published published' before after → EndsUpdating plan (Err told) first finds lines before after
+stopped why told plan first client client' published published' finds lines before after is same list counted idle stops =
+    let of_first = subst (λ (one : Client). StopsBeside why plan.updates one client' published published' before after) same stops in
+    let here = stops_rounds why plan first finds lines before after (record {
+      client' = client';
+      published' = published';
+      stops = subst (λ (ps : Publications). StopsBeside why plan.updates first client' ps published' before after) list of_first;
+      counted = counted;
+      idle = idle;
+    }) in
+    subst (λ (stop : JudgeStop). EndsUpdating plan (Err stop) first finds lines before after) (sym is) here

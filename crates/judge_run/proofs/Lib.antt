@@ -1,4 +1,11 @@
 pub mod Cases
 pub mod Sessions
-pub mod Endings
 pub mod ReportFacts
+pub mod Places
+pub mod OneCheck
+pub mod JudgedSoFar
+pub mod SettledFacts
+pub mod Loop
+pub mod Endings
+pub mod AloneFacts
+pub mod Openings

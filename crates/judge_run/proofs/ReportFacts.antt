@@ -6,15 +6,14 @@ use Rattle.std.proofs.lemmas.List.Folds.{concat-append}
 use Rattle.std.proofs.lemmas.List.Recursion.{is_count_by}
 use Rattle.sb_outside.specs.Outside.{appended}
 use Rattle.sb_outside.specs.Writing.{HasFront}
-use Rattle.input_lines.specs.Ways.{appended-twice, drop_some, front_more}
+use Rattle.input_lines.specs.Ways.{appended-twice, drop_some, front_more, way_front}
 use Rattle.verdict_report.specs.Printed.{report_line, report_lines, summary_text, is_undecided, is_judged_refused, is_judged_unsafe, counts_of}
 use Rattle.verdict_report.specs.declared.verdicts.Judged.{Judged}
 use Rattle.verdict_report.specs.declared.counts.Counts.{Counts}
-use Rattle.judge_run.specs.Printed.{is_open, report_text, judgement_of}
-use Rattle.judge_run.specs.declared.judgement.Judgement.TheVariants.{Safe, Unsafe, Open}
+use Rattle.judge_run.specs.Printed.{is_left_open, report_text, outcome_of_all}
+use Rattle.judge_run.specs.declared.judgement.Outcome.TheVariants.{Safe, Unsafe, Open}
 use Rattle.judge_run.specs.Reporting.{IsReport, pages_text}
 use Rattle.judge_run.specs.declared.report.Report.{Report}
-use Rattle.judge_run.proofs.Endings.{front_behind}
 
 -- ---- one URL more
 
@@ -86,13 +85,13 @@ either false true false true = refl
 either false true false false = refl
 either false false c d = refl
 
-any_either : (all : List Judged) → list_any is_open all ≡ (list_any is_undecided all || list_any is_judged_refused all)
+any_either : (all : List Judged) → list_any is_left_open all ≡ (list_any is_undecided all || list_any is_judged_refused all)
 any_either [] = refl
 any_either (one ∷ all) =
-    ap (λ rest. is_open one || rest) (any_either all) ∙ either (is_undecided one) (is_judged_refused one) (list_any is_undecided all) (list_any is_judged_refused all)
+    ap (λ rest. is_left_open one || rest) (any_either all) ∙ either (is_undecided one) (is_judged_refused one) (list_any is_undecided all) (list_any is_judged_refused all)
 
-said : (a b : Bool) (all : List Judged) → list_any is_judged_unsafe all ≡ a → list_any is_open all ≡ b → judgement_of all ≡ cond a Unsafe (cond b Open Safe)
-said a b all one other = ap (λ x. cond x Unsafe (cond (list_any is_open all) Open Safe)) one ∙ ap (λ x. cond a Unsafe (cond x Open Safe)) other
+said : (a b : Bool) (all : List Judged) → list_any is_judged_unsafe all ≡ a → list_any is_left_open all ≡ b → outcome_of_all all ≡ cond a Unsafe (cond b Open Safe)
+said a b all one other = ap (λ x. cond x Unsafe (cond (list_any is_left_open all) Open Safe)) one ∙ ap (λ x. cond a Unsafe (cond x Open Safe)) other
 
 module _ (counts : Counts) (all : List Judged) (same : counts ≡ counts_of all) where
   found : count is_judged_unsafe all ≡ counts.found_unsafe
@@ -107,24 +106,28 @@ module _ (counts : Counts) (all : List Judged) (same : counts ≡ counts_of all)
   none_found : counts.found_unsafe ≤ 0 → list_any is_judged_unsafe all ≡ false
   none_found h = none_of is_judged_unsafe all (omega (arith, found, h))
 
-  pub said_unsafe : 0 < counts.found_unsafe → Unsafe ≡ judgement_of all
-  said_unsafe h = sym (said true (list_any is_open all) all (some_of is_judged_unsafe all (omega (arith, found, h))) refl)
+  pub said_unsafe : 0 < counts.found_unsafe → Unsafe ≡ outcome_of_all all
+  said_unsafe h = sym (said true (list_any is_left_open all) all (some_of is_judged_unsafe all (omega (arith, found, h))) refl)
 
-  pub said_undecided : counts.found_unsafe ≤ 0 → 0 < counts.undecided → Open ≡ judgement_of all
+  pub said_undecided : counts.found_unsafe ≤ 0 → 0 < counts.undecided → Open ≡ outcome_of_all all
   said_undecided none h =
       sym (said false true all (none_found none) (any_either all ∙ ap (λ b. b || list_any is_judged_refused all) (some_of is_undecided all (omega (arith, left_open, h)))))
 
-  pub said_refused : counts.found_unsafe ≤ 0 → counts.undecided ≤ 0 → 0 < counts.refused → Open ≡ judgement_of all
+  pub said_refused : counts.found_unsafe ≤ 0 → counts.undecided ≤ 0 → 0 < counts.refused → Open ≡ outcome_of_all all
   said_refused none decided h =
       sym (said false true all (none_found none)
       (any_either all ∙ (ap (λ b. b || list_any is_judged_refused all) (none_of is_undecided all (omega (arith, left_open, decided))) ∙ some_of is_judged_refused all (omega (arith, turned_away, h)))))
 
-  pub said_safe : counts.found_unsafe ≤ 0 → counts.undecided ≤ 0 → counts.refused ≤ 0 → Safe ≡ judgement_of all
+  pub said_safe : counts.found_unsafe ≤ 0 → counts.undecided ≤ 0 → counts.refused ≤ 0 → Safe ≡ outcome_of_all all
   said_safe none decided taken =
       sym (said false false all (none_found none)
       (any_either all ∙ (ap (λ b. b || list_any is_judged_refused all) (none_of is_undecided all (omega (arith, left_open, decided))) ∙ none_of is_judged_refused all (omega (arith, turned_away, taken)))))
 
 -- ---- writing
+
+-- a text behind what was written before it
+pub front_behind : (a b c : Option (List ℕ)) (page text : List ℕ) → b ≡ appended a page → HasFront b c text → HasFront a c (page ++ text)
+front_behind a b c page text h front = way_front [] page text (record { taken = page; has = h; rest = append-nil page }) front
 
 pub front_of_page : (a b : Option (List ℕ)) (page : List ℕ) (n : ℕ) → n < length page → b ≡ appended a (take n page) → HasFront a b page
 front_of_page a b page n within has =

@@ -1,8 +1,11 @@
 pub mod Judging
 pub mod Cases
+pub mod Checked
 pub mod Opening
 pub mod Printed
+pub mod Reporting
+pub mod Rounds
+pub mod Beside
 pub mod Run
 pub mod Law
 pub mod Stops
-pub mod Reporting

@@ -14,17 +14,18 @@ use Rattle.judge_run.specs.declared.stop.JudgeStop.{JudgeStop}
 use Rattle.judge_run.specs.declared.stop.JudgeStop.TheVariants as stop
 
 -- what is told more of a beginning: one reading of the clock, the word of the updates, and after it that of the finds
-abbrev pub trace_of_start : Moment → ℕ → ℕ → Trace
-trace_of_start start updates finds = record { sessions = []; answers = start ∷ []; waits = []; words = updates ∷ finds ∷ [] }
+abbrev pub trace_of_opening : Moment → ℕ → ℕ → Trace
+trace_of_opening start updates finds = record { sessions = []; readings = start ∷ []; waits = []; drawn = updates ∷ finds ∷ [] }
 
 -- The clock was read and two words were drawn. By the first the first update has to wait for so long, and by the second the first find.
-pub record OpensFinds (updates waits : WaitState) (before after : Outside) : Type 0 where
+pub record OpensFinds (updates finds : WaitState) (before after : Outside) : Type 0 where
   pub start : Moment
   pub update_word : ℕ
   pub find_word : ℕ
   pub first_update : updates ≡ first_state start update_word
-  pub first : waits ≡ first_state start find_word
-  pub told : Grows before after (trace_of_start start update_word find_word)
+  pub first : finds ≡ first_state start find_word
+  pub told : Grows before after (trace_of_opening start update_word find_word)
+  pub unmoved : after.faults ≡ before.faults
 
 -- The source gave a text to its end, which is within the limits.
 pub record ReadsWhole (text : List ℕ) (left left' : Option (List (List ℕ))) : Type 0 where
@@ -32,10 +33,10 @@ pub record ReadsWhole (text : List ℕ) (left left' : Option (List (List ℕ))) 
   pub within : IsInputWithinLimits text
 
 -- A run has its input, its lists and the line that tells of them, and the waits of the first update and the first find.
-pub record Begins (names : List ListName) (begun : Begun) (left left' : Option (List (List ℕ))) (known : Option (Option (List ℕ))) (before after : Outside) : Type 0 where
+pub record BeginsJudging (names : List ListName) (begun : Begun) (left left' : Option (List (List ℕ))) (known : Option (Option (List ℕ))) (before after : Outside) : Type 0 where
   pub input : ReadsWhole begun.text left left'
-  pub loaded : HasLoaded names known begun.lists [] begun.page
-  pub opens : OpensFinds begun.updates begun.waits before after
+  pub loaded : HasLoaded names known begun.client.lists [] begun.client.page
+  pub opens : OpensFinds begun.client.waits begun.finds before after
 
 -- where a run does not begin, by its cause
 abbrev pub StopsBeginning : JudgeStop → (left left' : Option (List (List ℕ))) → Type 0

@@ -6,7 +6,8 @@ use Rattle.wait_rules.specs.declared.waits.WaitState.{WaitState}
 use Rattle.timed_sessions.specs.Told.{Outside}
 use Rattle.verdict_report.specs.Printed.{counts_of, report_lines}
 use Rattle.verdict_report.specs.declared.verdicts.Judged.{Judged}
-use Rattle.judge_run.specs.Judging.{FindState, JudgesLines, HasJudged}
+use Rattle.url_checker.specs.declared.finds.Finds.{Finds}
+use Rattle.judge_run.specs.Judging.{JudgesLines, HasJudged}
 use Rattle.judge_run.specs.declared.plan.JudgePlan.{JudgePlan}
 use Rattle.judge_run.specs.declared.report.Report.{Report}
 
@@ -20,13 +21,13 @@ pub record IsReport (report : Report) (all : List Judged) : Type 0 where
   pub counts : report.counts ≡ counts_of all
 
 -- URLs were judged in order, and this is their report.
-pub record ReportsLines (plan : JudgePlan) (published : Publications) (finds finds' : FindState) (before after : Outside) (faults faults' : ℕ) (lines : List (List ℕ)) (report : Report) : Type 0 where
+pub record ReportsLines (plan : JudgePlan) (published : Publications) (finds finds' : Finds) (before after : Outside) (lines : List (List ℕ)) (report : Report) : Type 0 where
   pub all : List Judged
   pub report_is : IsReport report all
-  pub judges : JudgesLines plan published finds finds' before after faults faults' lines all
+  pub judges : JudgesLines plan published finds finds' before after lines all
 
 -- The same from no kept answer on.
-pub record HasReported (plan : JudgePlan) (published : Publications) (waits : WaitState) (before after : Outside) (faults faults' : ℕ) (lines : List (List ℕ)) (report : Report) : Type 0 where
+pub record HasReported (plan : JudgePlan) (published : Publications) (waits : WaitState) (before after : Outside) (lines : List (List ℕ)) (report : Report) : Type 0 where
   pub all : List Judged
   pub report_is : IsReport report all
-  pub judged : HasJudged plan published waits before after faults faults' lines all
+  pub judged : HasJudged plan published waits before after lines all

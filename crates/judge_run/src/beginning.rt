@@ -1,16 +1,15 @@
-ghost use Rattle.std.specs.Prelude.{◌≡◌, ◌≢◌, ◌≤◌, length, None, IfOk, IfErr, OnErr, IsErrOf, Err};
+ghost use Rattle.std.specs.Prelude.{◌≡◌, ◌≢◌, ◌≤◌, length, IfOk, IfErr, OnErr, IsErrOf, Err};
 ghost use Rattle.sb_outside.specs.Outside.{Rose};
 ghost use Rattle.update_client.specs.Held.{most_lists};
-ghost use Rattle.judge_run.specs.Opening.{OpensFinds, Begins, StopsBeginning};
+ghost use Rattle.judge_run.specs.Opening.{OpensFinds, BeginsJudging, StopsBeginning};
 
 use crate::JudgeStop;
-use crate::loading::load_lists;
 use client_line::Line;
 use input_lines::read_input;
 use sb_model::{Bytes, ListName};
 use sb_outside::{Keeper, Source};
 use std::alloc::Global;
-use update_client::ClientLists;
+use update_run::{Client, load_lists};
 use wait_rules::WaitState;
 
 /// A run before its first URL.
@@ -18,13 +17,10 @@ use wait_rules::WaitState;
 pub struct Begun {
     /// Its input.
     pub text: Bytes,
-    pub lists: ClientLists,
-    /// When the first update may be asked for, where one is.
-    pub updates: WaitState,
+    /// A client with the lists that were kept, before its first round.
+    pub client: Client,
     /// When the first find may be sent.
-    pub waits: WaitState,
-    /// The text that waits to be written.
-    pub page: Bytes,
+    pub finds: WaitState,
 }
 
 // Reads the clock, and draws the word of the updates' first wait and then that of the finds'.
@@ -32,7 +28,6 @@ fn open_waits<N: Line>(line: &mut N) -> (WaitState, WaitState)
     ensures opened { OpensFinds result.0 result.1 (N.view line.old).told (N.view line.new).told }
     ensures no_wait { (N.view line.new).told.waits ≡ (N.view line.old).told.waits }
     ensures unasked { (N.view line.new).told.log ≡ (N.view line.old).told.log }
-    ensures faults { (N.view line.new).faults ≡ (N.view line.old).faults }
     ensures same { (N.view line.new).objects ≡ (N.view line.old).objects }
 {
     let start = line.now();
@@ -56,7 +51,7 @@ pub fn begin<S: Source, K: Keeper, N: Line>(
 ) -> Result<Begun, JudgeStop>
     requires { length names.now ≤ most_lists }
 
-    ensures begun { IfOk result (λ begun. Begins names.now begun (S.left input.old) (S.left input.new) (K.kept keep.old)
+    ensures begun { IfOk result (λ begun. BeginsJudging names.now begun (S.left input.old) (S.left input.new) (K.kept keep.old)
         (N.view line.old).told (N.view line.new).told) }
     ensures stopped { IfErr result (λ stop. StopsBeginning stop (S.left input.old) (S.left input.new)) }
     ensures untouched { OnErr result (N.view line.new ≡ N.view line.old) }
@@ -64,7 +59,7 @@ pub fn begin<S: Source, K: Keeper, N: Line>(
 
     // No link is asked.
     ensures unasked { (N.view line.new).told.log ≡ (N.view line.old).told.log }
-    ensures faults { (N.view line.new).faults ≡ (N.view line.old).faults }
+    ensures faults { (N.view line.new).told.faults ≡ (N.view line.old).told.faults }
     ensures same { (N.view line.new).objects ≡ (N.view line.old).objects }
     ensures kept { K.kept keep.new ≡ K.kept keep.old }
     ensures handed { K.handed keep.new ≡ K.handed keep.old }
@@ -75,16 +70,11 @@ pub fn begin<S: Source, K: Keeper, N: Line>(
 {
     let text = read_input(alloc, input)?;
     let mut page = Bytes::new(alloc);
-    let lists = match load_lists(alloc, names, keep, &mut page) {
-        Ok(lists) => lists,
-        Err(stop) => return Err(stop),
-    };
-    let (updates, waits) = open_waits(line);
+    let lists = load_lists(alloc, names, keep, &mut page)?;
+    let (waits, finds) = open_waits(line);
     Ok(Begun {
         text,
-        lists,
-        updates,
-        waits,
-        page,
+        client: Client { lists, waits, page },
+        finds,
     })
 }

@@ -5,7 +5,7 @@ ghost use Rattle.sb_outside.specs.Writing.{HasFront};
 ghost use Rattle.verdict_report.specs.Printed.{counts_of, report_lines, summary_text};
 ghost use Rattle.judge_run.specs.Printed.{report_text};
 ghost use Rattle.judge_run.specs.Reporting.{IsReport};
-ghost use Rattle.judge_run.specs.Stops.{IsStopped};
+ghost use Rattle.judge_run.specs.Stops.{StopsWriting};
 
 use crate::JudgeStop;
 use crate::report::Report;
@@ -17,7 +17,7 @@ use verdict_report::{Counts, Judged, push_counts};
 fn write_page<O: Sink>(page: &[u8], out: &mut O) -> Result<(), JudgeStop>
     ensures text { OnOk result (O.contents out.new ≡ appended (O.contents out.old) page.now) }
     ensures kept { OnOk result (O.faults out.new ≡ O.faults out.old) }
-    ensures stopped { IfErr result (λ stop. IsStopped stop (O.faults out.old) (O.faults out.new)) }
+    ensures stopped { IfErr result (λ stop. StopsWriting stop (O.faults out.old) (O.faults out.new)) }
     ensures front { OnErr result (HasFront (O.contents out.old) (O.contents out.new) page.now) }
 {
     match write_all(out, page) {
@@ -30,7 +30,7 @@ fn write_page<O: Sink>(page: &[u8], out: &mut O) -> Result<(), JudgeStop>
 fn write_pages<O: Sink>(pages: &[Bytes], out: &mut O) -> Result<(), JudgeStop>
     ensures text { OnOk result (O.contents out.new ≡ appended (O.contents out.old) (concat pages.now)) }
     ensures kept { OnOk result (O.faults out.new ≡ O.faults out.old) }
-    ensures stopped { IfErr result (λ stop. IsStopped stop (O.faults out.old) (O.faults out.new)) }
+    ensures stopped { IfErr result (λ stop. StopsWriting stop (O.faults out.old) (O.faults out.new)) }
     ensures front { OnErr result (HasFront (O.contents out.old) (O.contents out.new) (concat pages.now)) }
 {
     for page in pages {
@@ -46,7 +46,7 @@ fn write_last<O: Sink>(page: &mut Bytes, counts: &Counts, out: &mut O) -> Result
     ensures text { (all : List Judged) → counts.now ≡ counts_of all
         → OnOk result (O.contents out.new ≡ appended (O.contents out.old) (page.old ++ summary_text all)) }
     ensures kept { OnOk result (O.faults out.new ≡ O.faults out.old) }
-    ensures stopped { IfErr result (λ stop. IsStopped stop (O.faults out.old) (O.faults out.new)) }
+    ensures stopped { IfErr result (λ stop. StopsWriting stop (O.faults out.old) (O.faults out.new)) }
     ensures front { (all : List Judged) → counts.now ≡ counts_of all
         → OnErr result (HasFront (O.contents out.old) (O.contents out.new) (page.old ++ summary_text all)) }
 {
@@ -62,7 +62,7 @@ pub fn print_report<O: Sink>(report: &mut Report, out: &mut O) -> Result<(), Jud
         → OnOk result (O.contents out.new ≡ appended (O.contents out.old) (report_text all)) }
     ensures counts { report.new.counts ≡ report.old.counts }
     ensures kept { OnOk result (O.faults out.new ≡ O.faults out.old) }
-    ensures stopped { IfErr result (λ stop. IsStopped stop (O.faults out.old) (O.faults out.new)) }
+    ensures stopped { IfErr result (λ stop. StopsWriting stop (O.faults out.old) (O.faults out.new)) }
     ensures front { (all : List Judged) → IsReport report.old all
         → OnErr result (HasFront (O.contents out.old) (O.contents out.new) (report_text all)) }
 {

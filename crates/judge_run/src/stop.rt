@@ -1,5 +1,6 @@
 use sb_model::OutOfMemory;
-use sb_outside::{Failed, InputFault, KeepFault};
+use sb_outside::{Failed, InputFault};
+use update_run::RunStop;
 
 /// Why a run that judges URLs ends before its end.
 #[derive(Clone, Copy, Debug, PartialEq, Eq)]
@@ -38,32 +39,34 @@ impl From<OutOfMemory> for JudgeStop {
     }
 }
 
-impl From<KeepFault> for JudgeStop {
-    ghost use Rattle.std.specs.Prelude.{◌≡◌};
-    ghost use Rattle.judge_run.specs.Stops.{stop_of};
-
-    ghost from_gives = { λ fault stop. stop ≡ stop_of fault };
-
-    fn from(fault: KeepFault) -> JudgeStop {
-        match fault {
-            KeepFault::Failed => JudgeStop::KeepFault,
-            KeepFault::OutOfMemory => JudgeStop::OutOfMemory,
-        }
-    }
-}
-
 /// Why an input is not read to its end.
 impl From<InputFault> for JudgeStop {
     ghost use Rattle.std.specs.Prelude.{◌≡◌};
-    ghost use Rattle.judge_run.specs.Stops.{stop_of_input};
+    ghost use Rattle.judge_run.specs.Stops.{stop_after_input};
 
-    ghost from_gives = { λ fault stop. stop ≡ stop_of_input fault };
+    ghost from_gives = { λ fault stop. stop ≡ stop_after_input fault };
 
     fn from(fault: InputFault) -> JudgeStop {
         match fault {
             InputFault::Failed => JudgeStop::ReadFault,
             InputFault::PastLimit => JudgeStop::PastLimits,
             InputFault::OutOfMemory => JudgeStop::OutOfMemory,
+        }
+    }
+}
+
+/// Why lists are not loaded, or not brought up to date.
+impl From<RunStop> for JudgeStop {
+    ghost use Rattle.std.specs.Prelude.{◌≡◌};
+    ghost use Rattle.judge_run.specs.Stops.{stop_after_rounds};
+
+    ghost from_gives = { λ stopped stop. stop ≡ stop_after_rounds stopped };
+
+    fn from(stopped: RunStop) -> JudgeStop {
+        match stopped {
+            RunStop::WriteFault => JudgeStop::WriteFault,
+            RunStop::KeepFault => JudgeStop::KeepFault,
+            RunStop::OutOfMemory => JudgeStop::OutOfMemory,
         }
     }
 }

@@ -5,7 +5,8 @@ ghost use Rattle.parallel_checks.specs.Working.{AreJobsOf, AreWorks, AreGathered
 
 use crate::weaving::weave;
 use crate::working::{Job, Worked, work};
-use sb_model::{Bytes, OutOfMemory, Row};
+use input_lines::Lines;
+use sb_model::{OutOfMemory, Row};
 use sb_outside::Gate;
 use snapshot_publish::Seat;
 use std::alloc::Global;
@@ -54,7 +55,7 @@ fn work_all<R: Threads + Sync, G: Gate + Sync>(
     rt: &R,
     alloc: Global,
     gate: &G,
-    urls: &[Bytes],
+    urls: &Lines<'_>,
     jobs: Row<Job>,
 ) -> Result<Vec<Result<Worked, OutOfMemory>>, OutOfMemory>
     requires some { 0 < length jobs }
@@ -75,7 +76,7 @@ fn run<R: Threads + Sync, G: Gate + Sync>(
     rt: &R,
     alloc: Global,
     seats: Row<Seat>,
-    urls: &[Bytes],
+    urls: &Lines<'_>,
     gate: &G,
 ) -> Result<CheckRun, OutOfMemory>
     requires some { 0 < length seats }
@@ -96,7 +97,7 @@ pub fn check_all<R: Threads + Sync, G: Gate + Sync, T, F: FnMut() -> T>(
     rt: &R,
     alloc: Global,
     seats: Row<Seat>,
-    urls: &[Bytes],
+    urls: &Lines<'_>,
     gate: &G,
     beside: &mut F,
 ) -> (Result<CheckRun, OutOfMemory>, T)

@@ -7,7 +7,8 @@ ghost use Rattle.parallel_checks.specs.Settled.{NamesKeptPublication, NameKeptPu
 use crate::CheckRun;
 use crate::lines::next_line;
 use crate::showing::{Shown, check_on, with_sizes};
-use sb_model::{Bytes, OutOfMemory, Row};
+use input_lines::Lines;
+use sb_model::{OutOfMemory, Row};
 use snapshot_publish::{Publisher, Seat, Snapshot};
 use std::alloc::Global;
 use url_checker::Checked;
@@ -53,7 +54,7 @@ fn check_anew(
     shown: &Shown,
     place: usize,
     step: usize,
-    urls: &[Bytes],
+    urls: &Lines<'_>,
     checks: &mut Row<Checked>,
 ) -> Result<(), OutOfMemory>
     requires step { 0 < step }
@@ -64,7 +65,7 @@ fn check_anew(
 {
     let mut index = place.min(urls.len());
     while index < urls.len() {
-        let check = check_on(alloc, shown, urls[index].as_slice())?;
+        let check = check_on(alloc, shown, urls.at(index))?;
         *checks.at_mut(index) = check;
         index = next_line(index, step, urls.len());
     }
@@ -92,7 +93,7 @@ fn settle_seat(
     seat: &mut Seat,
     place: usize,
     step: usize,
-    urls: &[Bytes],
+    urls: &Lines<'_>,
     checks: &mut Row<Checked>,
 ) -> Result<(), OutOfMemory>
     requires step { 0 < step }
@@ -119,7 +120,7 @@ pub fn settle(
     alloc: Global,
     publisher: &mut Publisher,
     run: CheckRun,
-    urls: &[Bytes],
+    urls: &Lines<'_>,
 ) -> Result<CheckRun, OutOfMemory>
     requires ours { AreSeatsOf publisher.old.boxes run.seats }
     requires checks { AreChecks run.seats urls.now run.checks }

@@ -5,7 +5,8 @@ ghost use Rattle.parallel_checks.specs.Working.{IsWorkOf};
 
 use crate::lines::next_line;
 use crate::showing::{Shown, check_on, look};
-use sb_model::{Bytes, OutOfMemory, Row};
+use input_lines::Lines;
+use sb_model::{OutOfMemory, Row};
 use sb_outside::{Gate, Point};
 use snapshot_publish::Seat;
 use std::alloc::Global;
@@ -46,7 +47,7 @@ fn check_next(
 pub(crate) fn work<G: Gate>(
     alloc: Global,
     gate: &G,
-    urls: &[Bytes],
+    urls: &Lines<'_>,
     step: usize,
     job: Job,
 ) -> Result<Worked, OutOfMemory>
@@ -60,7 +61,7 @@ pub(crate) fn work<G: Gate>(
     let mut index = place.min(urls.len());
     while index < urls.len() {
         gate.pass(Point::Check(index as u32));
-        let (check, shown) = check_next(&mut seat, alloc, urls[index].as_slice(), known)?;
+        let (check, shown) = check_next(&mut seat, alloc, urls.at(index), known)?;
         checks.push(check)?;
         known = Some(shown);
         index = next_line(index, step, urls.len());

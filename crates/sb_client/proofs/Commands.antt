@@ -1,26 +1,25 @@
 -- Words are one command, and its lists are some, and few.
 use Rattle.std.proofs.Common.{◌≡◌, ◌≢◌, ℕ, suc, ◌-◌, ◌<◌, ◌≤◌, List, [], ◌∷◌, length, map, get_or, take, drop, take_all, Bool, true, false, cond, refl, sym, ap, ◌∙◌, subst, Option, Some, None, Result, Ok, Err, arith, nat_lt}
-use Rattle.std.specs.Prelude.{◌&&◌, not, nat_le, option_and_then, option_map, is_some, codes, IfOk}
+use Rattle.std.specs.Prelude.{◌&&◌, nat_le, option_and_then, option_map, is_some, codes, IfOk}
 use Rattle.std.specs.Result.{result_ok}
-use Rattle.std.specs.Str.{bytes_eq, chars}
+use Rattle.std.specs.Str.{bytes_eq}
 use Rattle.std.specs.Str.Parse.{digits_value}
 use Rattle.std.proofs.lemmas.Slice.Eq.{bytes_eq-Decides}
 use borrow.Author.Tests.{ltb-true, leb-true}
 use Rattle.sb_model.specs.declared.names.ListName.{ListName}
 use Rattle.sb_model.specs.Names.{name_of}
 use Rattle.sb_words.specs.CommandLine.{Given, CommandShape, given_of, value_among}
-use Rattle.update_client.specs.declared.options.FetchOptions.{FetchOptions}
-use Rattle.sb_words.specs.Values.{names_of, few_names_of, different, has_each_once, lists_named, is_key, is_numeral, host_port_of, within}
-use Rattle.http_edge.specs.Exchanges.{StandsInOneLine, IsTarget}
+use Rattle.sb_words.specs.Values.{names_of, few_names_of, different, has_each_once, lists_named, is_numeral, within}
+use Rattle.http_edge.specs.Exchanges.{IsTarget}
 use Rattle.http_edge.specs.declared.messages.Target.{Target}
-use Rattle.judge_beside.specs.declared.plan.BesidePlan.{BesidePlan}
+use Rattle.judge_run.specs.declared.plan.JudgePlan.{JudgePlan}
 use Rattle.sb_client.specs.declared.command.Command.{Command}
 use Rattle.update_run.specs.declared.plan.Plan.{Plan}
 use Rattle.sb_client.specs.declared.command.Command.TheVariants.{Replay, Run, Judge, Show, Vectors, Tell}
-use Rattle.client_words.specs.Asking.{given_to, lists_given, server_given, key_or_empty, key_given, options_given, number_or, has_flag, Asking, asking_of, asking_given, target_of}
+use Rattle.client_words.specs.Asking.{given_to, lists_given, number_or, Asking, asking_given, target_of}
 use Rattle.sb_client.specs.Command.{replay_shape, run_shape, judge_shape, bare_shape, rounds_given, patience_given, updates_given, workers_given, run_with, run_given, RunWords, run_words, judge_with, judge_given, JudgeWords, judge_words, replay_of, run_of, judge_of, asks_show, asks_vectors, asked_text_of, MakesItsText, IsNoCommand, IsCommandOf, AreFewNames, AreWorkers, IsSound}
 use Rattle.sb_client.specs.declared.texts.TheConstants.{CHECK_USAGE, UPDATE_USAGE}
-use Rattle.sb_words.specs.About.{about_of, about_text, asked_by}
+use Rattle.sb_words.specs.About.{about_text, asked_by}
 use Rattle.sb_words.specs.declared.asking.About.{About}
 use Rattle.std.specs.Option.{option_or}
 
@@ -87,14 +86,14 @@ run_by (Some asking) (Some rounds) names line sound e =
 
 judge_by : (asking : Option Asking) (updates workers seconds : Option ℕ) (names : List ListName) (line : JudgeWords) → ((found : Asking) → asking ≡ Some found → IsTarget (target_of found))
     → option_and_then (λ asking. option_and_then (λ updates. option_and_then (λ workers. option_map (λ seconds. judge_words asking names updates workers seconds) seconds) workers) updates) asking ≡ Some line
-    → (line.plan.names ≡ names) × IsTarget line.plan.target
+    → (line.plan.updates.names ≡ names) × IsTarget line.plan.updates.target
 judge_by None updates workers seconds names line sound e = absurd (cc)
 judge_by (Some asking) None workers seconds names line sound e = absurd (cc)
 judge_by (Some asking) (Some updates) None seconds names line sound e = absurd (cc)
 judge_by (Some asking) (Some updates) (Some workers) None names line sound e = absurd (cc)
 judge_by (Some asking) (Some updates) (Some workers) (Some seconds) names line sound e =
     let is : judge_words asking names updates workers seconds ≡ line = cc in
-    (ap (λ (l : JudgeWords). l.plan.names) (sym is), subst (λ (l : JudgeWords). IsTarget l.plan.target) is (sound asking refl))
+    (ap (λ (l : JudgeWords). l.plan.updates.names) (sym is), subst (λ (l : JudgeWords). IsTarget l.plan.updates.target) is (sound asking refl))
 
 -- a number that the words give is in its range, as its default is
 within_by : (low high number found : ℕ) (a b : Bool) → nat_le low number ≡ a → nat_le number high ≡ b → cond (a && b) (Some number) None ≡ Some found → (low ≤ found) × (found ≤ high)
@@ -163,9 +162,9 @@ sound_run law words line e =
     (λ names named line h. run_by (asking_given named) (rounds_given named) names line (law named) h)
     (given_to (codes "sbupdate") (codes "run") run_shape words) line e
 
-sound_judge : SoundTargets → (words : List (List ℕ)) (line : JudgeWords) → judge_of words ≡ Some line → AreFewNames line.plan.names × IsTarget line.plan.target × AreWorkers line.plan.workers
+sound_judge : SoundTargets → (words : List (List ℕ)) (line : JudgeWords) → judge_of words ≡ Some line → AreFewNames line.plan.updates.names × IsTarget line.plan.updates.target × AreWorkers line.plan.workers
 sound_judge law words line e =
-    let both = line_by (λ (line : JudgeWords). line.plan.names) (λ (line : JudgeWords). line.plan.target) judge_with
+    let both = line_by (λ (line : JudgeWords). line.plan.updates.names) (λ (line : JudgeWords). line.plan.updates.target) judge_with
     (λ names named line h. judge_by (asking_given named) (updates_given named) (workers_given named) (patience_given named) names line (law named) h)
     (given_to (codes "sbcheck") (codes "judge") judge_shape words) line e in
     (both.0, both.1, workers_of (given_to (codes "sbcheck") (codes "judge") judge_shape words) line e)
@@ -175,7 +174,7 @@ planned : (line : Option RunWords) (plan : Plan) → option_map (λ (line : RunW
 planned None plan e = absurd (cc)
 planned (Some line) plan e = (line, refl, (let same : line.plan ≡ plan = cc in same))
 
-judge_planned : (line : Option JudgeWords) (plan : BesidePlan) → option_map (λ (line : JudgeWords). line.plan) line ≡ Some plan → (found : JudgeWords) × (line ≡ Some found) × (found.plan ≡ plan)
+judge_planned : (line : Option JudgeWords) (plan : JudgePlan) → option_map (λ (line : JudgeWords). line.plan) line ≡ Some plan → (found : JudgeWords) × (line ≡ Some found) × (found.plan ≡ plan)
 judge_planned None plan e = absurd (cc)
 judge_planned (Some line) plan e = (line, refl, (let same : line.plan ≡ plan = cc in same))
 
@@ -191,7 +190,7 @@ is_sound law words (Run plan) e =
     subst (λ (plan : Plan). AreFewNames plan.names × IsTarget plan.target) line.2 (sound_run law words line.0 line.1)
 is_sound law words (Judge plan) e =
     let line = judge_planned (judge_of words) plan e in
-    subst (λ (plan : BesidePlan). AreFewNames plan.names × IsTarget plan.target × AreWorkers plan.workers) line.2 (sound_judge law words line.0 line.1)
+    subst (λ (plan : JudgePlan). AreFewNames plan.updates.names × IsTarget plan.updates.target × AreWorkers plan.workers) line.2 (sound_judge law words line.0 line.1)
 is_sound law words Show e = tt
 is_sound law words Vectors e = tt
 is_sound law words (Tell text) e = tt
@@ -469,7 +468,7 @@ is_no_run words command h none plan e =
     let same = found.1 in
     cc
 
-pub is_no_judge : (words : List (List ℕ)) (command : Command) → IsCommandOf words (Some command) → judge_of words ≡ None → (plan : BesidePlan) → command ≢ Judge plan
+pub is_no_judge : (words : List (List ℕ)) (command : Command) → IsCommandOf words (Some command) → judge_of words ≡ None → (plan : JudgePlan) → command ≢ Judge plan
 is_no_judge words command h none plan e =
     let is : IsCommandOf words (Some (Judge plan)) = subst (λ (command : Command). IsCommandOf words (Some command)) e h in
     let found = judge_planned (judge_of words) plan is in

@@ -20,8 +20,9 @@ use Rattle.sb_client.specs.Show.{IsCounted, IsPartlyCounted}
 use Rattle.input_lines.specs.Ending.{InputEnding}
 use Rattle.sb_client.specs.Ending.{run_status_after, run_status_of}
 use Rattle.sb_client.specs.Honest.{HoldsWhereHonest, KeepsStores}
-use Rattle.sb_client.specs.Runs.{AreCountedWithKeeper, EndsCounting, IsCountRun, IsFaultOfStatus, IsJudgeRun, IsReplayRun, IsRunOf, IsShowRun, IsStatus, IsTellRun, IsUpdateRun, judging_of}
-use Rattle.judge_beside.specs.declared.plan.BesidePlan.{BesidePlan}
+use Rattle.sb_client.specs.Runs.{AreCountedWithKeeper, EndsCounting, IsCountRun, IsFaultOfStatus, IsJudgeRun, IsReplayRun, IsRunOf, IsShowRun, IsStatus, IsTellRun, IsUpdateRun}
+use Rattle.judge_run.specs.Run.{Judging}
+use Rattle.judge_run.specs.declared.plan.JudgePlan.{JudgePlan}
 use Rattle.sb_client.proofs.Endings.{known_status, no_fault}
 use Rattle.sb_client.proofs.Judgings.{known_judging}
 
@@ -153,34 +154,34 @@ told_status text status held held' (inr (inr none)) = (inr (inr (inr (inr (inr (
 
 -- ---- any command
 
-module _ (status : ℕ) (left left' : Option (List (List ℕ))) (faults faults' : ℕ) (before after : Seen) where
-  pub status_of_run : (command : Command) → IsRunOf command status left left' faults faults' before after → IsStatus status × (status ≢ 1)
+module _ (status : ℕ) (before after : Judging) where
+  pub status_of_run : (command : Command) → IsRunOf command status before after → IsStatus status × (status ≢ 1)
   status_of_run (Replay names) run = let known = known_status 5 run.ending status (inl refl) run.told in (known.0, known.1)
   status_of_run (Run plan) run = run_status run.ending status run.told
   status_of_run (Judge plan) run = known_judging run.ending status run.told
   status_of_run Show run = let known = known_status 21 run.ending status (inr refl) run.told in (known.0, known.1)
   status_of_run Vectors run = let known = known_status 21 run.ending status (inr refl) run.told in (known.0, known.1)
-  status_of_run (Tell text) run = told_status text status before.held after.held run
+  status_of_run (Tell text) run = told_status text status before.seen.output after.seen.output run
 
-  pub run_of_replay : (command : Command) (names : List ListName) → command ≡ Replay names → IsRunOf command status left left' faults faults' before after
-      → IsReplayRun names status left left' before.held after.held
-  run_of_replay command names e run = subst (λ (command : Command). IsRunOf command status left left' faults faults' before after) e run
+  pub run_of_replay : (command : Command) (names : List ListName) → command ≡ Replay names → IsRunOf command status before after
+      → IsReplayRun names status before.left after.left before.seen.output after.seen.output
+  run_of_replay command names e run = subst (λ (command : Command). IsRunOf command status before after) e run
 
-  pub run_of_plan : (command : Command) (plan : Plan) → command ≡ Run plan → IsRunOf command status left left' faults faults' before after → IsUpdateRun plan status before after
-  run_of_plan command plan e run = subst (λ (command : Command). IsRunOf command status left left' faults faults' before after) e run
+  pub run_of_plan : (command : Command) (plan : Plan) → command ≡ Run plan → IsRunOf command status before after → IsUpdateRun plan status before.seen after.seen
+  run_of_plan command plan e run = subst (λ (command : Command). IsRunOf command status before after) e run
 
-  pub run_of_judge : (command : Command) (plan : BesidePlan) → command ≡ Judge plan → IsRunOf command status left left' faults faults' before after
-      → IsJudgeRun plan status (judging_of left faults before) (judging_of left' faults' after)
-  run_of_judge command plan e run = subst (λ (command : Command). IsRunOf command status left left' faults faults' before after) e run
+  pub run_of_judge : (command : Command) (plan : JudgePlan) → command ≡ Judge plan → IsRunOf command status before after
+      → IsJudgeRun plan status before after
+  run_of_judge command plan e run = subst (λ (command : Command). IsRunOf command status before after) e run
 
-  pub run_of_show : (command : Command) → command ≡ Show → IsRunOf command status left left' faults faults' before after → IsShowRun status left left' before.held after.held
-  run_of_show command e run = subst (λ (command : Command). IsRunOf command status left left' faults faults' before after) e run
+  pub run_of_show : (command : Command) → command ≡ Show → IsRunOf command status before after → IsShowRun status before.left after.left before.seen.output after.seen.output
+  run_of_show command e run = subst (λ (command : Command). IsRunOf command status before after) e run
 
-  pub run_of_vectors : (command : Command) → command ≡ Vectors → IsRunOf command status left left' faults faults' before after → IsCountRun status before.held after.held
-  run_of_vectors command e run = subst (λ (command : Command). IsRunOf command status left left' faults faults' before after) e run
+  pub run_of_vectors : (command : Command) → command ≡ Vectors → IsRunOf command status before after → IsCountRun status before.seen.output after.seen.output
+  run_of_vectors command e run = subst (λ (command : Command). IsRunOf command status before after) e run
 
-  pub run_of_tell : (command : Command) (text : List ℕ) → command ≡ Tell text → IsRunOf command status left left' faults faults' before after → IsTellRun text status before.held after.held
-  run_of_tell command text e run = subst (λ (command : Command). IsRunOf command status left left' faults faults' before after) e run
+  pub run_of_tell : (command : Command) (text : List ℕ) → command ≡ Tell text → IsRunOf command status before after → IsTellRun text status before.seen.output after.seen.output
+  run_of_tell command text e run = subst (λ (command : Command). IsRunOf command status before after) e run
 
 -- where no count changed, none rose
 pub none_counted : {input out keep : ℕ} (status : ℕ) → status ≢ 2 → (status ≢ 1 → status ≢ 3) → status ≢ 4 → AreCountedWithKeeper status input input out out keep keep

@@ -7,7 +7,7 @@ use Rattle.sb_outside.specs.Outside.{IfTold, appended}
 use Rattle.sb_outside.specs.declared.links.Session.{Session}
 use Rattle.timed_sessions.specs.Told.{Outside, with_more}
 use Rattle.sb_round.specs.Round.{Round}
-use Rattle.sb_round.specs.Rounds.{RoundsAreTheirSessions, entry_of}
+use Rattle.sb_round.specs.Rounds.{RoundsAreTheirSessions, round_entry}
 use Rattle.client_laws.specs.Met.{IsLogged}
 use Rattle.both_ends_laws.specs.Answered.{IsAnsweredIn}
 use Rattle.both_ends_laws.specs.Complete.{AnsweredRunsAreComplete, AnsweredRunsKeepVersions}
@@ -50,7 +50,7 @@ two_more (Some known) (Some between) (Some later) more sessions first next log =
     more_known (Some known) (Some later) more sessions (subst (λ (front : List Session). IfTold (Some later) (with_more (Some front) more)) start next) log
 
 pub made_sessions : (law : RoundsAreTheirSessions) (plan : Plan) (kept : Option (List ℕ)) (rounds : List Round) (before after : Outside) (made : HasMade plan kept rounds before after)
-    (sessions : List Session) → IsLogged sessions before.log after.log → map entry_of rounds ≡ sessions
+    (sessions : List Session) → IsLogged sessions before.log after.log → map round_entry rounds ≡ sessions
 made_sessions law plan kept rounds before after made sessions log =
     let are = law (first_lists plan.names kept) made.waits plan.options plan.target plan.need_digest rounds made.made.are in
     let more = two_more before.log made.opened.log after.log _ sessions made.opens.told.log made.made.told.log log in
@@ -80,7 +80,7 @@ module _ (law : RoundsAreTheirSessions) (history : History) (token_at : Naming) 
         made = made;
         are = made_sessions law plan kept run.rounds before.outside after.outside made sessions meets.log;
         complete = answered history token_at plan kept run.rounds before.outside after.outside sessions meets.asks made meets.log meets.answered;
-        text = run.text ∙ ap (λ (text : Option (List ℕ)). appended before.held (run_text text (first_lists plan.names text) run.rounds)) same;
+        text = run.text ∙ ap (λ (text : Option (List ℕ)). appended before.output (run_text text (first_lists plan.names text) run.rounds)) same;
       }
 
   pub run_complete : AnsweredRunsAreComplete → (status : ℕ) → IsUpdateRun plan status before after → (status ≡ 0) ⊎ (status ≡ 5)
@@ -120,5 +120,5 @@ module _ (law : RoundsAreTheirSessions) (history : History) (token_at : Naming) 
         made = made;
         are = made_sessions law plan kept whole.1.rounds before.outside after.outside made sessions meets.log;
         go_on = keep history token_at plan kept whole.1.rounds before.outside after.outside sessions least meets.asks made meets.log meets.answered;
-        text = whole.1.text ∙ ap (λ (text : Option (List ℕ)). appended before.held (run_text text (first_lists plan.names text) whole.1.rounds)) same;
+        text = whole.1.text ∙ ap (λ (text : Option (List ℕ)). appended before.output (run_text text (first_lists plan.names text) whole.1.rounds)) same;
       }

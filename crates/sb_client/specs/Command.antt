@@ -1,20 +1,15 @@
 -- The command lines that the client takes.
-use Rattle.std.proofs.Common.{refl, leb-true}
-use Rattle.std.specs.Prelude.{ℕ, ◌*◌, ◌&&◌, ◌||◌, not, ◌≡◌, ◌<◌, ◌≤◌, nat_le, nat_lt, length, Bool, true, false, is_some, if◌then◌else◌, List, [], ◌∷◌, Option, Some, None, option_map, option_and_then, codes}
+use Rattle.std.specs.Prelude.{ℕ, ◌*◌, ◌||◌, ◌≡◌, ◌<◌, ◌≤◌, nat_lt, length, Bool, true, false, is_some, List, [], ◌∷◌, Option, Some, None, option_map, option_and_then, codes}
 use Rattle.std.specs.Option.{option_or}
-use Rattle.std.specs.Str.{bytes_eq, chars}
 use Rattle.sb_model.specs.declared.names.ListName.{ListName}
-use Rattle.sb_words.specs.declared.shape.OptionKind.TheVariants.{Needed, Optional, Flag}
-use Rattle.sb_words.specs.CommandLine.{Text, CommandOption, CommandShape, Given, given_of, value_among}
+use Rattle.sb_words.specs.CommandLine.{Text, CommandShape, Given, value_among}
 use Rattle.sb_words.specs.Values.{number_of}
 use Rattle.client_words.specs.Asking.{needed, optional, flag, given_to, lists_given, number_given, Asking, asking_given, target_of}
 use Rattle.sb_words.specs.About.{about_of, about_text}
 use Rattle.sb_client.specs.declared.texts.TheConstants.{CHECK_USAGE, UPDATE_USAGE}
 use Rattle.http_edge.specs.Exchanges.{IsTarget}
-use Rattle.http_edge.specs.declared.messages.Target.{Target}
-use Rattle.update_client.specs.declared.options.FetchOptions.{FetchOptions}
 use Rattle.update_run.specs.declared.plan.Plan.{Plan}
-use Rattle.judge_beside.specs.declared.plan.BesidePlan.{BesidePlan}
+use Rattle.judge_run.specs.declared.plan.JudgePlan.{JudgePlan}
 use Rattle.sb_client.specs.declared.command.Command.{Command}
 use Rattle.sb_client.specs.declared.command.Command.TheVariants.{Replay, Run, Judge, Show, Vectors, Tell}
 
@@ -110,7 +105,7 @@ patience_given named = number_given (codes "patience") 0 86400 60 named
 pub record JudgeWords : Type 0 where
   pub store : Text
   pub server : Text
-  pub plan : BesidePlan
+  pub plan : JudgePlan
 
 -- The patience of a plan is in milliseconds.
 abbrev pub judge_words : Asking → List ListName → (rounds workers seconds : ℕ) → JudgeWords
@@ -118,12 +113,14 @@ judge_words asking names rounds workers seconds = record {
   store = asking.store;
   server = asking.server;
   plan = record {
-    names = names;
-    rounds = rounds;
+    updates = record {
+      names = names;
+      rounds = rounds;
+      options = asking.options;
+      target = target_of asking;
+      need_digest = asking.need_digest;
+    };
     workers = workers;
-    options = asking.options;
-    target = target_of asking;
-    need_digest = asking.need_digest;
     patience = 1000 * seconds;
   };
 }
@@ -157,7 +154,7 @@ server_of words = option_or (option_map (λ (line : RunWords). line.server) (run
 -- whether a command line of `judge` has updates
 abbrev pub has_updates : Option JudgeWords → Bool
 has_updates None = false
-has_updates (Some line) = nat_lt 0 line.plan.rounds
+has_updates (Some line) = nat_lt 0 line.plan.updates.rounds
 
 -- Words of `run` replace the store, and words of `judge` that have updates.
 abbrev pub replaces_store : List Text → Bool
@@ -210,7 +207,7 @@ AreWorkers workers = (1 ≤ workers) × (workers ≤ 16)
 abbrev pub IsSound : Command → Type 0
 IsSound (Replay names) = AreFewNames names
 IsSound (Run plan) = AreFewNames plan.names × IsTarget plan.target
-IsSound (Judge plan) = AreFewNames plan.names × IsTarget plan.target × AreWorkers plan.workers
+IsSound (Judge plan) = AreFewNames plan.updates.names × IsTarget plan.updates.target × AreWorkers plan.workers
 IsSound Show = Unit {0}
 IsSound Vectors = Unit {0}
 IsSound (Tell text) = Unit {0}

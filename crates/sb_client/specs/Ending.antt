@@ -6,9 +6,9 @@ use Rattle.input_lines.specs.declared.stop.Stop.TheVariants.{ReadFault, WriteFau
 use Rattle.update_run.specs.Run.{RunEnding}
 use Rattle.update_run.specs.declared.stop.RunStop.{RunStop}
 use Rattle.update_run.specs.declared.stop.RunStop.TheVariants as stop
-use Rattle.judge_beside.specs.Run.{Ending as JudgeEnding}
-use Rattle.judge_run.specs.declared.judgement.Judgement.{Judgement}
-use Rattle.judge_run.specs.declared.judgement.Judgement.TheVariants as judgement
+use Rattle.judge_run.specs.Run.{JudgeEnding}
+use Rattle.judge_run.specs.declared.judgement.Outcome.{Outcome}
+use Rattle.judge_run.specs.declared.judgement.Outcome.TheVariants as outcome
 use Rattle.judge_run.specs.declared.stop.JudgeStop.{JudgeStop}
 use Rattle.judge_run.specs.declared.stop.JudgeStop.TheVariants as judging
 
@@ -33,10 +33,10 @@ judge_status_after judging.PastLimits = 6
 judge_status_after judging.OutOfMemory = 8
 
 -- what URLs come to: an unsafe one has 20, and else an open one has 21
-abbrev pub judgement_status : Judgement → ℕ
-judgement_status judgement.Safe = 0
-judgement_status judgement.Unsafe = 20
-judgement_status judgement.Open = 21
+abbrev pub outcome_status : Outcome → ℕ
+outcome_status outcome.Safe = 0
+outcome_status outcome.Unsafe = 20
+outcome_status outcome.Open = 21
 
 -- the status of an end, where a refusal has this one
 abbrev pub ending_status_of : ℕ → InputEnding → ℕ
@@ -50,7 +50,7 @@ run_status_of (Err stop) = run_status_after stop
 
 -- and of the end of a run that judges URLs, where a refusal of its updates has 5, whatever its URLs come to
 abbrev pub judge_status_of : JudgeEnding → ℕ
-judge_status_of (Ok outcome) = if outcome.refused then 5 else judgement_status outcome.judgement
+judge_status_of (Ok judgement) = if judgement.refused then 5 else outcome_status judgement.outcome
 judge_status_of (Err stop) = judge_status_after stop
 
 -- ---- a command that reads its input to the end, and then writes a text of it

@@ -6,9 +6,8 @@ use Rattle.sb_outside.specs.Outside.{appended, Rose}
 use Rattle.sb_outside.specs.Writing.{HasFront}
 use Rattle.update_run.specs.Run.{Seen, RunEnding, EndsRun}
 use Rattle.update_run.specs.declared.plan.Plan.{Plan}
-use Rattle.judge_run.specs.Run.{Seen as JudgeSeen, seen as judging}
-use Rattle.judge_beside.specs.Run.{Ending as JudgeEnding, EndsBeside}
-use Rattle.judge_beside.specs.declared.plan.BesidePlan.{BesidePlan}
+use Rattle.judge_run.specs.Run.{Judging, JudgeEnding, EndsJudging}
+use Rattle.judge_run.specs.declared.plan.JudgePlan.{JudgePlan}
 use Rattle.sb_client.specs.declared.command.Command.{Command}
 use Rattle.sb_client.specs.declared.command.Command.TheVariants.{Replay, Run, Judge, Show, Vectors, Tell}
 use Rattle.input_lines.specs.declared.stop.Stop.TheVariants.{WriteFault, OutOfMemory}
@@ -80,26 +79,22 @@ pub record IsUpdateRun (plan : Plan) (status : ℕ) (before after : Seen) : Type
 
 -- the URLs of the input are judged, each by one of the publications of the lists; 5 tells of a refusal, or of a round without a response,
 -- 20 of an unsafe URL, and 21 that none is, and one is open
-pub record IsJudgeRun (plan : BesidePlan) (status : ℕ) (before after : JudgeSeen) : Type 0 where
+pub record IsJudgeRun (plan : JudgePlan) (status : ℕ) (before after : Judging) : Type 0 where
   pub ending : JudgeEnding
   pub told : status ≡ judge_status_of ending
-  pub done : EndsBeside plan ending before after
-
--- what a run that judges URLs sees besides: what the input has left, and how many faults the link counts
-abbrev pub judging_of : Option (List (List ℕ)) → ℕ → Seen → JudgeSeen
-judging_of left faults one = judging left one.outside faults one.keeper one.held
+  pub done : EndsJudging plan ending before after
 
 -- ---- any command
 
--- A run of a command that uses what it uses of these: what the input has left, how many faults the link counts, and what is seen of the
--- link, the clock, the dice, the keeper and the output.
-abbrev pub IsRunOf : Command → (status : ℕ) → (left left' : Option (List (List ℕ))) → (faults faults' : ℕ) → (before after : Seen) → Type 0
-IsRunOf (Replay names) status left left' faults faults' before after = IsReplayRun names status left left' before.held after.held
-IsRunOf (Run plan) status left left' faults faults' before after = IsUpdateRun plan status before after
-IsRunOf (Judge plan) status left left' faults faults' before after = IsJudgeRun plan status (judging_of left faults before) (judging_of left' faults' after)
-IsRunOf Show status left left' faults faults' before after = IsShowRun status left left' before.held after.held
-IsRunOf Vectors status left left' faults faults' before after = IsCountRun status before.held after.held
-IsRunOf (Tell text) status left left' faults faults' before after = IsTellRun text status before.held after.held
+-- A run of a command that uses what it uses of these: what the input has left, and what is seen of the link, the clock, the dice, the keeper
+-- and the output.
+abbrev pub IsRunOf : Command → (status : ℕ) → (before after : Judging) → Type 0
+IsRunOf (Replay names) status before after = IsReplayRun names status before.left after.left before.seen.output after.seen.output
+IsRunOf (Run plan) status before after = IsUpdateRun plan status before.seen after.seen
+IsRunOf (Judge plan) status before after = IsJudgeRun plan status before after
+IsRunOf Show status before after = IsShowRun status before.left after.left before.seen.output after.seen.output
+IsRunOf Vectors status before after = IsCountRun status before.seen.output after.seen.output
+IsRunOf (Tell text) status before after = IsTellRun text status before.seen.output after.seen.output
 
 -- ---- the counts of faults
 

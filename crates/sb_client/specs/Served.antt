@@ -5,7 +5,7 @@ use Rattle.sb_model.specs.Naming.{Naming}
 use Rattle.sb_outside.specs.Outside.{appended}
 use Rattle.sb_outside.specs.declared.links.Session.{Session}
 use Rattle.sb_round.specs.Round.{Round}
-use Rattle.sb_round.specs.Rounds.{entry_of, body_of}
+use Rattle.sb_round.specs.Rounds.{round_entry, round_updates}
 use Rattle.sb_round.specs.Run.{lists_after}
 use Rattle.client_laws.specs.Met.{IsLogged}
 use Rattle.both_ends_laws.specs.Answered.{AreAnsweredOrLost, AreAnsweredInOrder}
@@ -31,9 +31,9 @@ pub record TellsComplete (history : History) (token_at : Naming) (plan : Plan) (
   pub rounds : List Round
   pub all : length rounds ≡ plan.rounds
   pub made : HasMade plan kept rounds before.outside after.outside
-  pub are : map entry_of rounds ≡ sessions
+  pub are : map round_entry rounds ≡ sessions
   pub complete : IsCompleteRun history token_at plan kept rounds sessions
-  pub text : after.held ≡ appended before.held (run_text kept (first_lists plan.names kept) rounds)
+  pub text : after.output ≡ appended before.output (run_text kept (first_lists plan.names kept) rounds)
 
 -- ---- versions
 
@@ -51,6 +51,6 @@ pub record TellsVersions (history : History) (token_at : Naming) (least : ℕ) (
   pub rounds : List Round
   pub all : length rounds ≡ plan.rounds
   pub made : HasMade plan kept rounds before.outside after.outside
-  pub are : map entry_of rounds ≡ sessions
-  pub go_on : StayOrRise history token_at least (first_lists plan.names kept) (lists_after (first_lists plan.names kept) (map body_of rounds))
-  pub text : after.held ≡ appended before.held (run_text kept (first_lists plan.names kept) rounds)
+  pub are : map round_entry rounds ≡ sessions
+  pub go_on : StayOrRise history token_at least (first_lists plan.names kept) (lists_after (first_lists plan.names kept) (map round_updates rounds))
+  pub text : after.output ≡ appended before.output (run_text kept (first_lists plan.names kept) rounds)

@@ -12,8 +12,8 @@ ghost use Rattle.update_run.specs.Run.{seen};
 ghost use Rattle.http_edge.specs.Exchanges.{IsTarget};
 ghost use Rattle.client_laws.specs.Replicas.{HandsReplicas, TellsReplicas};
 ghost use Rattle.update_run.specs.declared.plan.Plan.{Plan as PlanOf};
-ghost use Rattle.judge_beside.specs.declared.plan.BesidePlan.{BesidePlan};
-ghost use Rattle.judge_run.specs.Run.{seen as judging};
+ghost use Rattle.judge_run.specs.declared.plan.JudgePlan.{JudgePlan};
+ghost use Rattle.judge_run.specs.Run.{judging};
 ghost use Rattle.sb_client.specs.Command.{replay_of, run_of, judge_of, asks_show, asks_vectors, asked_text_of, MakesItsText, IsNoCommand, IsSound, JudgeWords, RunWords};
 ghost use Rattle.input_lines.specs.Lines.{lines_of, IsInputWithinLimits};
 ghost use Rattle.update_replay.specs.Readings.{ResponseReading, AreReadings, bodies_of};
@@ -171,14 +171,14 @@ fn run_command<R: Threads + Wait + Sync, S: Source, O: Sink, K: Keeper, N: Line,
     gate: &G,
 ) -> u8
     requires sound { IsSound command }
-    ensures does { IsRunOf command result (S.left input.old) (S.left input.new) (N.view line.old).faults (N.view line.new).faults
-        (seen (N.view line.old).told (keeping (K.handed keep.old) (K.kept keep.old)) (O.contents out.old))
-        (seen (N.view line.new).told (keeping (K.handed keep.new) (K.kept keep.new)) (O.contents out.new)) }
-    ensures unread { ((names : List ListName) → command ≢ Command.Replay names) → ((plan : BesidePlan) → command ≢ Command.Judge plan)
+    ensures does { IsRunOf command result
+        (judging (S.left input.old) (seen (N.view line.old).told (keeping (K.handed keep.old) (K.kept keep.old)) (O.contents out.old)))
+        (judging (S.left input.new) (seen (N.view line.new).told (keeping (K.handed keep.new) (K.kept keep.new)) (O.contents out.new))) }
+    ensures unread { ((names : List ListName) → command ≢ Command.Replay names) → ((plan : JudgePlan) → command ≢ Command.Judge plan)
         → command ≢ Command.Show → input.new ≡ input.old }
     ensures unwritten { (result ≡ 2) ⊎ (result ≡ 6) → out.new ≡ out.old }
     ensures memory { MakesItsText command → result ≡ 8 → out.new ≡ out.old }
-    ensures untouched { ((plan : PlanOf) → command ≢ Command.Run plan) → ((plan : BesidePlan) → command ≢ Command.Judge plan)
+    ensures untouched { ((plan : PlanOf) → command ≢ Command.Run plan) → ((plan : JudgePlan) → command ≢ Command.Judge plan)
         → (keep.new ≡ keep.old) × (line.new ≡ line.old) }
     ensures counts { AreCountedWithKeeper result (S.faults input.old) (S.faults input.new) (O.faults out.old) (O.faults out.new)
         (K.faults keep.old) (K.faults keep.new) }
@@ -194,6 +194,15 @@ fn run_command<R: Threads + Wait + Sync, S: Source, O: Sink, K: Keeper, N: Line,
     }
 }
 
+/// What a command has beside the objects that it reads and writes: the runtime that starts its threads, memory, and the gate that it passes
+/// between rounds.
+#[derive(Drop)]
+struct Means<'r, R, G> {
+    rt: &'r R,
+    alloc: Global,
+    gate: &'r G,
+}
+
 /// Runs a command over a line of these objects, which are lent to it.
 fn run_lent<
     R: Threads + Wait + Sync,
@@ -205,8 +214,7 @@ fn run_lent<
     D: Dice,
     G: Gate + Sync,
 >(
-    rt: &R,
-    alloc: Global,
+    means: Means<'_, R, G>,
     command: Command,
     input: &mut S,
     out: &mut O,
@@ -214,24 +222,24 @@ fn run_lent<
     link: &mut L,
     clock: &mut C,
     dice: &mut D,
-    gate: &G,
 ) -> u8
     requires sound { IsSound command }
-    ensures does { IsRunOf command result (S.left input.old) (S.left input.new) (L.faults link.old) (L.faults link.new)
-        (seen (outside (L.log link.old) (C.answers clock.old) (C.waits clock.old) (D.given dice.old))
-        (keeping (K.handed keep.old) (K.kept keep.old)) (O.contents out.old))
-        (seen (outside (L.log link.new) (C.answers clock.new) (C.waits clock.new) (D.given dice.new))
-        (keeping (K.handed keep.new) (K.kept keep.new)) (O.contents out.new)) }
-    ensures unread { ((names : List ListName) → command ≢ Command.Replay names) → ((plan : BesidePlan) → command ≢ Command.Judge plan)
+    ensures does { IsRunOf command result
+        (judging (S.left input.old) (seen (outside (L.log link.old) (C.answers clock.old) (C.waits clock.old) (D.given dice.old) (L.faults link.old))
+        (keeping (K.handed keep.old) (K.kept keep.old)) (O.contents out.old)))
+        (judging (S.left input.new) (seen (outside (L.log link.new) (C.answers clock.new) (C.waits clock.new) (D.given dice.new) (L.faults link.new))
+        (keeping (K.handed keep.new) (K.kept keep.new)) (O.contents out.new))) }
+    ensures unread { ((names : List ListName) → command ≢ Command.Replay names) → ((plan : JudgePlan) → command ≢ Command.Judge plan)
         → command ≢ Command.Show → input.new ≡ input.old }
     ensures unwritten { (result ≡ 2) ⊎ (result ≡ 6) → out.new ≡ out.old }
     ensures memory { MakesItsText command → result ≡ 8 → out.new ≡ out.old }
-    ensures untouched { ((plan : PlanOf) → command ≢ Command.Run plan) → ((plan : BesidePlan) → command ≢ Command.Judge plan)
+    ensures untouched { ((plan : PlanOf) → command ≢ Command.Run plan) → ((plan : JudgePlan) → command ≢ Command.Judge plan)
         → (keep.new ≡ keep.old) × (link.new ≡ link.old) × (clock.new ≡ clock.old) × (dice.new ≡ dice.old) }
     ensures counts { AreCountedWithKeeper result (S.faults input.old) (S.faults input.new) (O.faults out.old) (O.faults out.new)
         (K.faults keep.old) (K.faults keep.new) }
 {
     let mut line = LentLine { link, clock, dice };
+    let Means { rt, alloc, gate } = means;
     run_command(rt, alloc, command, input, out, keep, &mut line, gate)
 }
 
@@ -306,15 +314,15 @@ pub fn run_client<
     ensures replays { (names : List ListName) → replay_of (map string_bytes words.now) ≡ Some names
         → IsReplayRun names result (S.left input.old) (S.left input.new) (O.contents out.old) (O.contents out.new) }
     ensures runs { (line : RunWords) → run_of (map string_bytes words.now) ≡ Some line → IsUpdateRun line.plan result
-        (seen (outside (L.log link.old) (C.answers clock.old) (C.waits clock.old) (D.given dice.old))
+        (seen (outside (L.log link.old) (C.answers clock.old) (C.waits clock.old) (D.given dice.old) (L.faults link.old))
         (keeping (K.handed keep.old) (K.kept keep.old)) (O.contents out.old))
-        (seen (outside (L.log link.new) (C.answers clock.new) (C.waits clock.new) (D.given dice.new))
+        (seen (outside (L.log link.new) (C.answers clock.new) (C.waits clock.new) (D.given dice.new) (L.faults link.new))
         (keeping (K.handed keep.new) (K.kept keep.new)) (O.contents out.new)) }
     ensures judges { (line : JudgeWords) → judge_of (map string_bytes words.now) ≡ Some line → IsJudgeRun line.plan result
-        (judging (S.left input.old) (outside (L.log link.old) (C.answers clock.old) (C.waits clock.old) (D.given dice.old))
-        (L.faults link.old) (keeping (K.handed keep.old) (K.kept keep.old)) (O.contents out.old))
-        (judging (S.left input.new) (outside (L.log link.new) (C.answers clock.new) (C.waits clock.new) (D.given dice.new))
-        (L.faults link.new) (keeping (K.handed keep.new) (K.kept keep.new)) (O.contents out.new)) }
+        (judging (S.left input.old) (seen (outside (L.log link.old) (C.answers clock.old) (C.waits clock.old) (D.given dice.old) (L.faults link.old))
+        (keeping (K.handed keep.old) (K.kept keep.old)) (O.contents out.old)))
+        (judging (S.left input.new) (seen (outside (L.log link.new) (C.answers clock.new) (C.waits clock.new) (D.given dice.new) (L.faults link.new))
+        (keeping (K.handed keep.new) (K.kept keep.new)) (O.contents out.new))) }
     ensures shows { asks_show (map string_bytes words.now) ≡ true
         → IsShowRun result (S.left input.old) (S.left input.new) (O.contents out.old) (O.contents out.new) }
     ensures counts_examples { asks_vectors (map string_bytes words.now) ≡ true
@@ -374,20 +382,20 @@ pub fn run_client<
     // and no digest collides, then, wherever the run ends, each text that the keeper is handed is the store of replicas, and what it
     // keeps is what it kept, or no store, or reads as replicas; and at the end the lists are printed, as replicas.
     ensures saves { (line : RunWords) → run_of (map string_bytes words.now) ≡ Some line → HoldsWhereHonest line.plan result
-        (seen (outside (L.log link.old) (C.answers clock.old) (C.waits clock.old) (D.given dice.old))
+        (seen (outside (L.log link.old) (C.answers clock.old) (C.waits clock.old) (D.given dice.old) (L.faults link.old))
         (keeping (K.handed keep.old) (K.kept keep.old)) (O.contents out.old))
-        (seen (outside (L.log link.new) (C.answers clock.new) (C.waits clock.new) (D.given dice.new))
+        (seen (outside (L.log link.new) (C.answers clock.new) (C.waits clock.new) (D.given dice.new) (L.faults link.new))
         (keeping (K.handed keep.new) (K.kept keep.new)) (O.contents out.new)) HandsReplicas }
     ensures keeps { (line : RunWords) → run_of (map string_bytes words.now) ≡ Some line → HoldsWhereHonest line.plan result
-        (seen (outside (L.log link.old) (C.answers clock.old) (C.waits clock.old) (D.given dice.old))
+        (seen (outside (L.log link.old) (C.answers clock.old) (C.waits clock.old) (D.given dice.old) (L.faults link.old))
         (keeping (K.handed keep.old) (K.kept keep.old)) (O.contents out.old))
-        (seen (outside (L.log link.new) (C.answers clock.new) (C.waits clock.new) (D.given dice.new))
+        (seen (outside (L.log link.new) (C.answers clock.new) (C.waits clock.new) (D.given dice.new) (L.faults link.new))
         (keeping (K.handed keep.new) (K.kept keep.new)) (O.contents out.new)) KeepsStores }
     ensures tells { (line : RunWords) → run_of (map string_bytes words.now) ≡ Some line → (result ≡ 0) ⊎ (result ≡ 5)
         → HoldsWhereHonest line.plan result
-        (seen (outside (L.log link.old) (C.answers clock.old) (C.waits clock.old) (D.given dice.old))
+        (seen (outside (L.log link.old) (C.answers clock.old) (C.waits clock.old) (D.given dice.old) (L.faults link.old))
         (keeping (K.handed keep.old) (K.kept keep.old)) (O.contents out.old))
-        (seen (outside (L.log link.new) (C.answers clock.new) (C.waits clock.new) (D.given dice.new))
+        (seen (outside (L.log link.new) (C.answers clock.new) (C.waits clock.new) (D.given dice.new) (L.faults link.new))
         (keeping (K.handed keep.new) (K.kept keep.new)) (O.contents out.new)) TellsReplicas }
 
     // Completeness of a run, over its words, its store and its log: where it asks a server of this history from replicas, and each session was
@@ -395,20 +403,20 @@ pub fn run_client<
     // installed; and where none was lost, no refusal is told. The server need not declare each list of the words.
     ensures installs { (line : RunWords) (history : History) (token_at : Naming) (kept : Option (List ℕ)) (sessions : List Session)
         → run_of (map string_bytes words.now) ≡ Some line → (result ≡ 0) ⊎ (result ≡ 5) → MeetsAnswers history token_at line.plan kept sessions
-        (seen (outside (L.log link.old) (C.answers clock.old) (C.waits clock.old) (D.given dice.old))
+        (seen (outside (L.log link.old) (C.answers clock.old) (C.waits clock.old) (D.given dice.old) (L.faults link.old))
         (keeping (K.handed keep.old) (K.kept keep.old)) (O.contents out.old))
-        (seen (outside (L.log link.new) (C.answers clock.new) (C.waits clock.new) (D.given dice.new))
+        (seen (outside (L.log link.new) (C.answers clock.new) (C.waits clock.new) (D.given dice.new) (L.faults link.new))
         (keeping (K.handed keep.new) (K.kept keep.new)) (O.contents out.new))
         → TellsComplete history token_at line.plan kept sessions
-        (seen (outside (L.log link.old) (C.answers clock.old) (C.waits clock.old) (D.given dice.old))
+        (seen (outside (L.log link.old) (C.answers clock.old) (C.waits clock.old) (D.given dice.old) (L.faults link.old))
         (keeping (K.handed keep.old) (K.kept keep.old)) (O.contents out.old))
-        (seen (outside (L.log link.new) (C.answers clock.new) (C.waits clock.new) (D.given dice.new))
+        (seen (outside (L.log link.new) (C.answers clock.new) (C.waits clock.new) (D.given dice.new) (L.faults link.new))
         (keeping (K.handed keep.new) (K.kept keep.new)) (O.contents out.new)) }
     ensures answered { (line : RunWords) (history : History) (token_at : Naming) (kept : Option (List ℕ)) (sessions : List Session)
         → run_of (map string_bytes words.now) ≡ Some line → MeetsAnswers history token_at line.plan kept sessions
-        (seen (outside (L.log link.old) (C.answers clock.old) (C.waits clock.old) (D.given dice.old))
+        (seen (outside (L.log link.old) (C.answers clock.old) (C.waits clock.old) (D.given dice.old) (L.faults link.old))
         (keeping (K.handed keep.old) (K.kept keep.old)) (O.contents out.old))
-        (seen (outside (L.log link.new) (C.answers clock.new) (C.waits clock.new) (D.given dice.new))
+        (seen (outside (L.log link.new) (C.answers clock.new) (C.waits clock.new) (D.given dice.new) (L.faults link.new))
         (keeping (K.handed keep.new) (K.kept keep.new)) (O.contents out.new))
         → All (IsAnsweredIn history token_at line.plan.target) sessions → result ≢ 5 }
 
@@ -416,24 +424,24 @@ pub fn run_client<
     // the run began with at a version up to this one is printed at that version or at a later one.
     ensures versions { (line : RunWords) (history : History) (token_at : Naming) (least : ℕ) (kept : Option (List ℕ)) (sessions : List Session)
         → run_of (map string_bytes words.now) ≡ Some line → (result ≡ 0) ⊎ (result ≡ 5) → MeetsVersions history token_at least line.plan kept sessions
-        (seen (outside (L.log link.old) (C.answers clock.old) (C.waits clock.old) (D.given dice.old))
+        (seen (outside (L.log link.old) (C.answers clock.old) (C.waits clock.old) (D.given dice.old) (L.faults link.old))
         (keeping (K.handed keep.old) (K.kept keep.old)) (O.contents out.old))
-        (seen (outside (L.log link.new) (C.answers clock.new) (C.waits clock.new) (D.given dice.new))
+        (seen (outside (L.log link.new) (C.answers clock.new) (C.waits clock.new) (D.given dice.new) (L.faults link.new))
         (keeping (K.handed keep.new) (K.kept keep.new)) (O.contents out.new))
         → TellsVersions history token_at least line.plan kept sessions
-        (seen (outside (L.log link.old) (C.answers clock.old) (C.waits clock.old) (D.given dice.old))
+        (seen (outside (L.log link.old) (C.answers clock.old) (C.waits clock.old) (D.given dice.old) (L.faults link.old))
         (keeping (K.handed keep.old) (K.kept keep.old)) (O.contents out.old))
-        (seen (outside (L.log link.new) (C.answers clock.new) (C.waits clock.new) (D.given dice.new))
+        (seen (outside (L.log link.new) (C.answers clock.new) (C.waits clock.new) (D.given dice.new) (L.faults link.new))
         (keeping (K.handed keep.new) (K.kept keep.new)) (O.contents out.new)) }
 
     // The headline of a judging's updates: wherever the run ends, where it began with replicas of the server's lists, and the updates that it
     // made are honest and no digest collides, each text that the keeper is handed is the store of replicas, and what it keeps is what it
     // kept, or no store, or reads as replicas.
     ensures judge_saves { (line : JudgeWords) → judge_of (map string_bytes words.now) ≡ Some line → UpdatesHold line.plan
-        (judging (S.left input.old) (outside (L.log link.old) (C.answers clock.old) (C.waits clock.old) (D.given dice.old))
-        (L.faults link.old) (keeping (K.handed keep.old) (K.kept keep.old)) (O.contents out.old))
-        (judging (S.left input.new) (outside (L.log link.new) (C.answers clock.new) (C.waits clock.new) (D.given dice.new))
-        (L.faults link.new) (keeping (K.handed keep.new) (K.kept keep.new)) (O.contents out.new)) }
+        (judging (S.left input.old) (seen (outside (L.log link.old) (C.answers clock.old) (C.waits clock.old) (D.given dice.old) (L.faults link.old))
+        (keeping (K.handed keep.old) (K.kept keep.old)) (O.contents out.old)))
+        (judging (S.left input.new) (seen (outside (L.log link.new) (C.answers clock.new) (C.waits clock.new) (D.given dice.new) (L.faults link.new))
+        (keeping (K.handed keep.new) (K.kept keep.new)) (O.contents out.new))) }
 
     // The headline of a judging: where it came to its end, its updates and its finds kept to their waits, and each URL is decided where
     // nothing had to be asked or its find was allowed, passed and read. Where it began with replicas of the server's lists, and the updates
@@ -442,10 +450,10 @@ pub fn run_client<
     // verdicts are what was printed. Nothing is asked of answers that did not decide the verdict that is spoken of.
     ensures verdicts { (line : JudgeWords) (history : History) (token_at : Naming) → judge_of (map string_bytes words.now) ≡ Some line
         → IsWellFormed history → (result ≡ 0) ⊎ (result ≡ 5) ⊎ (result ≡ 20) ⊎ (result ≡ 21) → ReportsRightly history token_at line.plan result
-        (judging (S.left input.old) (outside (L.log link.old) (C.answers clock.old) (C.waits clock.old) (D.given dice.old))
-        (L.faults link.old) (keeping (K.handed keep.old) (K.kept keep.old)) (O.contents out.old))
-        (judging (S.left input.new) (outside (L.log link.new) (C.answers clock.new) (C.waits clock.new) (D.given dice.new))
-        (L.faults link.new) (keeping (K.handed keep.new) (K.kept keep.new)) (O.contents out.new)) }
+        (judging (S.left input.old) (seen (outside (L.log link.old) (C.answers clock.old) (C.waits clock.old) (D.given dice.old) (L.faults link.old))
+        (keeping (K.handed keep.old) (K.kept keep.old)) (O.contents out.old)))
+        (judging (S.left input.new) (seen (outside (L.log link.new) (C.answers clock.new) (C.waits clock.new) (D.given dice.new) (L.faults link.new))
+        (keeping (K.handed keep.new) (K.kept keep.new)) (O.contents out.new))) }
 {
     fronts_are_within();
     replays_print_replicas();
@@ -460,9 +468,10 @@ pub fn run_client<
     judged_urls_are_decided();
     asked_targets_are_sound();
     match command_of(alloc, words) {
-        Ok(Some(command)) => run_lent(
-            rt, alloc, command, input, out, keep, link, clock, dice, gate,
-        ),
+        Ok(Some(command)) => {
+            let means = Means { rt, alloc, gate };
+            run_lent(means, command, input, out, keep, link, clock, dice)
+        }
         Ok(None) => tell_usage(words, out),
         Err(OutOfMemory) => 8,
     }

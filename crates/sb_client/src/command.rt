@@ -6,7 +6,7 @@ ghost use Rattle.sb_client.specs.Command.{bare_shape, judge_given, judge_shape, 
 use crate::judge_words::judge_plan;
 use crate::telling::told;
 use client_words::{Asking, are_words, asking_in, target_of};
-use judge_beside::BesidePlan;
+use judge_run::JudgePlan;
 use sb_model::{Bytes, ListName, OutOfMemory, Row};
 use sb_words::{OptionKind, OptionShape, Shape, Words, lists, number, read_words};
 use std::alloc::Global;
@@ -77,7 +77,7 @@ pub(crate) enum Command {
     /// A run of a client.
     Run(Plan),
     /// A run that judges URLs.
-    Judge(BesidePlan),
+    Judge(JudgePlan),
     Show,
     Vectors,
     /// What words asked about a program, as it is printed.

@@ -4,10 +4,11 @@ ghost use Rattle.client_words.specs.Asking.{asking_of};
 ghost use Rattle.sb_client.specs.Command.{judge_given, judge_of, judge_shape, judge_with, judge_words, patience_given, updates_given, workers_given, JudgeWords};
 
 use client_words::{Asking, are_words, asking_in, number_in, target_of};
-use judge_beside::BesidePlan;
+use judge_run::JudgePlan;
 use sb_model::{ListName, OutOfMemory, Row};
 use sb_words::{OptionKind, OptionShape, Shape, Words, lists, read_words};
 use std::alloc::Global;
+use update_run::Plan;
 
 /// The words of `judge`.
 const JUDGE: Shape = Shape {
@@ -164,25 +165,27 @@ pub(crate) fn judge_line<'a>(
 }
 
 /// What a run that judges URLs is to do, by its command line.
-fn plan_of(alloc: Global, line: JudgeLine<'_>) -> Result<BesidePlan, OutOfMemory>
+fn plan_of(alloc: Global, line: JudgeLine<'_>) -> Result<JudgePlan, OutOfMemory>
     requires { line.seconds ≤ 86400 }
     ensures { IfOk result (λ plan. plan
         ≡ (judge_words (asking_of line.entry.asking.store.now line.entry.asking.server.now line.entry.asking.key.now line.entry.asking.options line.entry.asking.need_digest) line.entry.names line.entry.rounds line.entry.workers line.entry.seconds).plan) }
 {
     let target = target_of(alloc, &line.asking)?;
-    Ok(BesidePlan {
-        names: line.names,
-        rounds: line.rounds,
+    Ok(JudgePlan {
+        updates: Plan {
+            names: line.names,
+            rounds: line.rounds,
+            options: line.asking.options,
+            target,
+            need_digest: line.asking.need_digest,
+        },
         workers: line.workers,
-        options: line.asking.options,
-        target,
-        need_digest: line.asking.need_digest,
         patience: 1000 * line.seconds,
     })
 }
 
 /// What the words after `judge` have a run do.
-pub(crate) fn judge_plan(alloc: Global, words: &[String]) -> Result<Option<BesidePlan>, OutOfMemory>
+pub(crate) fn judge_plan(alloc: Global, words: &[String]) -> Result<Option<JudgePlan>, OutOfMemory>
     ensures { IfOk result (λ plan. plan
         ≡ option_map (λ (line : JudgeWords). line.plan)
         (option_and_then judge_given (given_of judge_shape (map string_bytes words.now)))) }

@@ -1,28 +1,28 @@
 ghost use Rattle.std.specs.Prelude.{◌≡◌, ◌⊎◌, ◌≤◌, length};
 ghost use Rattle.http_edge.specs.Exchanges.{IsTarget};
 ghost use Rattle.update_client.specs.Held.{most_lists};
+ghost use Rattle.update_run.specs.Run.{seen};
 ghost use Rattle.update_run.specs.Saved.{keeping};
-ghost use Rattle.judge_run.specs.Run.{seen as judging};
+ghost use Rattle.judge_run.specs.Run.{judging};
 ghost use Rattle.sb_client.specs.Command.{AreWorkers};
-ghost use Rattle.sb_client.specs.Ending.{judge_status_after, judge_status_of, judgement_status};
+ghost use Rattle.sb_client.specs.Ending.{judge_status_after, judge_status_of, outcome_status};
 ghost use Rattle.sb_client.specs.Runs.{IsFaultOfStatus, IsJudgeRun};
 
 use client_line::Line;
-use judge_beside::{BesidePlan, Outcome, judge};
-use judge_run::{JudgeStop, Judgement};
+use judge_run::{JudgePlan, JudgeStop, Judgement, Outcome, judge};
 use sb_outside::{Gate, Keeper, Sink, Source};
 use std::alloc::Global;
 use std::sync::Wait;
 use std::thread::Threads;
 
 /// The exit status of what URLs come to.
-fn status_of_judgement(judgement: Judgement) -> u8
-    ensures { result ≡ judgement_status judgement }
+fn status_of_outcome(outcome: Outcome) -> u8
+    ensures { result ≡ outcome_status outcome }
 {
-    match judgement {
-        Judgement::Safe => 0,
-        Judgement::Unsafe => 20,
-        Judgement::Open => 21,
+    match outcome {
+        Outcome::Safe => 0,
+        Outcome::Unsafe => 20,
+        Outcome::Open => 21,
     }
 }
 
@@ -40,12 +40,12 @@ fn status_of_judge_stop(stop: JudgeStop) -> u8
 }
 
 /// The exit status of a run that judges URLs.
-fn judge_exit_status(ending: Result<Outcome, JudgeStop>) -> u8
+fn judge_exit_status(ending: Result<Judgement, JudgeStop>) -> u8
     ensures { result ≡ judge_status_of ending }
 {
     match ending {
-        Ok(outcome) if outcome.refused => 5,
-        Ok(outcome) => status_of_judgement(outcome.judgement),
+        Ok(judgement) if judgement.refused => 5,
+        Ok(judgement) => status_of_outcome(judgement.outcome),
         Err(stop) => status_of_judge_stop(stop),
     }
 }
@@ -61,19 +61,19 @@ pub(crate) fn judge_status<
 >(
     rt: &R,
     alloc: Global,
-    plan: &BesidePlan,
+    plan: &JudgePlan,
     input: &mut S,
     out: &mut O,
     keep: &mut K,
     line: &mut N,
     gate: &G,
 ) -> u8
-    requires few { length plan.now.names ≤ most_lists }
-    requires target { IsTarget plan.now.target }
+    requires few { length plan.now.updates.names ≤ most_lists }
+    requires target { IsTarget plan.now.updates.target }
     requires workers { AreWorkers plan.now.workers }
     ensures judges { IsJudgeRun plan.now result
-        (judging (S.left input.old) (N.view line.old).told (N.view line.old).faults (keeping (K.handed keep.old) (K.kept keep.old)) (O.contents out.old))
-        (judging (S.left input.new) (N.view line.new).told (N.view line.new).faults (keeping (K.handed keep.new) (K.kept keep.new)) (O.contents out.new)) }
+        (judging (S.left input.old) (seen (N.view line.old).told (keeping (K.handed keep.old) (K.kept keep.old)) (O.contents out.old)))
+        (judging (S.left input.new) (seen (N.view line.new).told (keeping (K.handed keep.new) (K.kept keep.new)) (O.contents out.new))) }
     ensures unwritten { (result ≡ 2) ⊎ (result ≡ 6) → out.new ≡ out.old }
     ensures read { IsFaultOfStatus 2 result (S.faults input.old) (S.faults input.new) }
     ensures written { IsFaultOfStatus 3 result (O.faults out.old) (O.faults out.new) }

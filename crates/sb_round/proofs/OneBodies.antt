@@ -11,7 +11,7 @@ use Rattle.update_messages.specs.Faults.{fault_of_response, fault_of_text}
 use Rattle.update_messages.specs.Messages.{UpdatedList}
 use Rattle.update_messages.specs.Reading.{IsTextOf, ReadsResponse}
 use Rattle.update_messages.specs.declared.response.FetchResponse.{FetchResponse}
-use Rattle.sb_round.specs.Round.{IsAnswerOf, updates_of}
+use Rattle.sb_round.specs.Round.{IsRoundAnswerOf, updates_of}
 use Rattle.sb_round.specs.Sessions.{IsBodyOf, AreBodiesOf, HasOneListOfBodies}
 use Rattle.sb_round.specs.declared.rounds.RoundFault.{RoundFault}
 use Rattle.sb_round.specs.declared.rounds.RoundFault.TheVariants.{Exchange, Message}
@@ -41,7 +41,7 @@ same_message once body a b (value, is, reads) (other, other_is, other_reads) =
     once value a b reads (subst (λ (read : Data). ReadsResponse read b) same other_reads)
 
 same_updates : ReadsOneWay → ReadsOrFails → (body : List ℕ) (a b : Result FetchResponse RoundFault)
-    → IsAnswerOf (Ok body) a → IsAnswerOf (Ok body) b → updates_of a ≡ updates_of b
+    → IsRoundAnswerOf (Ok body) a → IsRoundAnswerOf (Ok body) b → updates_of a ≡ updates_of b
 same_updates once or_fails body (Ok first) (Ok second) one two = ap (λ (message : FetchResponse). message.items) (same_message once body first second one two)
 same_updates once or_fails body (Ok first) (Err (Message fault)) one two = absurd (no_fault or_fails body first fault one two)
 same_updates once or_fails body (Ok first) (Err (Exchange fault)) one two = absurd two
@@ -52,11 +52,11 @@ same_updates once or_fails body (Err first) (Err second) one two = refl
 module _ (passes : PassesOnce) (once : ReadsOneWay) (or_fails : ReadsOrFails) (need : Bool) where
   -- two readings of one session
   same_of : (session : Session) (o p : Result (List ℕ) ExchangeFault) (a b : Result FetchResponse RoundFault)
-      → SessionOutcome need session o → SessionOutcome need session p → IsAnswerOf o a → IsAnswerOf p b → updates_of a ≡ updates_of b
+      → SessionOutcome need session o → SessionOutcome need session p → IsRoundAnswerOf o a → IsRoundAnswerOf p b → updates_of a ≡ updates_of b
   same_of session (Ok body) (Ok other) a b first second one two =
       let passed : Ok other ≡ Ok body = passes need session body (Ok other) first second in
       let same : other ≡ body = cc in
-      same_updates once or_fails body a b one (subst (λ (text : List ℕ). IsAnswerOf (Ok text) b) same two)
+      same_updates once or_fails body a b one (subst (λ (text : List ℕ). IsRoundAnswerOf (Ok text) b) same two)
   same_of session (Ok body) (Err fault) a b first second one two =
       let passed : Err fault ≡ Ok body = passes need session body (Err fault) first second in absurd (cc)
   same_of session (Err fault) (Ok body) a b first second one two =

@@ -15,14 +15,14 @@ use Rattle.wait_rules.specs.declared.waits.WaitState.{WaitState}
 use Rattle.client_line.specs.Lines.{LineView, ReadsClock, Draws}
 use Rattle.timed_sessions.specs.Told.{Outside, Grows, with_more}
 use Rattle.timed_sessions.specs.declared.timing.Opening.{Opening}
-use Rattle.timed_sessions.specs.Timed.{TimedSession, IsTimedOpening, HoldsTimed, HoldsTimedPart, IsTold, moments_after, waits_from, trace_of}
-use Rattle.timed_sessions.specs.Waiting.{HasSettled, words_of}
+use Rattle.timed_sessions.specs.Timed.{TimedSession, IsTimedOpening, HoldsTimed, HoldsTimedPart, TellsSession, moments_after, waits_from, trace_of}
+use Rattle.timed_sessions.specs.Waiting.{HasSettled, drawn_of}
 use Rattle.timed_sessions.specs.declared.timing.Talk.{Talk}
 use Rattle.sb_round.specs.declared.rounds.RoundEnd.{RoundEnd}
 use Rattle.sb_round.specs.declared.rounds.RoundFault.{RoundFault}
 use Rattle.sb_round.specs.declared.rounds.Taken.{Taken}
-use Rattle.sb_round.specs.Round.{body_asked, named_results, IsAnswerOf, IsOpenRound, HoldsRoundSession, MakesRound}
-use Rattle.sb_round.specs.Taking.{HasTalked, HasAsked, HasTaken}
+use Rattle.sb_round.specs.Round.{RoundState, round_state, round_body_asked, named_results, IsRoundAnswerOf, IsOpenRound, HoldsRoundSession, MakesRound}
+use Rattle.sb_round.specs.Taking.{HasTalked, HearsRound, HasTaken}
 use Rattle.sb_round.specs.declared.asking.Asked.{Asked}
 
 -- ---- what is told
@@ -46,13 +46,13 @@ told_same a b same = rw same (told_nothing a)
 
 -- the clock's reading, and then what is told of the session
 grows : (waits : WaitState) (session : TimedSession) (before between : LineView) (after : Outside)
-    → ReadsClock session.read before between → IsTold waits session between.told after
+    → ReadsClock session.read before between → TellsSession waits session between.told after
     → Grows before.told after (trace_of waits session [])
 grows waits session before between after read told = record {
   log = subst (λ log. IfTold after.log (with_entry log session.entry)) read.others.log told.logged;
-  answers = told_after before.told.answers between.told.answers after.answers session.read (moments_after waits session) read.read told.answered;
+  readings = told_after before.told.readings between.told.readings after.readings session.read (moments_after waits session) read.read told.readings;
   waits = subst (λ bidden. IfTold after.waits (with_more bidden (waits_from waits session.read))) read.waits told.bade;
-  words = told_same before.told.words after.words (told.undrawn ∙ read.others.words);
+  drawn = told_same before.told.drawn after.drawn (told.undrawn ∙ read.others.drawn);
 }
 
 -- words that are drawn after nothing
@@ -71,9 +71,9 @@ with_words : (waits : WaitState) (session : TimedSession) (before : Outside) (be
     → Grows before after.told (trace_of waits session drawn)
 with_words waits session before between after drawn told draws = record {
   log = rw draws.log told.log;
-  answers = rw draws.answers told.answers;
+  readings = rw draws.readings told.readings;
   waits = rw draws.waits told.waits;
-  words = drawn_after before.words between.told.words after.told.words drawn told.words draws.drawn;
+  drawn = drawn_after before.drawn between.told.drawn after.told.drawn drawn told.drawn draws.drawn;
 }
 
 -- ---- sessions
@@ -112,7 +112,7 @@ open_if waits read target body before between after (Err refused) first opened l
 pub heard : (waits : WaitState) (target : Target) (body : List ℕ) (need : Bool) (start before : LineView) (after : Outside) (opening : Opening) (talk : Talk) (answer : Result FetchResponse RoundFault)
     → IsOpenRound waits target body start before opening
     → ((read : Moment) (between : Outside) → IsTimedOpening waits read target Update body between before.told opening → HoldsTimed waits read target Update body need between after talk)
-    → IsAnswerOf talk.answer answer → HasAsked waits target body need start.told after (record { begun = talk.begun; closed = talk.closed; answer = answer })
+    → IsRoundAnswerOf talk.answer answer → HearsRound waits target body need start.told after (record { begun = talk.begun; closed = talk.closed; answer = answer })
 heard waits target body need start before after opening talk answer opens holds answers = record {
   outcome = talk.answer;
   talked = talked waits opens.read target body need start opens.between after talk opens.reads (holds opens.read opens.between.told opens.opened);
@@ -147,7 +147,7 @@ heard_whole waits target body need start before after opening talk opens holds =
 pub message_taken : (lists lists' : List Held) (waits waits' : WaitState) (before after : LineView) (begun closed : Moment) (message : FetchResponse) (taken : List Taken)
     → HasSettled waits waits' closed (Some message.wait) before after → lists' ≡ after_updates lists message.items
     → taken ≡ named_results message.items (results_of lists message.items)
-    → HasTaken lists lists' waits waits' before after (record { begun = begun; closed = closed; answer = Ok message }) (record { begun = begun; taken = Ok taken })
+    → HasTaken (round_state lists waits) (round_state lists' waits') before after (record { begun = begun; closed = closed; answer = Ok message }) (record { begun = begun; taken = Ok taken })
 message_taken lists lists' waits waits' before after begun closed message taken settled lists_are taken_is = record {
   settled = settled;
   lists_after = lists_are;
@@ -158,15 +158,15 @@ message_taken lists lists' waits waits' before after begun closed message taken 
 -- a round that brought none
 pub failed : (lists : List Held) (waits waits' : WaitState) (before after : LineView) (begun closed : Moment) (fault : RoundFault)
     → HasSettled waits waits' closed None before after
-    → HasTaken lists lists waits waits' before after (record { begun = begun; closed = closed; answer = Err fault }) (record { begun = begun; taken = Err fault })
+    → HasTaken (round_state lists waits) (round_state lists waits') before after (record { begun = begun; closed = closed; answer = Err fault }) (record { begun = begun; taken = Err fault })
 failed lists waits waits' before after begun closed fault settled = record { settled = settled; lists_after = refl; begins = refl; taken = refl }
 
 -- a round whose session was held, and which was then ended
-pub made : (lists lists' : List Held) (waits waits' : WaitState) (options : FetchOptions) (target : Target) (need : Bool) (before : Outside) (between after : LineView) (asked : Asked) (end : RoundEnd)
-    → HasAsked waits target (body_asked lists options) need before between.told asked
-    → HasTaken lists lists' waits waits' between after asked end
-    → MakesRound lists waits options target need before after.told lists' waits' end
-made lists lists' waits waits' options target need before between after asked end has taken = record {
+pub made : (state state' : RoundState) (options : FetchOptions) (target : Target) (need : Bool) (before : Outside) (between after : LineView) (asked : Asked) (end : RoundEnd)
+    → HearsRound state.waits target (round_body_asked state.lists options) need before between.told asked
+    → HasTaken state state' between after asked end
+    → MakesRound state state' options target need before after.told end
+made state state' options target need before between after asked end has taken = record {
   round = record { session = has.talked.session; answer = asked.answer; word = taken.settled.word };
   is = record {
     session = has.talked.is;
@@ -175,20 +175,20 @@ made lists lists' waits waits' options target need before between after asked en
     answers = has.answers;
     drawn = taken.settled.drawn;
   };
-  told = with_words waits has.talked.session before between after (words_of taken.settled.word) has.talked.told taken.settled.told;
+  told = with_words state.waits has.talked.session before between after (drawn_of taken.settled.word) has.talked.told taken.settled.told;
   lists_after = taken.lists_after;
   waits_after = rw has.talked.closes taken.settled.leaves;
   begun = taken.begins ∙ sym has.talked.begins;
   taken = taken.taken;
 }
 
-pub made_if : (lists lists' : List Held) (waits waits' : WaitState) (options : FetchOptions) (target : Target) (need : Bool) (before : Outside) (between after : LineView) (asked : Asked) (result : Result RoundEnd OutOfMemory)
-    → HasAsked waits target (body_asked lists options) need before between.told asked
-    → IfOk result (λ end. HasTaken lists lists' waits waits' between after asked end)
-    → IfOk result (λ end. MakesRound lists waits options target need before after.told lists' waits' end)
-made_if lists lists' waits waits' options target need before between after asked (Ok end) has taken =
-    made lists lists' waits waits' options target need before between after asked end has taken
-made_if lists lists' waits waits' options target need before between after asked (Err refused) has taken = tt
+pub made_if : (state state' : RoundState) (options : FetchOptions) (target : Target) (need : Bool) (before : Outside) (between after : LineView) (asked : Asked) (result : Result RoundEnd OutOfMemory)
+    → HearsRound state.waits target (round_body_asked state.lists options) need before between.told asked
+    → IfOk result (λ end. HasTaken state state' between after asked end)
+    → IfOk result (λ end. MakesRound state state' options target need before after.told end)
+made_if state state' options target need before between after asked (Ok end) has taken =
+    made state state' options target need before between after asked end has taken
+made_if state state' options target need before between after asked (Err refused) has taken = tt
 
 -- what is known wherever a call answers is known after an `Err`
 pub err_says : {A E : Type 0} (result : Result A E) (Known : Type 0) → Known → OnErr result Known
@@ -197,7 +197,7 @@ err_says (Err fault) Known known = known
 
 -- a round whose session was held, and whose answer could not be taken
 pub asked_part : (waits : WaitState) (target : Target) (body : List ℕ) (need : Bool) (before : Outside) (between after : LineView) (asked : Asked) (result : Result RoundEnd OutOfMemory)
-    → HasAsked waits target body need before between.told asked → OnErr result (after ≡ between)
+    → HearsRound waits target body need before between.told asked → OnErr result (after ≡ between)
     → OnErr result (HoldsRoundSession waits target body before after.told)
 asked_part waits target body need before between after asked (Ok end) has same = tt
 asked_part waits target body need before between after asked (Err refused) has same =

@@ -13,7 +13,7 @@ use Rattle.timed_sessions.specs.Told.{Trace, Grows, no_trace, then_trace}
 use Rattle.timed_sessions.specs.Law.{BeginsTrace, GoesOnWithTrace}
 use Rattle.sb_round.specs.Run.{lists_after}
 use Rattle.sb_round.specs.Round.{Round, IsRound, lists_after_round, trace_of_round, waits_after_round}
-use Rattle.sb_round.specs.Rounds.{body_of, entry_of, waits_after_rounds, trace_of_rounds, AreRounds, BeginsRounds, GoesOnWithRounds, RoundsKeepToWaits, RoundsAreTheirSessions}
+use Rattle.sb_round.specs.Rounds.{round_updates, round_entry, waits_after_rounds, trace_of_rounds, AreRounds, BeginsRounds, GoesOnWithRounds, RoundsKeepToWaits, RoundsAreTheirSessions}
 
 fold_one_more : {A B : Type 0} (step : A → B → A) (start : A) (items : List B) (item : B) → fold step start (items ++ item ∷ []) ≡ step (fold step start items) item
 fold_one_more step start [] item = refl
@@ -26,23 +26,23 @@ map_one_more f (first ∷ items) item = ap (λ rest. f first ∷ rest) (map_one_
 -- ---- what is told of rounds and one more
 
 abbrev trace : List Session → List Moment → List Moment → List ℕ → Trace
-trace sessions answers waits words = record { sessions = sessions; answers = answers; waits = waits; words = words }
+trace sessions readings waits drawn = record { sessions = sessions; readings = readings; waits = waits; drawn = drawn }
 
-same_trace : (a b : Trace) → a.sessions ≡ b.sessions → a.answers ≡ b.answers → a.waits ≡ b.waits → a.words ≡ b.words → a ≡ b
-same_trace a b sessions answers waits words =
-    ap (λ all. trace all a.answers a.waits a.words) sessions
-    ∙ ap (λ all. trace b.sessions all a.waits a.words) answers
-    ∙ ap (λ all. trace b.sessions b.answers all a.words) waits
-    ∙ ap (λ all. trace b.sessions b.answers b.waits all) words
+same_trace : (a b : Trace) → a.sessions ≡ b.sessions → a.readings ≡ b.readings → a.waits ≡ b.waits → a.drawn ≡ b.drawn → a ≡ b
+same_trace a b sessions readings waits drawn =
+    ap (λ all. trace all a.readings a.waits a.drawn) sessions
+    ∙ ap (λ all. trace b.sessions all a.waits a.drawn) readings
+    ∙ ap (λ all. trace b.sessions b.readings all a.drawn) waits
+    ∙ ap (λ all. trace b.sessions b.readings b.waits all) drawn
 
 then_nothing : (a : Trace) → then_trace a no_trace ≡ then_trace no_trace a
-then_nothing a = same_trace _ _ (append-nil a.sessions) (append-nil a.answers) (append-nil a.waits) (append-nil a.words)
+then_nothing a = same_trace _ _ (append-nil a.sessions) (append-nil a.readings) (append-nil a.waits) (append-nil a.drawn)
 
 then_both : (a b c : Trace) → then_trace a (then_trace b c) ≡ then_trace (then_trace a b) c
 then_both a b c =
     same_trace _ _
-    (sym (append_assoc a.sessions b.sessions c.sessions)) (sym (append_assoc a.answers b.answers c.answers))
-    (sym (append_assoc a.waits b.waits c.waits)) (sym (append_assoc a.words b.words c.words))
+    (sym (append_assoc a.sessions b.sessions c.sessions)) (sym (append_assoc a.readings b.readings c.readings))
+    (sym (append_assoc a.waits b.waits c.waits)) (sym (append_assoc a.drawn b.drawn c.drawn))
 
 trace_one_more : (waits : WaitState) (rounds : List Round) (round : Round)
     → trace_of_rounds waits (rounds ++ round ∷ []) ≡ then_trace (trace_of_rounds waits rounds) (trace_of_round (waits_after_rounds waits rounds) round)
@@ -52,27 +52,27 @@ trace_one_more waits (first ∷ rounds) round =
     ∙ then_both (trace_of_round waits first) (trace_of_rounds (waits_after_round waits first) rounds) (trace_of_round (waits_after_rounds (waits_after_round waits first) rounds) round)
 
 rounds_one_more : (lists : List Held) (waits : WaitState) (options : FetchOptions) (target : Target) (need : Bool) (rounds : List Round) (round : Round)
-    → AreRounds lists waits options target need rounds → IsRound (lists_after lists (map body_of rounds)) (waits_after_rounds waits rounds) options target need round
+    → AreRounds lists waits options target need rounds → IsRound (lists_after lists (map round_updates rounds)) (waits_after_rounds waits rounds) options target need round
     → AreRounds lists waits options target need (rounds ++ round ∷ [])
 rounds_one_more lists waits options target need [] round are is = (is, tt)
 rounds_one_more lists waits options target need (first ∷ rounds) round (first_is, are) is =
     (first_is, rounds_one_more (lists_after_round lists first) (waits_after_round waits first) options target need rounds round are is)
 
 pub begins_rounds : BeginsTrace → BeginsRounds
-begins_rounds none lists waits options target need before = record { are = tt; told = none before; lists_are = refl; waits_are = refl }
+begins_rounds none state options target need before = record { are = tt; told = none before; lists_are = refl; waits_are = refl }
 
 pub goes_on : GoesOnWithTrace → GoesOnWithRounds
-goes_on one_more lists lists' lists'' waits waits' waits'' options target need before between after rounds end so_far made = record {
-  are = rounds_one_more lists waits options target need rounds made.round so_far.are
-      (subst (λ ws. IsRound (lists_after lists (map body_of rounds)) ws options target need made.round) so_far.waits_are
-      (subst (λ ls. IsRound ls waits' options target need made.round) so_far.lists_are made.is));
-  told = subst (λ all. Grows before after all) (sym (trace_one_more waits rounds made.round))
-      (one_more before between after (trace_of_rounds waits rounds) (trace_of_round (waits_after_rounds waits rounds) made.round) so_far.told
+goes_on one_more state state' state'' options target need before between after rounds end so_far made = record {
+  are = rounds_one_more state.lists state.waits options target need rounds made.round so_far.are
+      (subst (λ ws. IsRound (lists_after state.lists (map round_updates rounds)) ws options target need made.round) so_far.waits_are
+      (subst (λ ls. IsRound ls state'.waits options target need made.round) so_far.lists_are made.is));
+  told = subst (λ all. Grows before after all) (sym (trace_one_more state.waits rounds made.round))
+      (one_more before between after (trace_of_rounds state.waits rounds) (trace_of_round (waits_after_rounds state.waits rounds) made.round) so_far.told
       (subst (λ ws. Grows between after (trace_of_round ws made.round)) so_far.waits_are made.told));
   lists_are = made.lists_after
       ∙ ap (λ ls. lists_after_round ls made.round) so_far.lists_are
-      ∙ sym (ap (λ bodies. lists_after lists bodies) (map_one_more body_of rounds made.round) ∙ fold_one_more after_updates lists (map body_of rounds) (body_of made.round));
-  waits_are = made.waits_after ∙ ap (λ ws. waits_after_round ws made.round) so_far.waits_are ∙ sym (fold_one_more waits_after_round waits rounds made.round);
+      ∙ sym (ap (λ bodies. lists_after state.lists bodies) (map_one_more round_updates rounds made.round) ∙ fold_one_more after_updates state.lists (map round_updates rounds) (round_updates made.round));
+  waits_are = made.waits_after ∙ ap (λ ws. waits_after_round ws made.round) so_far.waits_are ∙ sym (fold_one_more waits_after_round state.waits rounds made.round);
 }
 
 -- ---- what rounds come to
@@ -88,6 +88,6 @@ pub are_their_sessions : RoundsAreTheirSessions
 are_their_sessions lists waits options target need [] are = (refl, tt)
 are_their_sessions lists waits options target need (round ∷ rounds) (is, are) =
     let rest = are_their_sessions (lists_after_round lists round) (waits_after_round waits round) options target need rounds are in (
-      ap (λ sessions. entry_of round ∷ sessions) rest.0,
+      ap (λ sessions. round_entry round ∷ sessions) rest.0,
       (record { outcome = is.outcome; decides = is.held.decides; answer = round.answer; answers = is.answers; is = refl }, rest.1),
     )

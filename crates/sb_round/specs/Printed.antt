@@ -37,8 +37,8 @@ ending_text (Ok taken) = codes "ok"
 ending_text (Err fault) = fault_text fault
 
 -- when a round's session began, and how the round ended
-abbrev pub end_text : RoundEnd → List ℕ
-end_text end = codes "at " ++ decimal end.begun.0 ++ codes " " ++ ending_text end.taken
+abbrev pub round_end_text : RoundEnd → List ℕ
+round_end_text end = codes "at " ++ decimal end.begun.0 ++ codes " " ++ ending_text end.taken
 
 -- a line for each update that was taken
 abbrev pub update_line : ℕ → Taken → List ℕ
@@ -50,4 +50,4 @@ update_lines number (Err fault) = []
 
 -- the lines of a round
 abbrev pub round_lines : ℕ → RoundEnd → List ℕ
-round_lines number end = round_line number (end_text end) ++ update_lines number end.taken
+round_lines number end = round_line number (round_end_text end) ++ update_lines number end.taken

@@ -8,17 +8,17 @@ use Rattle.update_messages.specs.Messages.{UpdatedList}
 use Rattle.wait_rules.specs.declared.waits.WaitState.{WaitState}
 use Rattle.sb_round.specs.declared.rounds.RoundEnd.{RoundEnd}
 use Rattle.sb_round.specs.Run.{lists_after}
-use Rattle.sb_round.specs.Round.{Round, IsRound, MakesRound, updates_of, lists_after_round, waits_after_round, closed_of, trace_of_round}
+use Rattle.sb_round.specs.Round.{Round, RoundState, IsRound, MakesRound, updates_of, lists_after_round, waits_after_round, closed_round, trace_of_round}
 use Rattle.sb_round.specs.Sessions.{AreBodiesOf}
 use Rattle.timed_sessions.specs.Told.{Outside, Trace, no_trace, then_trace, Grows}
 use Rattle.timed_sessions.specs.Waiting.{KeepToWaits}
 
 -- the body of a round, as its updates
-abbrev pub body_of : Round → List UpdatedList
-body_of round = updates_of round.answer
+abbrev pub round_updates : Round → List UpdatedList
+round_updates round = updates_of round.answer
 
-abbrev pub entry_of : Round → Session
-entry_of round = round.session.entry
+abbrev pub round_entry : Round → Session
+round_entry round = round.session.entry
 
 -- the state of waiting after any number of rounds
 abbrev pub waits_after_rounds : WaitState → List Round → WaitState
@@ -37,33 +37,33 @@ AreRounds lists waits options target need [] = Unit {0}
 AreRounds lists waits options target need (round ∷ rounds) =
     IsRound lists waits options target need round × AreRounds (lists_after_round lists round) (waits_after_round waits round) options target need rounds
 
--- A client with these lists and this state of waiting made these rounds, and this is told more of them. The lists are those
+-- A client with this state made these rounds. This is the state that they left, and this is told more of them. The lists are those
 -- after the bodies.
-pub record MakesRounds (lists : List Held) (waits : WaitState) (options : FetchOptions) (target : Target) (need : Bool) (before after : Outside) (new_lists : List Held) (new_waits : WaitState) (rounds : List Round) : Type 0 where
-  pub are : AreRounds lists waits options target need rounds
-  pub told : Grows before after (trace_of_rounds waits rounds)
-  pub lists_are : new_lists ≡ lists_after lists (map body_of rounds)
-  pub waits_are : new_waits ≡ waits_after_rounds waits rounds
+pub record MakesRounds (state state' : RoundState) (options : FetchOptions) (target : Target) (need : Bool) (before after : Outside) (rounds : List Round) : Type 0 where
+  pub are : AreRounds state.lists state.waits options target need rounds
+  pub told : Grows before after (trace_of_rounds state.waits rounds)
+  pub lists_are : state'.lists ≡ lists_after state.lists (map round_updates rounds)
+  pub waits_are : state'.waits ≡ waits_after_rounds state.waits rounds
 
 -- Nothing is made with no round.
 abbrev pub BeginsRounds : Type 0
-BeginsRounds = (lists : List Held) (waits : WaitState) (options : FetchOptions) (target : Target) (need : Bool) (before : Outside)
-    → MakesRounds lists waits options target need before before lists waits []
+BeginsRounds = (state : RoundState) (options : FetchOptions) (target : Target) (need : Bool) (before : Outside)
+    → MakesRounds state state options target need before before []
 
 -- Rounds and one more are rounds.
 abbrev pub GoesOnWithRounds : Type 0
-GoesOnWithRounds = (lists lists' lists'' : List Held) (waits waits' waits'' : WaitState) (options : FetchOptions) (target : Target) (need : Bool) (before between after : Outside) (rounds : List Round) (end : RoundEnd)
-    → MakesRounds lists waits options target need before between lists' waits' rounds
-    → (made : MakesRound lists' waits' options target need between after lists'' waits'' end)
-    → MakesRounds lists waits options target need before after lists'' waits'' (rounds ++ made.round ∷ [])
+GoesOnWithRounds = (state state' state'' : RoundState) (options : FetchOptions) (target : Target) (need : Bool) (before between after : Outside) (rounds : List Round) (end : RoundEnd)
+    → MakesRounds state state' options target need before between rounds
+    → (made : MakesRound state' state'' options target need between after end)
+    → MakesRounds state state'' options target need before after (rounds ++ made.round ∷ [])
 
 -- No round's session precedes its allowed moment.
 abbrev pub RoundsKeepToWaits : Type 0
 RoundsKeepToWaits = (lists : List Held) (waits : WaitState) (options : FetchOptions) (target : Target) (need : Bool) (rounds : List Round)
-    → AreRounds lists waits options target need rounds → KeepToWaits waits (map closed_of rounds)
+    → AreRounds lists waits options target need rounds → KeepToWaits waits (map closed_round rounds)
 
 -- The sessions of rounds are what the link's log has more of them, and the body of each is what its session's outcome reads as.
 abbrev pub RoundsAreTheirSessions : Type 0
 RoundsAreTheirSessions = (lists : List Held) (waits : WaitState) (options : FetchOptions) (target : Target) (need : Bool) (rounds : List Round)
     → AreRounds lists waits options target need rounds
-    → ((trace_of_rounds waits rounds).sessions ≡ map entry_of rounds) × AreBodiesOf need (map entry_of rounds) (map body_of rounds)
+    → ((trace_of_rounds waits rounds).sessions ≡ map round_entry rounds) × AreBodiesOf need (map round_entry rounds) (map round_updates rounds)

@@ -5,7 +5,7 @@ use Rattle.http_edge.specs.Outcomes.{SessionOutcome}
 use Rattle.http_edge.specs.declared.faults.ExchangeFault.{ExchangeFault}
 use Rattle.update_messages.specs.Messages.{UpdatedList}
 use Rattle.update_messages.specs.declared.response.FetchResponse.{FetchResponse}
-use Rattle.sb_round.specs.Round.{IsAnswerOf, updates_of}
+use Rattle.sb_round.specs.Round.{IsRoundAnswerOf, updates_of}
 use Rattle.sb_round.specs.declared.rounds.RoundFault.{RoundFault}
 
 -- A session's outcome reads as an answer with these updates; one that brings no message has none.
@@ -13,7 +13,7 @@ pub record IsBodyOf (need : Bool) (session : Session) (updates : List UpdatedLis
   pub outcome : Result (List ℕ) ExchangeFault
   pub decides : SessionOutcome need session outcome
   pub answer : Result FetchResponse RoundFault
-  pub answers : IsAnswerOf outcome answer
+  pub answers : IsRoundAnswerOf outcome answer
   pub is : updates ≡ updates_of answer
 
 -- the same of each session

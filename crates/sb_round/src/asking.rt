@@ -4,8 +4,8 @@ ghost use Rattle.http_edge.specs.Exchanges.{CountsSendFault, IsTarget};
 ghost use Rattle.http_edge.specs.declared.messages.Target.{Target};
 ghost use Rattle.wait_rules.specs.declared.waits.WaitState.{WaitState};
 ghost use Rattle.client_line.specs.Lines.{LineView};
-ghost use Rattle.sb_round.specs.Round.{IsAnswerOf, IsOpenRound, HoldsRoundSession, BreaksOff, body_asked};
-ghost use Rattle.sb_round.specs.Taking.{HasAsked};
+ghost use Rattle.sb_round.specs.Round.{IsRoundAnswerOf, IsOpenRound, HoldsRoundSession, BreaksOff, round_body_asked};
+ghost use Rattle.sb_round.specs.Taking.{HearsRound};
 
 use crate::rounds::RoundFault;
 use client_line::Line;
@@ -41,9 +41,9 @@ fn begin_now<N: Line>(
     ensures refused { OnErr result (HoldsRoundSession waits target.now body.now
         (N.view line.old).told (N.view line.new).told) }
     ensures faults { IfOk result (λ opening.
-        CountsSendFault opening.sent (N.view line.old).faults (N.view line.new).faults) }
-    ensures unmoved { OnErr result ((N.view line.new).faults ≡ (N.view line.old).faults) }
-    ensures counted { (N.view line.old).faults ≤ (N.view line.new).faults }
+        CountsSendFault opening.sent (N.view line.old).told.faults (N.view line.new).told.faults) }
+    ensures unmoved { OnErr result ((N.view line.new).told.faults ≡ (N.view line.old).told.faults) }
+    ensures counted { (N.view line.old).told.faults ≤ (N.view line.new).told.faults }
     ensures same { (N.view line.new).objects ≡ (N.view line.old).objects }
 {
     let read = line.now();
@@ -52,7 +52,7 @@ fn begin_now<N: Line>(
 
 // Reads a body that passed.
 fn read_body(alloc: Global, body: &Bytes) -> Result<Result<FetchResponse, RoundFault>, OutOfMemory>
-    ensures answer { IfOk result (λ answer. IsAnswerOf (Ok body.now) answer) }
+    ensures answer { IfOk result (λ answer. IsRoundAnswerOf (Ok body.now) answer) }
     ensures no_memory { IfOk result (λ answer.
         answer ≢ Err (RoundFault.Message MessageFault.OutOfMemory)) }
     ensures no_link { IfOk result (λ answer.
@@ -70,7 +70,7 @@ fn answer_of(
     alloc: Global,
     outcome: Result<Bytes, ExchangeFault>,
 ) -> Result<Result<FetchResponse, RoundFault>, OutOfMemory>
-    ensures answer { IfOk result (λ answer. IsAnswerOf outcome answer) }
+    ensures answer { IfOk result (λ answer. IsRoundAnswerOf outcome answer) }
     ensures no_memory { IfOk result (λ answer.
         answer ≢ Err (RoundFault.Message MessageFault.OutOfMemory)) }
     ensures link { IfOk result (λ answer.
@@ -89,7 +89,7 @@ fn body_for(
     lists: &ClientLists,
     options: &FetchOptions,
 ) -> Result<Bytes, OutOfMemory>
-    ensures { IfOk result (λ body. body ≡ body_asked lists.now options.now) }
+    ensures { IfOk result (λ body. body ≡ round_body_asked lists.now options.now) }
 {
     let request = lists.request(alloc, options)?;
     write_request(alloc, &request)
@@ -110,15 +110,15 @@ pub fn begin_round<N: Line>(
 
     // The session of a round is open, which asks for these lists and begins when it may.
     ensures opened { IfOk result (λ opening. IsOpenRound waits target.now
-        (body_asked lists.now options.now) (N.view line.old) (N.view line.new) opening) }
+        (round_body_asked lists.now options.now) (N.view line.old) (N.view line.new) opening) }
     ensures broken_off { OnErr result (BreaksOff lists.now waits options.now target.now
         (N.view line.old).told (N.view line.new).told) }
 
     // A fault of the link is counted, and nothing else is.
     ensures faults { IfOk result (λ opening.
-        CountsSendFault opening.sent (N.view line.old).faults (N.view line.new).faults) }
-    ensures unmoved { OnErr result ((N.view line.new).faults ≡ (N.view line.old).faults) }
-    ensures counted { (N.view line.old).faults ≤ (N.view line.new).faults }
+        CountsSendFault opening.sent (N.view line.old).told.faults (N.view line.new).told.faults) }
+    ensures unmoved { OnErr result ((N.view line.new).told.faults ≡ (N.view line.old).told.faults) }
+    ensures counted { (N.view line.old).told.faults ≤ (N.view line.new).told.faults }
 
     // The line's objects are the same.
     ensures same { (N.view line.new).objects ≡ (N.view line.old).objects }
@@ -137,21 +137,21 @@ pub(crate) fn hear<N: Line>(
     requires last { (N.view line.old).last ≡ opening.begun.0 }
     ensures asked { (waits : WaitState) (target : Target) (body : List ℕ) (start : LineView)
         → IsOpenRound waits target body start (N.view line.old) opening
-        → IfOk result (λ asked. HasAsked waits target body need_digest start.told (N.view line.new).told asked) }
+        → IfOk result (λ asked. HearsRound waits target body need_digest start.told (N.view line.new).told asked) }
     ensures refused { (waits : WaitState) (target : Target) (body : List ℕ) (start : LineView)
         → IsOpenRound waits target body start (N.view line.old) opening
         → OnErr result (HoldsRoundSession waits target body start.told (N.view line.new).told) }
     ensures no_memory { IfOk result (λ asked.
         asked.answer ≢ Err (RoundFault.Message MessageFault.OutOfMemory)) }
-    ensures failed { (start : ℕ) → CountsSendFault opening.sent start (N.view line.old).faults
+    ensures failed { (start : ℕ) → CountsSendFault opening.sent start (N.view line.old).told.faults
         → IfOk result (λ asked. asked.answer ≡ Err (RoundFault.Exchange ExchangeFault.Link)
-        → Rose start (N.view line.new).faults) }
-    ensures kept { (start : ℕ) → CountsSendFault opening.sent start (N.view line.old).faults
+        → Rose start (N.view line.new).told.faults) }
+    ensures kept { (start : ℕ) → CountsSendFault opening.sent start (N.view line.old).told.faults
         → IfOk result (λ asked. asked.answer ≢ Err (RoundFault.Exchange ExchangeFault.Link)
-        → (N.view line.new).faults ≡ start) }
-    ensures unmoved { (start : ℕ) → CountsSendFault opening.sent start (N.view line.old).faults
-        → OnErr result ((N.view line.new).faults ≡ start) }
-    ensures counted { (N.view line.old).faults ≤ (N.view line.new).faults }
+        → (N.view line.new).told.faults ≡ start) }
+    ensures unmoved { (start : ℕ) → CountsSendFault opening.sent start (N.view line.old).told.faults
+        → OnErr result ((N.view line.new).told.faults ≡ start) }
+    ensures counted { (N.view line.old).told.faults ≤ (N.view line.new).told.faults }
     ensures same { (N.view line.new).objects ≡ (N.view line.old).objects }
 {
     let Talk {

@@ -1,7 +1,7 @@
 ghost use Rattle.std.specs.Prelude.{◌≡◌, ◌++◌, codes, decimal, length, take, OnOk, OnErr};
 ghost use Rattle.std.specs.List.{flat_map};
 ghost use Rattle.sb_json.specs.Printed.{message_cause_text};
-ghost use Rattle.sb_round.specs.Printed.{round_line, fault_text, ending_text, end_text, update_line, update_lines, round_lines, taken_text};
+ghost use Rattle.sb_round.specs.Printed.{round_line, fault_text, ending_text, round_end_text, update_line, update_lines, round_lines, taken_text};
 
 use crate::printing::push_taken;
 use crate::rounds::{RoundEnd, RoundFault, Taken};
@@ -56,7 +56,7 @@ fn push_ending(page: &mut Bytes, taken: &Result<Row<Taken>, RoundFault>) -> Resu
 
 // Appends when a round's session began, and how the round ended.
 fn push_end(page: &mut Bytes, end: &RoundEnd) -> Result<(), OutOfMemory>
-    ensures ok { OnOk result (page.new ≡ page.old ++ end_text end.now) }
+    ensures ok { OnOk result (page.new ≡ page.old ++ round_end_text end.now) }
     ensures front { OnErr result (take (length page.old) page.new ≡ page.old) }
 {
     page.append(b"at ")?;
@@ -67,7 +67,7 @@ fn push_end(page: &mut Bytes, end: &RoundEnd) -> Result<(), OutOfMemory>
 
 /// Appends the first line of a round: its number, when its session began, and how it ended. After an `Err` the page begins as it was.
 pub fn push_round_line(page: &mut Bytes, number: u64, end: &RoundEnd) -> Result<(), OutOfMemory>
-    ensures ok { OnOk result (page.new ≡ page.old ++ round_line number (end_text end.now)) }
+    ensures ok { OnOk result (page.new ≡ page.old ++ round_line number (round_end_text end.now)) }
     ensures front { OnErr result (take (length page.old) page.new ≡ page.old) }
 {
     push_round_number(page, number)?;

@@ -6,7 +6,7 @@ ghost use Rattle.http_edge.specs.Exchanges.{CountsSendFault, IsTarget};
 ghost use Rattle.http_edge.specs.declared.messages.Target.{Target};
 ghost use Rattle.client_line.specs.Lines.{LineView};
 ghost use Rattle.timed_sessions.specs.Waiting.{HasSettled};
-ghost use Rattle.sb_round.specs.Round.{body_asked, named_results, taken_from, IsOpenRound, HoldsRoundSession, MakesRound, BreaksOff};
+ghost use Rattle.sb_round.specs.Round.{round_state, round_body_asked, named_results, taken_from, IsOpenRound, HoldsRoundSession, MakesRound, BreaksOff};
 ghost use Rattle.sb_round.specs.Taking.{HasTaken};
 
 use crate::asking::{Asked, begin_round, hear};
@@ -39,7 +39,7 @@ fn succeed<N: Line>(
     ensures lists_kept { OnErr result (lists.new ≡ lists.old) }
     ensures waits_kept { OnErr result (waits.new ≡ waits.old) }
     ensures untouched { OnErr result (N.view line.new ≡ N.view line.old) }
-    ensures faults { (N.view line.new).faults ≡ (N.view line.old).faults }
+    ensures faults { (N.view line.new).told.faults ≡ (N.view line.old).told.faults }
     ensures same { (N.view line.new).objects ≡ (N.view line.old).objects }
 {
     let taken = take_message(alloc, lists, message)?;
@@ -55,12 +55,12 @@ fn take_answer<N: Line>(
     asked: Asked,
     line: &mut N,
 ) -> Result<RoundEnd, OutOfMemory>
-    ensures taken { IfOk result (λ end. HasTaken lists.old lists.new waits.old waits.new
+    ensures taken { IfOk result (λ end. HasTaken (round_state lists.old waits.old) (round_state lists.new waits.new)
         (N.view line.old) (N.view line.new) asked end) }
     ensures lists_kept { OnErr result (lists.new ≡ lists.old) }
     ensures waits_kept { OnErr result (waits.new ≡ waits.old) }
     ensures untouched { OnErr result (N.view line.new ≡ N.view line.old) }
-    ensures faults { (N.view line.new).faults ≡ (N.view line.old).faults }
+    ensures faults { (N.view line.new).told.faults ≡ (N.view line.old).told.faults }
     ensures same { (N.view line.new).objects ≡ (N.view line.old).objects }
     ensures had_message { OnErr result (asked.answer ≢ Err (RoundFault.Exchange ExchangeFault.Link)) }
 {
@@ -104,12 +104,12 @@ pub fn end_round<N: Line>(
 
     // If these lists were asked for with this state of waiting, one round was made, and this is what it left.
     ensures made { (options : FetchOptions) (target : Target) (start : LineView)
-        → IsOpenRound waits.old target (body_asked lists.old options) start (N.view line.old) opening
-        → IfOk result (λ end. MakesRound lists.old waits.old options target need_digest
-        start.told (N.view line.new).told lists.new waits.new end) }
+        → IsOpenRound waits.old target (round_body_asked lists.old options) start (N.view line.old) opening
+        → IfOk result (λ end. MakesRound (round_state lists.old waits.old) (round_state lists.new waits.new)
+        options target need_digest start.told (N.view line.new).told end) }
     ensures broken_off { (options : FetchOptions) (target : Target) (start : LineView)
-        → IsOpenRound waits.old target (body_asked lists.old options) start (N.view line.old) opening
-        → OnErr result (HoldsRoundSession waits.old target (body_asked lists.old options)
+        → IsOpenRound waits.old target (round_body_asked lists.old options) start (N.view line.old) opening
+        → OnErr result (HoldsRoundSession waits.old target (round_body_asked lists.old options)
         start.told (N.view line.new).told) }
 
     // Want of memory is no cause of a failed round. It breaks a round off.
@@ -119,15 +119,15 @@ pub fn end_round<N: Line>(
     ensures waits_kept { OnErr result (waits.new ≡ waits.old) }
 
     // Over both parts, from a count at the start, a fault of the link is counted, and nothing else is.
-    ensures failed { (start : ℕ) → CountsSendFault opening.sent start (N.view line.old).faults
+    ensures failed { (start : ℕ) → CountsSendFault opening.sent start (N.view line.old).told.faults
         → IfOk result (λ end. end.taken ≡ Err (RoundFault.Exchange ExchangeFault.Link)
-        → Rose start (N.view line.new).faults) }
-    ensures kept { (start : ℕ) → CountsSendFault opening.sent start (N.view line.old).faults
+        → Rose start (N.view line.new).told.faults) }
+    ensures kept { (start : ℕ) → CountsSendFault opening.sent start (N.view line.old).told.faults
         → IfOk result (λ end. end.taken ≢ Err (RoundFault.Exchange ExchangeFault.Link)
-        → (N.view line.new).faults ≡ start) }
-    ensures unmoved { (start : ℕ) → CountsSendFault opening.sent start (N.view line.old).faults
-        → OnErr result ((N.view line.new).faults ≡ start) }
-    ensures counted { (N.view line.old).faults ≤ (N.view line.new).faults }
+        → (N.view line.new).told.faults ≡ start) }
+    ensures unmoved { (start : ℕ) → CountsSendFault opening.sent start (N.view line.old).told.faults
+        → OnErr result ((N.view line.new).told.faults ≡ start) }
+    ensures counted { (N.view line.old).told.faults ≤ (N.view line.new).told.faults }
 
     // The line's objects are the same.
     ensures same { (N.view line.new).objects ≡ (N.view line.old).objects }
@@ -153,9 +153,8 @@ pub fn run_round<N: Line>(
     requires target { IsTarget target.now }
 
     // One round was made, and this is what it left.
-    ensures made { IfOk result (λ end. MakesRound lists.old waits.old options.now target.now need_digest
-        (N.view line.old).told (N.view line.new).told
-        lists.new waits.new end) }
+    ensures made { IfOk result (λ end. MakesRound (round_state lists.old waits.old) (round_state lists.new waits.new)
+        options.now target.now need_digest (N.view line.old).told (N.view line.new).told end) }
 
     // Want of memory is no cause of a failed round. It breaks a round off.
     ensures no_memory { IfOk result (λ end.
@@ -167,11 +166,11 @@ pub fn run_round<N: Line>(
 
     // A fault of the link is counted, and nothing else is.
     ensures failed { IfOk result (λ end. end.taken ≡ Err (RoundFault.Exchange ExchangeFault.Link)
-        → Rose (N.view line.old).faults (N.view line.new).faults) }
+        → Rose (N.view line.old).told.faults (N.view line.new).told.faults) }
     ensures kept { IfOk result (λ end. end.taken ≢ Err (RoundFault.Exchange ExchangeFault.Link)
-        → (N.view line.new).faults ≡ (N.view line.old).faults) }
-    ensures unmoved { OnErr result ((N.view line.new).faults ≡ (N.view line.old).faults) }
-    ensures counted { (N.view line.old).faults ≤ (N.view line.new).faults }
+        → (N.view line.new).told.faults ≡ (N.view line.old).told.faults) }
+    ensures unmoved { OnErr result ((N.view line.new).told.faults ≡ (N.view line.old).told.faults) }
+    ensures counted { (N.view line.old).told.faults ≤ (N.view line.new).told.faults }
 
     // The line's objects are the same.
     ensures same { (N.view line.new).objects ≡ (N.view line.old).objects }

@@ -12,10 +12,10 @@ pub begun_at_once : (waits : WaitState) (read : Moment) (before : LineView)
     → may_send_at waits read ≡ true → before.last ≡ read.0 → HasBegun waits read before before read
 begun_at_once waits read before may last = record {
   is = record { at_once = rw may refl; allowed = grind (arith, may) };
-  answered = rw may (told_nothing before.told.answers);
+  readings = rw may (told_nothing before.told.readings);
   bade = rw may (told_nothing before.told.waits);
   last = last;
-  others = record { log = refl; words = refl; faults = refl; same = refl };
+  others = record { log = refl; drawn = refl; faults = refl; same = refl };
 }
 
 -- a session that begins after a wait
@@ -23,7 +23,7 @@ pub begun_later : (waits : WaitState) (read begun : Moment) (before after : Line
     → may_send_at waits read ≡ false → before.last ≡ read.0 → WaitsUntil waits.allowed_at begun before after → HasBegun waits read before after begun
 begun_later waits read begun before after may last waited = record {
   is = record { at_once = rw may (grind (arith, last, waited.rises)); allowed = waited.reached };
-  answered = rw may waited.read;
+  readings = rw may waited.read;
   bade = rw may waited.waited;
   last = waited.last;
   others = waited.others;

@@ -12,7 +12,7 @@ use Rattle.wait_rules.specs.declared.waits.WaitState.{WaitState}
 use Rattle.client_line.specs.Lines.{LineView, KeepsClock, ClosesAt}
 use Rattle.timed_sessions.specs.Told.{with_more, Outside}
 use Rattle.timed_sessions.specs.declared.timing.Opening.{Opening}
-use Rattle.timed_sessions.specs.Timed.{TimedSession, HasBegun, IsTimedOpening, IsTold, HoldsTimed, HoldsTimedPart, moments_before, waits_from}
+use Rattle.timed_sessions.specs.Timed.{TimedSession, HasBegun, IsTimedOpening, TellsSession, HoldsTimed, HoldsTimedPart, moments_before, waits_from}
 use Rattle.timed_sessions.proofs.Traces.{told_both}
 
 -- the end of a wait, if there was one, and then the close
@@ -28,22 +28,22 @@ pub opened : (waits : WaitState) (read : Moment) (target : Target) (asked : Kind
 opened waits read target asked body before between after begun sent begins opens keeps = record {
   begins = begins.is;
   opened = subst (λ log. IsOpenExchange target asked body begun log after.told.log sent) begins.others.log opens;
-  answered = subst (λ answers. IfTold answers (with_more before.told.answers (moments_before waits read begun))) (sym keeps.answers) begins.answered;
+  readings = subst (λ readings. IfTold readings (with_more before.told.readings (moments_before waits read begun))) (sym keeps.readings) begins.readings;
   bade = subst (λ bidden. IfTold bidden (with_more before.told.waits (waits_from waits read))) (sym keeps.waits) begins.bade;
-  undrawn = keeps.words ∙ begins.others.words;
+  undrawn = keeps.drawn ∙ begins.others.drawn;
 }
 
 -- what is told of a session that was opens, and was closed
 told : (waits : WaitState) (session : TimedSession) (target : Target) (asked : Kind) (body : List ℕ) (before : Outside) (between after : LineView) (sent : Bool)
     → IsTimedOpening waits session.read target asked body before between.told (record { begun = session.begun; sent = sent })
     → IfTold after.told.log (with_entry before.log session.entry)
-    → ClosesAt session.begun session.closed between after → IsTold waits session before after.told
+    → ClosesAt session.begun session.closed between after → TellsSession waits session before after.told
 told waits session target asked body before between after sent opens logged closes = record {
   logged = logged;
-  answered = subst (λ all. IfTold after.told.answers (with_more before.answers all)) (then_closed session.begun session.closed (may_send_at waits session.read))
-      (told_both before.answers between.told.answers after.told.answers (moments_before waits session.read session.begun) (session.closed ∷ []) opens.answered closes.read);
+  readings = subst (λ all. IfTold after.told.readings (with_more before.readings all)) (then_closed session.begun session.closed (may_send_at waits session.read))
+      (told_both before.readings between.told.readings after.told.readings (moments_before waits session.read session.begun) (session.closed ∷ []) opens.readings closes.read);
   bade = subst (λ bidden. IfTold bidden (with_more before.waits (waits_from waits session.read))) (sym closes.waits) opens.bade;
-  undrawn = closes.words ∙ opens.undrawn;
+  undrawn = closes.drawn ∙ opens.undrawn;
 }
 
 -- a session that was held to its end
@@ -66,13 +66,13 @@ held waits read target asked body need before between after opening closed outco
 -- a session that was broken off before it was opens
 told_part : (waits : WaitState) (session : TimedSession) (before between after : LineView)
     → HasBegun waits session.read before between session.begun → IfTold after.told.log (with_entry between.told.log session.entry)
-    → ClosesAt session.begun session.closed between after → IsTold waits session before.told after.told
+    → ClosesAt session.begun session.closed between after → TellsSession waits session before.told after.told
 told_part waits session before between after begins logged closes = record {
   logged = subst (λ log. IfTold after.told.log (with_entry log session.entry)) begins.others.log logged;
-  answered = subst (λ all. IfTold after.told.answers (with_more before.told.answers all)) (then_closed session.begun session.closed (may_send_at waits session.read))
-      (told_both before.told.answers between.told.answers after.told.answers (moments_before waits session.read session.begun) (session.closed ∷ []) begins.answered closes.read);
+  readings = subst (λ all. IfTold after.told.readings (with_more before.told.readings all)) (then_closed session.begun session.closed (may_send_at waits session.read))
+      (told_both before.told.readings between.told.readings after.told.readings (moments_before waits session.read session.begun) (session.closed ∷ []) begins.readings closes.read);
   bade = subst (λ bidden. IfTold bidden (with_more before.told.waits (waits_from waits session.read))) (sym closes.waits) begins.bade;
-  undrawn = closes.words ∙ begins.others.words;
+  undrawn = closes.drawn ∙ begins.others.drawn;
 }
 
 pub held_part : (waits : WaitState) (read : Moment) (target : Target) (asked : Kind) (body : List ℕ) (need : Bool) (before between after : LineView) (begun closed : Moment)

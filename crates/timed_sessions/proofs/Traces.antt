@@ -23,15 +23,15 @@ told_both (Some items) (Some known) (Some told) more then first next =
 pub begins_trace : BeginsTrace
 begins_trace before = record {
   log = told_nothing before.log;
-  answers = told_nothing before.answers;
+  readings = told_nothing before.readings;
   waits = told_nothing before.waits;
-  words = told_nothing before.words;
+  drawn = told_nothing before.drawn;
 }
 
 pub goes_on : GoesOnWithTrace
 goes_on before between after first next one two = record {
   log = told_both before.log between.log after.log first.sessions next.sessions one.log two.log;
-  answers = told_both before.answers between.answers after.answers first.answers next.answers one.answers two.answers;
+  readings = told_both before.readings between.readings after.readings first.readings next.readings one.readings two.readings;
   waits = told_both before.waits between.waits after.waits first.waits next.waits one.waits two.waits;
-  words = told_both before.words between.words after.words first.words next.words one.words two.words;
+  drawn = told_both before.drawn between.drawn after.drawn first.drawn next.drawn one.drawn two.drawn;
 }

@@ -16,7 +16,7 @@ goes_on_waiting waits (first ∷ sessions) last (first_begins, keep) begins =
 
 -- no word was drawn
 drew_nothing : (before : LineView) → Draws [] before before
-drew_nothing before = record { drawn = told_nothing before.told.words; log = refl; answers = refl; waits = refl; faults = refl; last = refl; same = refl }
+drew_nothing before = record { drawn = told_nothing before.told.drawn; log = refl; readings = refl; waits = refl; faults = refl; last = refl; same = refl }
 
 -- with a message
 pub succeeded : (waits waits' : WaitState) (closed : Moment) (wait : Duration) (before : LineView)

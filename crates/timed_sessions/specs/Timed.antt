@@ -22,7 +22,7 @@ pub record TimedSession : Type 0 where
   pub closed : Moment
   pub entry : Session
 
--- A session begins at what the clock read where it may then, and else at a later answer, after the allowed moment.
+-- A session begins at what the clock read where it may then, and else at a later reading, after the allowed moment.
 pub record IsBeginning (waits : WaitState) (read begun : Moment) : Type 0 where
   pub at_once : MatchBool (may_send_at waits read) (begun ≡ read) (read.0 ≤ begun.0)
   pub allowed : waits.allowed_at.0 ≤ begun.0
@@ -35,16 +35,16 @@ pub record IsTimedSession (waits : WaitState) (target : Target) (kind : Kind) (b
 
 -- It was held to its end: the whole request was sent unless it failed, it was read no further than its answer, and this is
 -- its outcome.
-pub record IsHeld (target : Target) (kind : Kind) (body : List ℕ) (need : Bool) (entry : Session) (outcome : Result (List ℕ) ExchangeFault) : Type 0 where
+pub record IsHeldToEnd (target : Target) (kind : Kind) (body : List ℕ) (need : Bool) (entry : Session) (outcome : Result (List ℕ) ExchangeFault) : Type 0 where
   pub sends : SendsWhole target kind body entry
   pub reads : ReadsNoFurther need entry
   pub decides : SessionOutcome need entry outcome
 
--- the clock's answer at the end of the wait, where there was one
+-- the clock's reading at the end of the wait, where there was one
 abbrev pub moments_before : WaitState → Moment → Moment → List Moment
 moments_before waits read begun = if may_send_at waits read then [] else begun ∷ []
 
--- the clock's answers after what it read: the end of the wait, where there was one, and when the session was closed
+-- the clock's readings after the first: the end of the wait, where there was one, and when the session was closed
 abbrev pub moments_after : WaitState → TimedSession → List Moment
 moments_after waits session =
     if may_send_at waits session.read then session.closed ∷ [] else session.begun ∷ session.closed ∷ []
@@ -55,19 +55,19 @@ waits_from waits read = if may_send_at waits read then [] else waits.allowed_at 
 
 -- what is told more of a session after the clock was read, and with that reading
 abbrev pub trace_after : WaitState → TimedSession → List ℕ → Trace
-trace_after waits session words = record {
+trace_after waits session drawn = record {
   sessions = session.entry ∷ [];
-  answers = moments_after waits session;
+  readings = moments_after waits session;
   waits = waits_from waits session.read;
-  words = words;
+  drawn = drawn;
 }
 
 abbrev pub trace_of : WaitState → TimedSession → List ℕ → Trace
-trace_of waits session words = record {
+trace_of waits session drawn = record {
   sessions = session.entry ∷ [];
-  answers = session.read ∷ moments_after waits session;
+  readings = session.read ∷ moments_after waits session;
   waits = waits_from waits session.read;
-  words = words;
+  drawn = drawn;
 }
 
 -- ---- what is told of a session, after the clock was read
@@ -75,7 +75,7 @@ trace_of waits session words = record {
 -- A session begins at this moment, and the clock was bidden to wait until the allowed one exactly where it read one that is too early.
 pub record HasBegun (waits : WaitState) (read : Moment) (before after : LineView) (begun : Moment) : Type 0 where
   pub is : IsBeginning waits read begun
-  pub answered : IfTold after.told.answers (with_more before.told.answers (moments_before waits read begun))
+  pub readings : IfTold after.told.readings (with_more before.told.readings (moments_before waits read begun))
   pub bade : IfTold after.told.waits (with_more before.told.waits (waits_from waits read))
   pub last : after.last ≡ begun.0
   pub others : KeepsLink before after
@@ -85,24 +85,24 @@ pub record HasBegun (waits : WaitState) (read : Moment) (before after : LineView
 pub record IsTimedOpening (waits : WaitState) (read : Moment) (target : Target) (kind : Kind) (body : List ℕ) (before after : Outside) (opening : Opening) : Type 0 where
   pub begins : IsBeginning waits read opening.begun
   pub opened : IsOpenExchange target kind body opening.begun before.log after.log opening.sent
-  pub answered : IfTold after.answers (with_more before.answers (moments_before waits read opening.begun))
+  pub readings : IfTold after.readings (with_more before.readings (moments_before waits read opening.begun))
   pub bade : IfTold after.waits (with_more before.waits (waits_from waits read))
-  pub undrawn : after.words ≡ before.words
+  pub undrawn : after.drawn ≡ before.drawn
 
--- The link has a session more, the clock has its answers, and was bidden to wait until the allowed moment or not at all. No word was
+-- The link has a session more, the clock has its readings, and was bidden to wait until the allowed moment or not at all. No word was
 -- drawn.
-pub record IsTold (waits : WaitState) (session : TimedSession) (before after : Outside) : Type 0 where
+pub record TellsSession (waits : WaitState) (session : TimedSession) (before after : Outside) : Type 0 where
   pub logged : IfTold after.log (with_entry before.log session.entry)
-  pub answered : IfTold after.answers (with_more before.answers (moments_after waits session))
+  pub readings : IfTold after.readings (with_more before.readings (moments_after waits session))
   pub bade : IfTold after.waits (with_more before.waits (waits_from waits session.read))
-  pub undrawn : after.words ≡ before.words
+  pub undrawn : after.drawn ≡ before.drawn
 
 -- A session was held to its end.
 pub record HoldsTimed (waits : WaitState) (read : Moment) (target : Target) (kind : Kind) (body : List ℕ) (need : Bool) (before after : Outside) (talk : Talk) : Type 0 where
   pub session : TimedSession
   pub is : IsTimedSession waits target kind body session
-  pub held : IsHeld target kind body need session.entry talk.answer
-  pub told : IsTold waits session before after
+  pub held : IsHeldToEnd target kind body need session.entry talk.answer
+  pub told : TellsSession waits session before after
   pub reading : session.read ≡ read
   pub begins : session.begun ≡ talk.begun
   pub closes : session.closed ≡ talk.closed
@@ -111,5 +111,5 @@ pub record HoldsTimed (waits : WaitState) (read : Moment) (target : Target) (kin
 pub record HoldsTimedPart (waits : WaitState) (read : Moment) (target : Target) (kind : Kind) (body : List ℕ) (before after : Outside) : Type 0 where
   pub session : TimedSession
   pub is : IsTimedSession waits target kind body session
-  pub told : IsTold waits session before after
+  pub told : TellsSession waits session before after
   pub reading : session.read ≡ read

@@ -14,9 +14,9 @@ IsDrawnFor (Some wait) word = word ≡ None
 IsDrawnFor None word = IsSome word
 
 -- the words that were drawn
-abbrev pub words_of : Option ℕ → List ℕ
-words_of None = []
-words_of (Some word) = word ∷ []
+abbrev pub drawn_of : Option ℕ → List ℕ
+drawn_of None = []
+drawn_of (Some word) = word ∷ []
 
 -- A message bids to wait so long. Without one a word says how long.
 abbrev pub waits_at_end : WaitState → Moment → Option Duration → Option ℕ → WaitState
@@ -47,5 +47,5 @@ KeepToWaits waits (closed ∷ rest) =
 pub record HasSettled (waits waits' : WaitState) (closed : Moment) (bids : Option Duration) (before after : LineView) : Type 0 where
   pub word : Option ℕ
   pub drawn : IsDrawnFor bids word
-  pub told : Draws (words_of word) before after
+  pub told : Draws (drawn_of word) before after
   pub leaves : waits' ≡ waits_at_end waits closed bids word

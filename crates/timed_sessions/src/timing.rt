@@ -66,9 +66,9 @@ pub fn begin_session<N: Line>(
 
     // A fault of the link is counted, and nothing else is.
     ensures faults { IfOk result (λ opening.
-        CountsSendFault opening.sent (N.view line.old).faults (N.view line.new).faults) }
-    ensures unmoved { OnErr result ((N.view line.new).faults ≡ (N.view line.old).faults) }
-    ensures counted { (N.view line.old).faults ≤ (N.view line.new).faults }
+        CountsSendFault opening.sent (N.view line.old).told.faults (N.view line.new).told.faults) }
+    ensures unmoved { OnErr result ((N.view line.new).told.faults ≡ (N.view line.old).told.faults) }
+    ensures counted { (N.view line.old).told.faults ≤ (N.view line.new).told.faults }
 
     // The line's objects are the same.
     ensures same { (N.view line.new).objects ≡ (N.view line.old).objects }
@@ -99,13 +99,13 @@ pub fn end_session<N: Line>(
     ensures last { IfOk result (λ talk. (N.view line.new).last ≡ talk.closed.0) }
 
     // Over both parts, from a count at the start, a fault of the link is counted, and nothing else is.
-    ensures failed { (start : ℕ) → CountsSendFault opening.sent start (N.view line.old).faults
-        → IfOk result (λ talk. IsErrOf talk.answer ExchangeFault.Link → Rose start (N.view line.new).faults) }
-    ensures kept { (start : ℕ) → CountsSendFault opening.sent start (N.view line.old).faults
-        → IfOk result (λ talk. talk.answer ≢ Err ExchangeFault.Link → (N.view line.new).faults ≡ start) }
-    ensures unmoved { (start : ℕ) → CountsSendFault opening.sent start (N.view line.old).faults
-        → OnErr result ((N.view line.new).faults ≡ start) }
-    ensures counted { (N.view line.old).faults ≤ (N.view line.new).faults }
+    ensures failed { (start : ℕ) → CountsSendFault opening.sent start (N.view line.old).told.faults
+        → IfOk result (λ talk. IsErrOf talk.answer ExchangeFault.Link → Rose start (N.view line.new).told.faults) }
+    ensures kept { (start : ℕ) → CountsSendFault opening.sent start (N.view line.old).told.faults
+        → IfOk result (λ talk. talk.answer ≢ Err ExchangeFault.Link → (N.view line.new).told.faults ≡ start) }
+    ensures unmoved { (start : ℕ) → CountsSendFault opening.sent start (N.view line.old).told.faults
+        → OnErr result ((N.view line.new).told.faults ≡ start) }
+    ensures counted { (N.view line.old).told.faults ≤ (N.view line.new).told.faults }
 
     // The line's objects are the same.
     ensures same { (N.view line.new).objects ≡ (N.view line.old).objects }
@@ -144,11 +144,11 @@ pub fn hold_session<N: Line>(
 
     // A fault of the link is counted, and nothing else is.
     ensures failed { IfOk result (λ talk. IsErrOf talk.answer ExchangeFault.Link
-        → Rose (N.view line.old).faults (N.view line.new).faults) }
+        → Rose (N.view line.old).told.faults (N.view line.new).told.faults) }
     ensures kept { IfOk result (λ talk. talk.answer ≢ Err ExchangeFault.Link
-        → (N.view line.new).faults ≡ (N.view line.old).faults) }
-    ensures unmoved { OnErr result ((N.view line.new).faults ≡ (N.view line.old).faults) }
-    ensures counted { (N.view line.old).faults ≤ (N.view line.new).faults }
+        → (N.view line.new).told.faults ≡ (N.view line.old).told.faults) }
+    ensures unmoved { OnErr result ((N.view line.new).told.faults ≡ (N.view line.old).told.faults) }
+    ensures counted { (N.view line.old).told.faults ≤ (N.view line.new).told.faults }
 
     // The line's objects are the same.
     ensures same { (N.view line.new).objects ≡ (N.view line.old).objects }

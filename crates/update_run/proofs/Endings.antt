@@ -18,8 +18,8 @@ use Rattle.client_store.specs.Selected.{stored_or_nothing}
 use Rattle.client_store.specs.declared.fault.StoreFault.{StoreFault}
 use Rattle.wait_rules.specs.declared.waits.WaitState.{WaitState}
 use Rattle.timed_sessions.specs.Told.{Outside}
-use Rattle.sb_round.specs.Round.{Round}
-use Rattle.sb_round.specs.Rounds.{MakesRounds, body_of}
+use Rattle.sb_round.specs.Round.{Round, round_state}
+use Rattle.sb_round.specs.Rounds.{MakesRounds, round_updates}
 use Rattle.sb_round.specs.Run.{lists_after}
 use Rattle.update_run.specs.Opening.{first_lists, lists_from, HasLoaded, HasOpened}
 use Rattle.update_run.specs.Printed.{ignored_text, list_line}
@@ -49,7 +49,7 @@ count_after lists (updates ∷ bodies) = count_after (after_updates lists update
 
 pub still_some : (plan : Plan) (client client' : Client) (before after : Seen) (refused : Bool) → TakesAllRounds plan client client' before after refused → 0 < length client.lists → 0 < length client'.lists
 still_some plan client client' before after refused all some =
-    omega (arith, some, count_after client.lists (map body_of all.rounds), ap length all.takes.made.lists_are)
+    omega (arith, some, count_after client.lists (map round_updates all.rounds), ap length all.takes.made.lists_are)
 
 with_name_some : (name : ListName) (names : List ListName) → 0 < length (with_name name names)
 with_name_some name [] = omega arith
@@ -77,13 +77,13 @@ lists_to_run names names' known lists page same loaded some = omega (arith, ap l
 
 -- ---- rounds, and the lists at the end
 
-lines_at_end : (client : Client) (rounds : List Round) (lists : List Held) → lists ≡ lists_after client.lists (map body_of rounds) → text_so_far client rounds ++ flat_map list_line lists ≡ whole_text client rounds
+lines_at_end : (client : Client) (rounds : List Round) (lists : List Held) → lists ≡ lists_after client.lists (map round_updates rounds) → text_so_far client rounds ++ flat_map list_line lists ≡ whole_text client rounds
 lines_at_end client rounds lists are = ap (λ (ls : List Held). text_so_far client rounds ++ flat_map list_line ls) are
 
 pub ends : (plan : Plan) (client client' : Client) (o o' : Outside) (k k' : Keeping) (h h' h'' : Option (List ℕ)) (refused : Bool)
     → TakesAllRounds plan client client' (seen o k h) (seen o' k' h') refused → h'' ≡ appended h' (client'.page ++ flat_map list_line client'.lists)
     → EndsRounds plan client refused (seen o k h) (seen o' k' h'')
-ends plan client client' o o' k k' h h' h'' refused all held =
+ends plan client client' o o' k k' h h' h'' refused all written =
     let takes = all.takes in
     let before = text_so_far client all.rounds in
     let lines = flat_map list_line client'.lists in record {
@@ -93,7 +93,7 @@ ends plan client client' o o' k k' h h' h'' refused all held =
       waits = client'.waits;
       made = takes.made;
       saved = takes.saved;
-      text = way_ends (client'.page ++ lines) (before ++ lines) (way_longer client'.page before lines takes.text) held
+      text = way_ends (client'.page ++ lines) (before ++ lines) (way_longer client'.page before lines takes.text) written
           ∙ ap (appended h) (lines_at_end client all.rounds client'.lists takes.made.lists_are);
       refusal = takes.refusal;
     }
@@ -141,7 +141,7 @@ until_more false before after text lines front = front_of_more text lines front
 
 until : (all : ℕ) (client : Client) (rounds : List Round) (before after : Option (List ℕ)) → HasFront before after (text_so_far client rounds) → HasFront before after (text_until all client rounds)
 until all client rounds before after front =
-    until_more (nat_lt (length rounds) all) before after (text_so_far client rounds) (flat_map list_line (lists_after client.lists (map body_of rounds))) front
+    until_more (nat_lt (length rounds) all) before after (text_so_far client rounds) (flat_map list_line (lists_after client.lists (map round_updates rounds))) front
 
 after_until : (plan : Plan) (client : Client) (before after : Seen) → StopsAfterRounds plan client (text_so_far client) before after → StopsAfterRounds plan client (text_until plan.rounds client) before after
 after_until plan client before after stops = record {
@@ -153,7 +153,7 @@ after_until plan client before after stops = record {
   stores = stops.stores;
   most = stops.most;
   saved = stops.saved;
-  front = until plan.rounds client stops.rounds before.held after.held stops.front;
+  front = until plan.rounds client stops.rounds before.output after.output stops.front;
 }
 
 pub stops_until : (why : RunStop) (plan : Plan) (client : Client) (before after : Seen)
@@ -173,10 +173,10 @@ module _ (plan : Plan) (kept : Option (List ℕ)) (waits : WaitState) (before : 
     (loaded : IsLoaded kept before.keeper.kept) (opens : HasOpened waits before.outside opened)
   where
     made_from : (rounds : List Round) (between : Outside) (lists : List Held) (waits_now : WaitState)
-        → MakesRounds (first_lists plan.names kept) waits plan.options plan.target plan.need_digest opened between lists waits_now rounds → HasMade plan kept rounds before.outside between
+        → MakesRounds (round_state (first_lists plan.names kept) waits) (round_state lists waits_now) plan.options plan.target plan.need_digest opened between rounds → HasMade plan kept rounds before.outside between
     made_from rounds between lists waits_now made = record { waits = waits; opened = opened; opens = opens; lists = lists; waits_now = waits_now; made = made }
 
-    ran : (refused : Bool) → EndsRounds plan (first_client plan kept waits) refused (seen opened before.keeper before.held) after → IsRun plan refused before after
+    ran : (refused : Bool) → EndsRounds plan (first_client plan kept waits) refused (seen opened before.keeper before.output) after → IsRun plan refused before after
     ran refused ends = record {
       kept = kept;
       loaded = loaded;
@@ -188,7 +188,7 @@ module _ (plan : Plan) (kept : Option (List ℕ)) (waits : WaitState) (before : 
       refusal = ends.refusal;
     }
 
-    ran_short : StopsAfterRounds plan (first_client plan kept waits) (text_until plan.rounds (first_client plan kept waits)) (seen opened before.keeper before.held) after → StopsAfter plan before after
+    ran_short : StopsAfterRounds plan (first_client plan kept waits) (text_until plan.rounds (first_client plan kept waits)) (seen opened before.keeper before.output) after → StopsAfter plan before after
     ran_short stops = record {
       kept = kept;
       loaded = loaded;
@@ -201,7 +201,7 @@ module _ (plan : Plan) (kept : Option (List ℕ)) (waits : WaitState) (before : 
       front = stops.front;
     }
 
-    ran_into_keeper : FailsAfterRounds plan (first_client plan kept waits) (seen opened before.keeper before.held) after → StopsAtSave plan before after
+    ran_into_keeper : FailsAfterRounds plan (first_client plan kept waits) (seen opened before.keeper before.output) after → StopsAtSave plan before after
     ran_into_keeper fails = record {
       kept = kept;
       loaded = loaded;
@@ -220,7 +220,7 @@ module _ (plan : Plan) (kept : Option (List ℕ)) (waits : WaitState) (before : 
       lacks = fails.lacks;
     }
 
-    ran_out : BreaksOffAfterRounds plan (first_client plan kept waits) (seen opened before.keeper before.held) after → BreaksOffAfter plan before after
+    ran_out : BreaksOffAfterRounds plan (first_client plan kept waits) (seen opened before.keeper before.output) after → BreaksOffAfter plan before after
     unfolding made_from
     ran_out breaks = record {
       kept = kept;
@@ -234,7 +234,7 @@ module _ (plan : Plan) (kept : Option (List ℕ)) (waits : WaitState) (before : 
       text = breaks.text;
     }
 
-    pub ran_any : (ending : RunEnding) → EndsFrom plan ending (first_client plan kept waits) (seen opened before.keeper before.held) after → EndsRun plan ending before after
+    pub ran_any : (ending : RunEnding) → EndsFrom plan ending (first_client plan kept waits) (seen opened before.keeper before.output) after → EndsRun plan ending before after
     ran_any (Ok refused) ends = ran refused ends
     ran_any (Err stop.WriteFault) stops = ran_short stops
     ran_any (Err stop.KeepFault) fails = inr (ran_into_keeper fails)
@@ -251,11 +251,11 @@ client_with waits lists page = record { lists = lists; waits = waits; page = pag
 
 pub run_any : (ending : RunEnding) (plan : Plan) (names : List ListName) (client : Client) (before : Seen) (opened : Outside) (keeper : Keeping) (after : Seen)
     → names ≡ plan.names → HasLoaded names before.keeper.kept client.lists [] client.page → HasOpened client.waits before.outside opened → keeper ≡ before.keeper
-    → EndsFrom plan ending client (seen opened keeper before.held) after → EndsRun plan ending before after
+    → EndsFrom plan ending client (seen opened keeper before.output) after → EndsRun plan ending before after
 unfolding client_with
 run_any ending plan names client before opened keeper after same loaded opens kept ends =
     let lists = loaded.are ∙ ap (λ (ns : List ListName). first_lists ns loaded.kept) same in
-    let here = subst (λ k. EndsFrom plan ending client (seen opened k before.held) after) kept ends in
-    let listed = subst (λ (ls : List Held). EndsFrom plan ending (client_with client.waits ls client.page) (seen opened before.keeper before.held) after) lists here in
+    let here = subst (λ k. EndsFrom plan ending client (seen opened k before.output) after) kept ends in
+    let listed = subst (λ (ls : List Held). EndsFrom plan ending (client_with client.waits ls client.page) (seen opened before.keeper before.output) after) lists here in
     ran_any plan loaded.kept client.waits before opened after loaded.loaded opens ending
-    (subst (λ page. EndsFrom plan ending (client_with client.waits (first_lists plan.names loaded.kept) page) (seen opened before.keeper before.held) after) loaded.told listed)
+    (subst (λ page. EndsFrom plan ending (client_with client.waits (first_lists plan.names loaded.kept) page) (seen opened before.keeper before.output) after) loaded.told listed)

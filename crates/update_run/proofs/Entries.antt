@@ -42,8 +42,8 @@ opens start word waits before between after reads draws first = record {
   first = first;
   told = record {
     log = told_same before.told.log after.told.log (draws.log ∙ reads.others.log);
-    answers = rw draws.answers reads.read;
+    readings = rw draws.readings reads.read;
     waits = told_same before.told.waits after.told.waits (draws.waits ∙ reads.waits);
-    words = subst (λ words. IfTold after.told.words (with_more words (word ∷ []))) reads.others.words draws.drawn;
+    drawn = subst (λ known. IfTold after.told.drawn (with_more known (word ∷ []))) reads.others.drawn draws.drawn;
   };
 }

@@ -92,51 +92,51 @@ told_lines waiting number lists end page some =
     ap (λ bytes. bytes ++ saved_line number ++ last_lines number lists end) page
     ∙ ap (λ line. round_lines number end ++ line ++ last_lines number lists end) (line_true (has_installed end.taken) (saved_line number) some)
 
-front_told : (waiting : List ℕ) (number : ℕ) (lists : List Held) (end : RoundEnd) (held held' : Option (List ℕ)) → waiting ≡ round_lines number end → IsTrue (has_installed end.taken)
-    → HasFront held held' (waiting ++ saved_line number) → HasFront held held' (told_end number lists end)
-front_told waiting number lists end held held' page some front =
-    subst (λ text. HasFront held held' text) (told_lines waiting number lists end page some) (front_of_more (waiting ++ saved_line number) (last_lines number lists end) front)
+front_told : (waiting : List ℕ) (number : ℕ) (lists : List Held) (end : RoundEnd) (output output' : Option (List ℕ)) → waiting ≡ round_lines number end → IsTrue (has_installed end.taken)
+    → HasFront output output' (waiting ++ saved_line number) → HasFront output output' (told_end number lists end)
+front_told waiting number lists end output output' page some front =
+    subst (λ text. HasFront output output' text) (told_lines waiting number lists end page some) (front_of_more (waiting ++ saved_line number) (last_lines number lists end) front)
 
-stops_telling : (why : RunStop) (number : ℕ) (end : RoundEnd) (lists : List Held) (before after : Keeping) (held held' : Option (List ℕ)) (waiting : List ℕ)
-    → waiting ≡ round_lines number end → IsTrue (has_installed end.taken) → StopsSaving why number lists before after held held' waiting
-    → StopsTelling why number end lists before after held held'
-stops_telling stop.WriteFault number end lists before after held held' waiting page some stops =
-    (stops.0, front_told waiting number lists end held held' page some stops.1)
-stops_telling stop.KeepFault number end lists before after held held' waiting page some (fails, text) =
-    (some, fails, text ∙ ap (appended held) page)
-stops_telling stop.OutOfMemory number end lists before after held held' waiting page some stops =
-    (may stops.0, front_told waiting number lists end held held' page some stops.1)
+stops_telling : (why : RunStop) (number : ℕ) (end : RoundEnd) (lists : List Held) (before after : Keeping) (output output' : Option (List ℕ)) (waiting : List ℕ)
+    → waiting ≡ round_lines number end → IsTrue (has_installed end.taken) → StopsSaving why number lists before after output output' waiting
+    → StopsTelling why number end lists before after output output'
+stops_telling stop.WriteFault number end lists before after output output' waiting page some stops =
+    (stops.0, front_told waiting number lists end output output' page some stops.1)
+stops_telling stop.KeepFault number end lists before after output output' waiting page some (fails, text) =
+    (some, fails, text ∙ ap (appended output) page)
+stops_telling stop.OutOfMemory number end lists before after output output' waiting page some stops =
+    (may stops.0, front_told waiting number lists end output output' page some stops.1)
   where
     may : MayHaveSaved (lists ∷ []) before after → MayHaveSaved (saved_after end.taken lists) before after
     may (inl same) = inl same
     may (inr saves) = inr (subst (λ stores. HasSaved stores before after) (lists_true (has_installed end.taken) lists some) saves)
 
 -- a round of which a list was not saved
-pub told_err : (why : RunStop) (number : ℕ) (end : RoundEnd) (lists : List Held) (before after : Keeping) (held held' : Option (List ℕ)) (waiting waiting' : List ℕ)
-    → waiting ≡ [] → waiting' ≡ waiting ++ round_lines number end → IsTrue (has_installed end.taken) → StopsSaving why number lists before after held held' waiting'
-    → StopsTelling why number end lists before after held held'
-told_err why number end lists before after held held' waiting waiting' none page some stops =
-    stops_telling why number end lists before after held held' waiting' (page ∙ ap (λ w. w ++ round_lines number end) none) some stops
+pub told_err : (why : RunStop) (number : ℕ) (end : RoundEnd) (lists : List Held) (before after : Keeping) (output output' : Option (List ℕ)) (waiting waiting' : List ℕ)
+    → waiting ≡ [] → waiting' ≡ waiting ++ round_lines number end → IsTrue (has_installed end.taken) → StopsSaving why number lists before after output output' waiting'
+    → StopsTelling why number end lists before after output output'
+told_err why number end lists before after output output' waiting waiting' none page some stops =
+    stops_telling why number end lists before after output output' waiting' (page ∙ ap (λ w. w ++ round_lines number end) none) some stops
 
 -- In what follows the lines of a round wait behind nothing, and then that of its store.
-module _ (number : ℕ) (end : RoundEnd) (lists : List Held) (held held' : Option (List ℕ)) (waiting waiting' waiting'' : List ℕ)
-    (none : waiting ≡ []) (page : waiting' ≡ waiting ++ round_lines number end) (way : IsOnItsWay held held' waiting'' (waiting' ++ saved_part number end.taken))
+module _ (number : ℕ) (end : RoundEnd) (lists : List Held) (output output' : Option (List ℕ)) (waiting waiting' waiting'' : List ℕ)
+    (none : waiting ≡ []) (page : waiting' ≡ waiting ++ round_lines number end) (way : IsOnItsWay output output' waiting'' (waiting' ++ saved_part number end.taken))
   where
     told_whole : (waiting' ++ saved_part number end.taken) ++ last_lines number lists end ≡ told_end number lists end
     told_whole = ap (λ bytes. bytes ++ saved_part number end.taken ++ last_lines number lists end) (page ∙ ap (λ w. w ++ round_lines number end) none)
 
-    longer : IsOnItsWay held held' (waiting'' ++ last_lines number lists end) (told_end number lists end)
+    longer : IsOnItsWay output output' (waiting'' ++ last_lines number lists end) (told_end number lists end)
     longer =
-        subst (λ text. IsOnItsWay held held' (waiting'' ++ last_lines number lists end) text) told_whole
+        subst (λ text. IsOnItsWay output output' (waiting'' ++ last_lines number lists end) text) told_whole
         (way_longer waiting'' (waiting' ++ saved_part number end.taken) (last_lines number lists end) way)
 
     -- a round that was told to its end
-    pub told_to_end : (last : List ℕ) → last ≡ waiting'' ++ last_lines number lists end → IsOnItsWay held held' last (told_end number lists end)
-    told_to_end last is = subst (λ page. IsOnItsWay held held' page (told_end number lists end)) (sym is) longer
+    pub told_to_end : (last : List ℕ) → last ≡ waiting'' ++ last_lines number lists end → IsOnItsWay output output' last (told_end number lists end)
+    told_to_end last is = subst (λ page. IsOnItsWay output output' page (told_end number lists end)) (sym is) longer
 
     -- a round whose last lines could not be made
     pub not_told_to_end : (before after : Keeping) → waiting'' ≢ [] → HasSaved (saved_after end.taken lists) before after
-        → StopsTelling stop.OutOfMemory number end lists before after held held'
+        → StopsTelling stop.OutOfMemory number end lists before after output output'
     not_told_to_end before after some saved =
         (inr saved, front_of_rest (waiting'' ++ last_lines number lists end) (told_end number lists end) (some_front waiting'' (last_lines number lists end) some) longer)
 

@@ -7,14 +7,14 @@ use Rattle.update_client.specs.Held.{Held}
 use Rattle.wait_rules.specs.declared.waits.WaitState.{WaitState}
 use Rattle.timed_sessions.specs.Told.{Outside}
 use Rattle.sb_round.specs.Printed.{round_lines}
-use Rattle.sb_round.specs.Round.{Round, MakesRound}
+use Rattle.sb_round.specs.Round.{Round, round_state, MakesRound}
 use Rattle.sb_round.specs.Rounds.{MakesRounds, GoesOnWithRounds}
 use Rattle.sb_round.specs.declared.rounds.RoundEnd.{RoundEnd}
 use Rattle.update_run.specs.Saved.{Keeping, HasSaved, FailsToSave, MayLackLast, has_installed, saved_after, saved_lists}
 use Rattle.update_run.specs.Printed.{not_answered, not_answered_lines, saved_line, saved_part, told_end}
 use Rattle.update_run.specs.Run.{Seen}
 use Rattle.update_run.specs.Rounding.{StopsAtStart, StopsOneRound, StopsAfterRounds, BreaksOffAfterRounds, FailsAfterRounds, StopsRounds, text_so_far}
-use Rattle.update_run.specs.Steps.{MayHaveSaved, StopsWithin, StopsRound, TakesRounds}
+use Rattle.update_run.specs.Steps.{round_state_of, MayHaveSaved, StopsWithin, StopsRound, TakesRounds}
 use Rattle.update_run.specs.declared.client.Client.{Client}
 use Rattle.update_run.specs.declared.plan.Plan.{Plan}
 use Rattle.update_run.specs.declared.stop.RunStop.{RunStop}
@@ -33,7 +33,7 @@ stopped_at_start why plan rounds client between first mid after refused few so_f
   few = few;
   lists = between.lists;
   waits = between.waits;
-  made = subst (λ (o : Outside). MakesRounds client.lists client.waits plan.options plan.target plan.need_digest first.outside o between.lists between.waits rounds) (sym stops.outside) so_far.made;
+  made = subst (λ (o : Outside). MakesRounds (round_state_of client) (round_state_of between) plan.options plan.target plan.need_digest first.outside o rounds) (sym stops.outside) so_far.made;
   stores = saved_lists client.lists rounds;
   most = inl refl;
   saved = subst (λ k. HasSaved (saved_lists client.lists rounds) first.keeper k) (sym stops.keeper) so_far.saved;
@@ -53,7 +53,7 @@ stopped_within plan number rounds client between first mid after refused count f
   made = so_far.made;
   breaks = stops.breaks;
   saved = subst (λ k. HasSaved (saved_lists client.lists rounds) first.keeper k) (sym stops.keeper) so_far.saved;
-  text = stops.held ∙ taken_whole between.page (text_so_far client rounds) none so_far.text;
+  text = stops.output ∙ taken_whole between.page (text_so_far client rounds) none so_far.text;
 }
 
 -- ---- after a round
@@ -80,16 +80,16 @@ how_many stores all lists installed first mid after are saved (inr saves) = reco
 
 stopped_telling : (plan : Plan) (number : ℕ) (rounds : List Round) (client between : Client) (first mid after : Seen) (refused : Bool) (lists : List Held) (waits : WaitState) (end : RoundEnd)
     → GoesOnWithRounds → 1 + length rounds ≡ number → number ≤ plan.rounds → between.page ≡ [] → TakesRounds plan 1 rounds client between first mid refused
-    → MakesRound between.lists between.waits plan.options plan.target plan.need_digest mid.outside after.outside lists waits end
-    → MayHaveSaved (saved_after end.taken lists) mid.keeper after.keeper → HasFront mid.held after.held (told_end number lists end)
+    → MakesRound (round_state_of between) (round_state lists waits) plan.options plan.target plan.need_digest mid.outside after.outside end
+    → MayHaveSaved (saved_after end.taken lists) mid.keeper after.keeper → HasFront mid.output after.output (told_end number lists end)
     → StopsAfterRounds plan client (text_so_far client) first after
 stopped_telling plan number rounds client between first mid after refused lists waits end go count few none so_far made may front =
     let text = text_all plan 1 rounds client between first mid after lists waits end go so_far.made made in
     let stores = saved_all plan 1 rounds client between first mid after lists waits end go so_far.made made in
     let lines = told_end (1 + length rounds) lists end in
     let saved = how_many (saved_lists client.lists rounds) (saved_lists client.lists (rounds ++ made.round ∷ [])) lists (has_installed end.taken) first.keeper mid.keeper after.keeper stores so_far.saved may in
-    let here = subst (λ n. HasFront mid.held after.held (told_end n lists end)) (sym count) front in
-    let behind = subst (λ (page : List ℕ). HasFront mid.held after.held (page ++ lines)) (sym none) here in record {
+    let here = subst (λ n. HasFront mid.output after.output (told_end n lists end)) (sym count) front in
+    let behind = subst (λ (page : List ℕ). HasFront mid.output after.output (page ++ lines)) (sym none) here in record {
       rounds = rounds ++ made.round ∷ [];
       few = omega (arith, count, few, one_longer rounds made.round);
       lists = lists;
@@ -98,7 +98,7 @@ stopped_telling plan number rounds client between first mid after refused lists 
       stores = saved.stores;
       most = saved.most;
       saved = saved.saved;
-      front = subst (λ all. HasFront first.held after.held all) text (front_after between.page (text_so_far client rounds) lines so_far.text behind);
+      front = subst (λ all. HasFront first.output after.output all) text (front_after between.page (text_so_far client rounds) lines so_far.text behind);
     }
 
 lists_true : (b : Bool) (lists : List Held) → IsTrue b → (if b then lists ∷ [] else []) ≡ lists ∷ []
@@ -111,10 +111,10 @@ line_true false line h = absurd (cc)
 
 stopped_saving : (plan : Plan) (number : ℕ) (rounds : List Round) (client between : Client) (first mid after : Seen) (refused : Bool) (lists : List Held) (waits : WaitState) (end : RoundEnd)
     → GoesOnWithRounds → 1 + length rounds ≡ number → number ≤ plan.rounds → between.page ≡ [] → TakesRounds plan 1 rounds client between first mid refused
-    → MakesRound between.lists between.waits plan.options plan.target plan.need_digest mid.outside after.outside lists waits end
-    → IsTrue (has_installed end.taken) → FailsToSave lists mid.keeper after.keeper → after.held ≡ appended mid.held (round_lines number end)
+    → MakesRound (round_state_of between) (round_state lists waits) plan.options plan.target plan.need_digest mid.outside after.outside end
+    → IsTrue (has_installed end.taken) → FailsToSave lists mid.keeper after.keeper → after.output ≡ appended mid.output (round_lines number end)
     → FailsAfterRounds plan client first after
-stopped_saving plan number rounds client between first mid after refused lists waits end go count few none so_far made some fails held =
+stopped_saving plan number rounds client between first mid after refused lists waits end go count few none so_far made some fails told =
     let page = text_so_far client rounds in
     let lines = round_lines number end in
     let unanswered = not_answered lists end.taken in
@@ -133,7 +133,7 @@ stopped_saving plan number rounds client between first mid after refused lists w
       saved = so_far.saved;
       fails = fails;
       written = page ++ lines;
-      text = held ∙ ap (λ known. appended known lines) (taken_whole between.page page none so_far.text) ∙ appended_twice first.held page lines;
+      text = told ∙ ap (λ known. appended known lines) (taken_whole between.page page none so_far.text) ∙ appended_twice first.output page lines;
       unanswered = unanswered;
       lacks =
           ap (λ n. page ++ lines ++ saved_line n ++ not_answered_lines n unanswered) (let n : length (rounds ++ made.round ∷ []) ≡ number = omega (arith, longer, count) in n)
@@ -166,5 +166,5 @@ stopped why plan number rounds client between first mid after refused go count f
     subst (λ w. StopsRounds w plan client (text_so_far client) first after) (sym starts.output)
     (stopped_at_start why plan rounds client between first mid after refused (omega (arith, count, few)) so_far starts)
 stopped why plan number rounds client between first mid after refused go count few so_far (inr both) =
-    in_round why plan number rounds client both.between first (record mid { held = both.held }) after refused go count few (ap (λ (c : Client). c.page) both.writes.is)
-    (goes_on_writing plan 1 rounds client between both.between first mid both.held refused so_far both.writes) both.stops
+    in_round why plan number rounds client both.between first (record mid { output = both.output }) after refused go count few (ap (λ (c : Client). c.page) both.writes.is)
+    (goes_on_writing plan 1 rounds client between both.between first mid both.output refused so_far both.writes) both.stops

@@ -23,7 +23,7 @@ first_lists names (Some text) = lists_from names (store_reading text)
 
 -- what is told more of a beginning: one reading of the clock and one word
 abbrev pub trace_of_start : Moment → ℕ → Trace
-trace_of_start start word = record { sessions = []; answers = start ∷ []; waits = []; words = word ∷ [] }
+trace_of_start start word = record { sessions = []; readings = start ∷ []; waits = []; drawn = word ∷ [] }
 
 -- The clock was read and a word was drawn, and the first request has to wait for so long.
 pub record HasOpened (waits : WaitState) (before after : Outside) : Type 0 where

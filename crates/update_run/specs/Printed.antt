@@ -10,7 +10,7 @@ use Rattle.client_store.specs.Printed.{store_cause_text}
 use Rattle.client_store.specs.Reading.{store_reading}
 use Rattle.client_store.specs.declared.fault.StoreFault.{StoreFault}
 use Rattle.sb_round.specs.Printed.{round_line, round_lines}
-use Rattle.sb_round.specs.Rounds.{body_of}
+use Rattle.sb_round.specs.Rounds.{round_updates}
 use Rattle.sb_round.specs.Run.{lists_after}
 use Rattle.sb_round.specs.Round.{Round, lists_after_round, taken_from}
 use Rattle.sb_round.specs.declared.rounds.RoundEnd.{RoundEnd}
@@ -36,20 +36,20 @@ abbrev pub saved_line : ℕ → List ℕ
 saved_line number = round_line number (codes "saved")
 
 -- how a round ended
-abbrev pub end_of : List Held → Round → RoundEnd
-end_of lists round = record { begun = round.session.begun; taken = taken_from lists round.answer }
+abbrev pub round_end : List Held → Round → RoundEnd
+round_end lists round = record { begun = round.session.begun; taken = taken_from lists round.answer }
 
 -- the line of the store that a round replaced, where it installed a list
 abbrev pub saved_part : ℕ → Result (List Taken) RoundFault → List ℕ
 saved_part number taken = if has_installed taken then saved_line number else []
 
 -- whether one of these updates is that of a list
-abbrev pub is_answered : List Taken → ListName → Bool
-is_answered taken name = list_any (λ (one : Taken). same_name one.name name) taken
+abbrev pub has_update_for : List Taken → ListName → Bool
+has_update_for taken name = list_any (λ (one : Taken). same_name one.name name) taken
 
 -- the names of the lists for which a round's answer had no update, in their order, and none where the round brought no answer
 abbrev pub not_answered : List Held → Result (List Taken) RoundFault → List ListName
-not_answered lists (Ok taken) = filter (λ name. not (is_answered taken name)) (map (λ (held : Held). held.name) lists)
+not_answered lists (Ok taken) = filter (λ name. not (has_update_for taken name)) (map (λ (held : Held). held.name) lists)
 not_answered lists (Err fault) = []
 
 -- the line of such a list
@@ -68,7 +68,7 @@ told_end number lists end =
 abbrev pub rounds_text : ℕ → List Held → List Round → List ℕ
 rounds_text number lists [] = []
 rounds_text number lists (round ∷ rounds) =
-    told_end number (lists_after_round lists round) (end_of lists round) ++ rounds_text (number + 1) (lists_after_round lists round) rounds
+    told_end number (lists_after_round lists round) (round_end lists round) ++ rounds_text (number + 1) (lists_after_round lists round) rounds
 
 -- ---- lists
 
@@ -84,7 +84,7 @@ told_rounds kept lists rounds = ignored_text kept ++ rounds_text 1 lists rounds
 
 -- the text of a run that began with what was kept, and with these lists
 abbrev pub run_text : Option (List ℕ) → List Held → List Round → List ℕ
-run_text kept lists rounds = told_rounds kept lists rounds ++ flat_map list_line (lists_after lists (map body_of rounds))
+run_text kept lists rounds = told_rounds kept lists rounds ++ flat_map list_line (lists_after lists (map round_updates rounds))
 
 -- ---- what is told with the status
 

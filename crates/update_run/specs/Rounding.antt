@@ -7,13 +7,13 @@ use Rattle.sb_outside.specs.Writing.{HasFront}
 use Rattle.update_client.specs.Held.{Held}
 use Rattle.wait_rules.specs.declared.waits.WaitState.{WaitState}
 use Rattle.timed_sessions.specs.Told.{Outside}
-use Rattle.sb_round.specs.Round.{Round, BreaksOff}
-use Rattle.sb_round.specs.Rounds.{MakesRounds, body_of}
+use Rattle.sb_round.specs.Round.{Round, round_state, BreaksOff}
+use Rattle.sb_round.specs.Rounds.{MakesRounds, round_updates}
 use Rattle.sb_round.specs.Run.{lists_after}
 use Rattle.update_run.specs.Printed.{list_line, saved_line, not_answered_lines, has_refusals, rounds_text}
 use Rattle.update_run.specs.Run.{Seen, RunEnding}
 use Rattle.update_run.specs.Saved.{Keeping, HasSaved, FailsToSave, MayLackLast, saved_lists}
-use Rattle.update_run.specs.Steps.{MayHaveSaved, WritesPage, TakesRound, StopsRound, TakesRounds}
+use Rattle.update_run.specs.Steps.{round_state_of, MayHaveSaved, WritesPage, TakesRound, StopsRound, TakesRounds}
 use Rattle.update_run.specs.declared.client.Client.{Client}
 use Rattle.update_run.specs.declared.plan.Plan.{Plan}
 use Rattle.update_run.specs.declared.stop.RunStop.{RunStop}
@@ -22,36 +22,36 @@ use Rattle.update_run.specs.declared.stop.RunStop.TheVariants as stop
 -- ---- saving
 
 -- Lists were not handed in, or the line that tells so could not be made. So much text waited before.
-abbrev pub StopsSaving : RunStop → ℕ → List Held → (before after : Keeping) → (held held' : Option (List ℕ)) → List ℕ → Type 0
-StopsSaving stop.WriteFault number lists before after held held' waiting =
-    (after ≡ before) × HasFront held held' (waiting ++ saved_line number)
-StopsSaving stop.KeepFault number lists before after held held' waiting =
-    FailsToSave lists before after × (held' ≡ appended held waiting)
-StopsSaving stop.OutOfMemory number lists before after held held' waiting =
-    MayHaveSaved (lists ∷ []) before after × HasFront held held' (waiting ++ saved_line number)
+abbrev pub StopsSaving : RunStop → ℕ → List Held → (before after : Keeping) → (output output' : Option (List ℕ)) → List ℕ → Type 0
+StopsSaving stop.WriteFault number lists before after output output' waiting =
+    (after ≡ before) × HasFront output output' (waiting ++ saved_line number)
+StopsSaving stop.KeepFault number lists before after output output' waiting =
+    FailsToSave lists before after × (output' ≡ appended output waiting)
+StopsSaving stop.OutOfMemory number lists before after output output' waiting =
+    MayHaveSaved (lists ∷ []) before after × HasFront output output' (waiting ++ saved_line number)
 
 -- ---- one round, after what waits
 
 -- What waited was written, and then a round was taken.
 pub record WritesAndTakes (plan : Plan) (number : ℕ) (client client' : Client) (before after : Seen) (refused : Bool) : Type 0 where
   pub between : Client
-  pub held : Option (List ℕ)
-  pub writes : WritesPage client between before.held held
-  pub takes : TakesRound plan number between client' (record before { held = held }) after refused
+  pub output : Option (List ℕ)
+  pub writes : WritesPage client between before.output output
+  pub takes : TakesRound plan number between client' (record before { output = output }) after refused
 
 -- What waited was written, and then the client stopped in the round.
 pub record WritesAndStops (why : RunStop) (plan : Plan) (number : ℕ) (client : Client) (before after : Seen) : Type 0 where
   pub between : Client
-  pub held : Option (List ℕ)
-  pub writes : WritesPage client between before.held held
-  pub stops : StopsRound why plan number between (record before { held = held }) after
+  pub output : Option (List ℕ)
+  pub writes : WritesPage client between before.output output
+  pub stops : StopsRound why plan number between (record before { output = output }) after
 
 -- It stopped before the round: what waited could not be written.
 pub record StopsAtStart (why : RunStop) (client : Client) (before after : Seen) : Type 0 where
   pub output : why ≡ stop.WriteFault
   pub outside : after.outside ≡ before.outside
   pub keeper : after.keeper ≡ before.keeper
-  pub front : HasFront before.held after.held client.page
+  pub front : HasFront before.output after.output client.page
 
 abbrev pub StopsOneRound : RunStop → Plan → ℕ → Client → (before after : Seen) → Type 0
 StopsOneRound why plan number client before after =
@@ -65,7 +65,7 @@ text_so_far client rounds = client.page ++ rounds_text 1 client.lists rounds
 
 -- the same, and the lines of the lists that they led to
 abbrev pub whole_text : Client → List Round → List ℕ
-whole_text client rounds = text_so_far client rounds ++ flat_map list_line (lists_after client.lists (map body_of rounds))
+whole_text client rounds = text_so_far client rounds ++ flat_map list_line (lists_after client.lists (map round_updates rounds))
 
 -- the text up to where a client stopped after these rounds, of so many
 abbrev pub text_until : ℕ → Client → List Round → List ℕ
@@ -83,11 +83,11 @@ pub record StopsAfterRounds (plan : Plan) (client : Client) (text : List Round �
   pub few : length rounds ≤ plan.rounds
   pub lists : List Held
   pub waits : WaitState
-  pub made : MakesRounds client.lists client.waits plan.options plan.target plan.need_digest before.outside after.outside lists waits rounds
+  pub made : MakesRounds (round_state_of client) (round_state lists waits) plan.options plan.target plan.need_digest before.outside after.outside rounds
   pub stores : List (List Held)
   pub most : MayLackLast (saved_lists client.lists rounds) stores
   pub saved : HasSaved stores before.keeper after.keeper
-  pub front : HasFront before.held after.held (text rounds)
+  pub front : HasFront before.output after.output (text rounds)
 
 -- After some rounds a further one was broken off.
 pub record BreaksOffAfterRounds (plan : Plan) (client : Client) (before after : Seen) : Type 0 where
@@ -96,10 +96,10 @@ pub record BreaksOffAfterRounds (plan : Plan) (client : Client) (before after : 
   pub between : Outside
   pub lists : List Held
   pub waits : WaitState
-  pub made : MakesRounds client.lists client.waits plan.options plan.target plan.need_digest before.outside between lists waits rounds
+  pub made : MakesRounds (round_state_of client) (round_state lists waits) plan.options plan.target plan.need_digest before.outside between rounds
   pub breaks : BreaksOff lists waits plan.options plan.target between after.outside
   pub saved : HasSaved (saved_lists client.lists rounds) before.keeper after.keeper
-  pub text : after.held ≡ appended before.held (text_so_far client rounds)
+  pub text : after.output ≡ appended before.output (text_so_far client rounds)
 
 -- The keeper failed when it was handed what the last round installed.
 pub record FailsAfterRounds (plan : Plan) (client : Client) (before after : Seen) : Type 0 where
@@ -107,7 +107,7 @@ pub record FailsAfterRounds (plan : Plan) (client : Client) (before after : Seen
   pub few : length rounds ≤ plan.rounds
   pub lists : List Held
   pub waits : WaitState
-  pub made : MakesRounds client.lists client.waits plan.options plan.target plan.need_digest before.outside after.outside lists waits rounds
+  pub made : MakesRounds (round_state_of client) (round_state lists waits) plan.options plan.target plan.need_digest before.outside after.outside rounds
   pub earlier : List (List Held)
   pub last : List Held
   pub saves : saved_lists client.lists rounds ≡ earlier ++ last ∷ []
@@ -115,7 +115,7 @@ pub record FailsAfterRounds (plan : Plan) (client : Client) (before after : Seen
   pub saved : HasSaved earlier before.keeper between
   pub fails : FailsToSave last between after.keeper
   pub written : List ℕ
-  pub text : after.held ≡ appended before.held written
+  pub text : after.output ≡ appended before.output written
   pub unanswered : List ListName
   pub lacks : written ++ saved_line (length rounds) ++ not_answered_lines (length rounds) unanswered ≡ text_so_far client rounds
 
@@ -134,9 +134,9 @@ pub record EndsRounds (plan : Plan) (client : Client) (refused : Bool) (before a
   pub all : length rounds ≡ plan.rounds
   pub lists : List Held
   pub waits : WaitState
-  pub made : MakesRounds client.lists client.waits plan.options plan.target plan.need_digest before.outside after.outside lists waits rounds
+  pub made : MakesRounds (round_state_of client) (round_state lists waits) plan.options plan.target plan.need_digest before.outside after.outside rounds
   pub saved : HasSaved (saved_lists client.lists rounds) before.keeper after.keeper
-  pub text : after.held ≡ appended before.held (whole_text client rounds)
+  pub text : after.output ≡ appended before.output (whole_text client rounds)
   pub refusal : refused ≡ has_refusals client.lists rounds
 
 abbrev pub EndsFrom : Plan → RunEnding → Client → (before after : Seen) → Type 0

@@ -7,7 +7,7 @@ use Rattle.sb_outside.specs.Writing.{HasFront}
 use Rattle.update_client.specs.Held.{Held}
 use Rattle.wait_rules.specs.declared.waits.WaitState.{WaitState}
 use Rattle.timed_sessions.specs.Told.{Outside}
-use Rattle.sb_round.specs.Round.{Round, BreaksOff}
+use Rattle.sb_round.specs.Round.{Round, round_state, BreaksOff}
 use Rattle.sb_round.specs.Rounds.{MakesRounds}
 use Rattle.update_run.specs.Opening.{first_lists, HasOpened}
 use Rattle.update_run.specs.Saved.{Keeping, HasSaved, FailsToSave, saved_lists, MayLackLast}
@@ -16,15 +16,14 @@ use Rattle.update_run.specs.declared.plan.Plan.{Plan}
 use Rattle.update_run.specs.declared.stop.RunStop.{RunStop}
 use Rattle.update_run.specs.declared.stop.RunStop.TheVariants as stop
 
--- What is seen of a run at one moment: what the link, the clock and the dice tell, what the keeper tells, and what the
--- output holds.
+-- What is seen of a run at one moment: what the link, the clock and the dice tell, what the keeper tells, and what was written.
 pub record Seen : Type 0 where
   pub outside : Outside
   pub keeper : Keeping
-  pub held : Option (List ℕ)
+  pub output : Option (List ℕ)
 
 abbrev pub seen : Outside → Keeping → Option (List ℕ) → Seen
-seen outside keeper held = record { outside = outside; keeper = keeper; held = held }
+seen outside keeper output = record { outside = outside; keeper = keeper; output = output }
 
 -- Where this text was kept, or none, the clock was read, a word was drawn, and these rounds were made. So each session
 -- asks for the lists that those before it left, begins at or after its allowed moment, and is in the link's log.
@@ -34,7 +33,7 @@ pub record HasMade (plan : Plan) (kept : Option (List ℕ)) (rounds : List Round
   pub opens : HasOpened waits before opened
   pub lists : List Held
   pub waits_now : WaitState
-  pub made : MakesRounds (first_lists plan.names kept) waits plan.options plan.target plan.need_digest opened after lists waits_now rounds
+  pub made : MakesRounds (round_state (first_lists plan.names kept) waits) (round_state lists waits_now) plan.options plan.target plan.need_digest opened after rounds
 
 -- The keeper gave this text, or none.
 abbrev pub IsLoaded : Option (List ℕ) → Option (Option (List ℕ)) → Type 0
@@ -49,7 +48,7 @@ pub record IsRun (plan : Plan) (refused : Bool) (before after : Seen) : Type 0 w
   pub all : length rounds ≡ plan.rounds
   pub made : HasMade plan kept rounds before.outside after.outside
   pub saved : HasSaved (saved_lists (first_lists plan.names kept) rounds) before.keeper after.keeper
-  pub text : after.held ≡ appended before.held (run_text kept (first_lists plan.names kept) rounds)
+  pub text : after.output ≡ appended before.output (run_text kept (first_lists plan.names kept) rounds)
   pub refusal : refused ≡ has_refusals (first_lists plan.names kept) rounds
 
 -- ---- one that did not
@@ -73,7 +72,7 @@ pub record StopsAtSave (plan : Plan) (before after : Seen) : Type 0 where
   pub saved : HasSaved earlier before.keeper between
   pub fails : FailsToSave last between after.keeper
   pub written : List ℕ
-  pub text : after.held ≡ appended before.held written
+  pub text : after.output ≡ appended before.output written
   pub unanswered : List ListName
   pub lacks : written ++ saved_line (length rounds) ++ not_answered_lines (length rounds) unanswered ≡ told_rounds kept (first_lists plan.names kept) rounds
 
@@ -93,7 +92,7 @@ pub record StopsAfter (plan : Plan) (before after : Seen) : Type 0 where
   pub stores : List (List Held)
   pub most : MayLackLast (saved_lists (first_lists plan.names kept) rounds) stores
   pub saved : HasSaved stores before.keeper after.keeper
-  pub front : HasFront before.held after.held (text_to_stop plan.rounds kept (first_lists plan.names kept) rounds)
+  pub front : HasFront before.output after.output (text_to_stop plan.rounds kept (first_lists plan.names kept) rounds)
 
 -- After some rounds a further one was broken off. All before it is saved and written.
 pub record BreaksOffAfter (plan : Plan) (before after : Seen) : Type 0 where
@@ -105,7 +104,7 @@ pub record BreaksOffAfter (plan : Plan) (before after : Seen) : Type 0 where
   pub made : HasMade plan kept rounds before.outside between
   pub breaks : BreaksOff made.lists made.waits_now plan.options plan.target between after.outside
   pub saved : HasSaved (saved_lists (first_lists plan.names kept) rounds) before.keeper after.keeper
-  pub text : after.held ≡ appended before.held (told_rounds kept (first_lists plan.names kept) rounds)
+  pub text : after.output ≡ appended before.output (told_rounds kept (first_lists plan.names kept) rounds)
 
 -- Memory was refused: before the clock was read, after some rounds, or within one.
 abbrev pub StopsForMemory : Plan → Seen → Seen → Type 0

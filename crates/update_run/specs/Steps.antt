@@ -5,7 +5,7 @@ use Rattle.sb_outside.specs.Writing.{HasFront, IsOnItsWay}
 use Rattle.update_client.specs.Held.{Held}
 use Rattle.wait_rules.specs.declared.waits.WaitState.{WaitState}
 use Rattle.sb_round.specs.Printed.{round_lines}
-use Rattle.sb_round.specs.Round.{Round, MakesRound, BreaksOff}
+use Rattle.sb_round.specs.Round.{Round, RoundState, round_state, MakesRound, BreaksOff}
 use Rattle.sb_round.specs.Rounds.{MakesRounds}
 use Rattle.sb_round.specs.declared.rounds.RoundEnd.{RoundEnd}
 use Rattle.update_run.specs.Printed.{told_end, has_refusal, has_refusals, rounds_text}
@@ -26,13 +26,17 @@ pub record WritesPage (client client' : Client) (before after : Option (List ℕ
 
 -- ---- a round
 
+-- a client's lists, and when it may ask next
+abbrev pub round_state_of : Client → RoundState
+round_state_of client = round_state client.lists client.waits
+
 -- A client of which no text waited made a round, and told it and saved what it installed.
 pub record TakesRound (plan : Plan) (number : ℕ) (client client' : Client) (before after : Seen) (refused : Bool) : Type 0 where
   pub written : client.page ≡ []
   pub end : RoundEnd
-  pub made : MakesRound client.lists client.waits plan.options plan.target plan.need_digest before.outside after.outside client'.lists client'.waits end
+  pub made : MakesRound (round_state_of client) (round_state_of client') plan.options plan.target plan.need_digest before.outside after.outside end
   pub saved : HasSaved (saved_after end.taken client'.lists) before.keeper after.keeper
-  pub text : IsOnItsWay before.held after.held client'.page (told_end number client'.lists end)
+  pub text : IsOnItsWay before.output after.output client'.page (told_end number client'.lists end)
   pub refusal : refused ≡ has_refusal end.taken
 
 -- The same, with what is told of the round: whether with a refusal, and whether a list was installed.
@@ -49,27 +53,27 @@ MayHaveSaved saved before after = (after ≡ before) ⊎ HasSaved saved before a
 -- What is saved and written of a round that was made and came to these lists. Where the output failed, nothing is saved; where
 -- memory was refused, the lists may be. What is written is then a front of the round's lines, of which something is missing.
 -- Where the keeper failed, all lines before that of the store are written.
-abbrev pub StopsTelling : RunStop → ℕ → RoundEnd → List Held → (before after : Keeping) → (held held' : Option (List ℕ)) → Type 0
-StopsTelling stop.WriteFault number end lists before after held held' =
-    (after ≡ before) × HasFront held held' (told_end number lists end)
-StopsTelling stop.KeepFault number end lists before after held held' =
-    IsTrue (has_installed end.taken) × FailsToSave lists before after × (held' ≡ appended held (round_lines number end))
-StopsTelling stop.OutOfMemory number end lists before after held held' =
-    MayHaveSaved (saved_after end.taken lists) before after × HasFront held held' (told_end number lists end)
+abbrev pub StopsTelling : RunStop → ℕ → RoundEnd → List Held → (before after : Keeping) → (output output' : Option (List ℕ)) → Type 0
+StopsTelling stop.WriteFault number end lists before after output output' =
+    (after ≡ before) × HasFront output output' (told_end number lists end)
+StopsTelling stop.KeepFault number end lists before after output output' =
+    IsTrue (has_installed end.taken) × FailsToSave lists before after × (output' ≡ appended output (round_lines number end))
+StopsTelling stop.OutOfMemory number end lists before after output output' =
+    MayHaveSaved (saved_after end.taken lists) before after × HasFront output output' (told_end number lists end)
 
 -- A client made a round, and stopped when it told it or saved what it installed.
 pub record StopsAtEnd (why : RunStop) (plan : Plan) (number : ℕ) (client : Client) (before after : Seen) : Type 0 where
   pub end : RoundEnd
   pub lists : List Held
   pub waits : WaitState
-  pub made : MakesRound client.lists client.waits plan.options plan.target plan.need_digest before.outside after.outside lists waits end
-  pub stops : StopsTelling why number end lists before.keeper after.keeper before.held after.held
+  pub made : MakesRound (round_state_of client) (round_state lists waits) plan.options plan.target plan.need_digest before.outside after.outside end
+  pub stops : StopsTelling why number end lists before.keeper after.keeper before.output after.output
 
 -- Memory was refused within the round. Nothing is written or saved of it.
 pub record StopsWithin (plan : Plan) (client : Client) (before after : Seen) : Type 0 where
   pub breaks : BreaksOff client.lists client.waits plan.options plan.target before.outside after.outside
   pub keeper : after.keeper ≡ before.keeper
-  pub held : after.held ≡ before.held
+  pub output : after.output ≡ before.output
 
 -- A client stopped in a round of this number.
 abbrev pub StopsRound : RunStop → Plan → ℕ → Client → (before after : Seen) → Type 0
@@ -83,9 +87,9 @@ StopsRound stop.OutOfMemory plan number client before after =
 -- A client made rounds, which are counted from this number on, told them and saved what they installed. What waited before is
 -- written before their lines.
 pub record TakesRounds (plan : Plan) (number : ℕ) (rounds : List Round) (client client' : Client) (before after : Seen) (refused : Bool) : Type 0 where
-  pub made : MakesRounds client.lists client.waits plan.options plan.target plan.need_digest before.outside after.outside client'.lists client'.waits rounds
+  pub made : MakesRounds (round_state_of client) (round_state_of client') plan.options plan.target plan.need_digest before.outside after.outside rounds
   pub saved : HasSaved (saved_lists client.lists rounds) before.keeper after.keeper
-  pub text : IsOnItsWay before.held after.held client'.page (client.page ++ rounds_text number client.lists rounds)
+  pub text : IsOnItsWay before.output after.output client'.page (client.page ++ rounds_text number client.lists rounds)
   pub refusal : refused ≡ has_refusals client.lists rounds
 
 -- No round is taken where nothing was done.
@@ -94,10 +98,10 @@ BeginsSteps = (plan : Plan) (number : ℕ) (client : Client) (at : Seen) → Tak
 
 -- After rounds what waits may be written.
 abbrev pub GoesOnWriting : Type 0
-GoesOnWriting = (plan : Plan) (number : ℕ) (rounds : List Round) (client between client' : Client) (before after : Seen) (held : Option (List ℕ)) (refused : Bool)
+GoesOnWriting = (plan : Plan) (number : ℕ) (rounds : List Round) (client between client' : Client) (before after : Seen) (output : Option (List ℕ)) (refused : Bool)
     → TakesRounds plan number rounds client between before after refused
-    → WritesPage between client' after.held held
-    → TakesRounds plan number rounds client client' before (record after { held = held }) refused
+    → WritesPage between client' after.output output
+    → TakesRounds plan number rounds client client' before (record after { output = output }) refused
 
 -- Rounds and one more are rounds.
 abbrev pub GoesOnTaking : Type 0

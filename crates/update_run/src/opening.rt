@@ -92,7 +92,7 @@ fn first_wait<N: Line>(line: &mut N) -> WaitState
     ensures opened { HasOpened result (N.view line.old).told (N.view line.new).told }
     ensures no_wait { (N.view line.new).told.waits ≡ (N.view line.old).told.waits }
     ensures unasked { (N.view line.new).told.log ≡ (N.view line.old).told.log }
-    ensures faults { (N.view line.new).faults ≡ (N.view line.old).faults }
+    ensures faults { (N.view line.new).told.faults ≡ (N.view line.old).told.faults }
     ensures same { (N.view line.new).objects ≡ (N.view line.old).objects }
 {
     let start = line.now();
@@ -119,7 +119,7 @@ pub fn open_store<K: Keeper, N: Line>(
 
     // No link is asked.
     ensures unasked { (N.view line.new).told.log ≡ (N.view line.old).told.log }
-    ensures faults { (N.view line.new).faults ≡ (N.view line.old).faults }
+    ensures faults { (N.view line.new).told.faults ≡ (N.view line.old).told.faults }
     ensures same { (N.view line.new).objects ≡ (N.view line.old).objects }
     ensures kept { K.kept keep.new ≡ K.kept keep.old }
     ensures handed { K.handed keep.new ≡ K.handed keep.old }

@@ -1,7 +1,7 @@
 ghost use Rattle.std.specs.Prelude.{◌≡◌, ◌++◌, ◌∷◌, [], Ok, codes, decimal, length, take, OnOk, OnErr};
 ghost use Rattle.client_store.specs.Printed.{store_cause_text};
 ghost use Rattle.sb_model.specs.Names.{same_name};
-ghost use Rattle.update_run.specs.Printed.{is_answered as is_answered_one, list_line, not_answered, not_answered_line, not_answered_lines, saved_line};
+ghost use Rattle.update_run.specs.Printed.{has_update_for, list_line, not_answered, not_answered_line, not_answered_lines, saved_line};
 
 use client_store::{StoreFault, push_store_cause};
 use sb_model::{Bytes, ListName, OutOfMemory, Row};
@@ -36,7 +36,7 @@ fn same(first: ListName, second: ListName) -> bool
 
 /// Whether one of these updates is that of a list.
 fn is_answered(taken: &[Taken], name: ListName) -> bool
-    ensures { result ≡ is_answered_one taken.now name }
+    ensures { result ≡ has_update_for taken.now name }
 {
     taken.iter().any(|one| same(one.name, name))
 }

@@ -1,33 +1,24 @@
 -- One find for the open hits of several findings.
-use Rattle.std.proofs.Common.{◌≡◌, ◌≢◌, ℕ, zero, suc, ◌+◌, ◌<◌, ◌≤◌, Bool, List, [], ◌∷◌, ◌++◌, length, take, get_or, map, Result, Err, refl, sym, ap, ◌∙◌, subst, arith, inl, inr}
+use Rattle.std.proofs.Common.{◌≡◌, ℕ, zero, suc, ◌+◌, ◌<◌, ◌≤◌, List, [], ◌∷◌, ◌++◌, length, take, get_or, map, Result, refl, sym, ap, ◌∙◌, subst, arith, inl, inr}
 use Rattle.std.specs.Prelude.{◌↔◌, ◌⊎◌, All, Contains}
 use Rattle.std.proofs.lemmas.Grind.{flat_map-append}
 use Rattle.std.proofs.lemmas.List.{append-nil, map-append, take_more}
 use Rattle.std.proofs.lemmas.List.Elements.{All-contains, All-map, Contains-append_cases, Contains-append_left, Contains-append_right}
 use Rattle.sb_model.specs.Prefixes.{IsRising, set_of}
 use Rattle.sb_model.specs.declared.time.Moment.{Moment}
-use Rattle.sb_outside.specs.Outside.{Rose}
 use Rattle.full_hash_cache.specs.Cache.{Pairs}
-use Rattle.hash_messages.specs.Messages.{most_prefixes, AskedHashes}
+use Rattle.hash_messages.specs.Messages.{most_prefixes}
 use Rattle.hash_messages.specs.declared.response.FindResponse.{FindResponse}
-use Rattle.http_edge.specs.declared.faults.ExchangeFault.TheVariants.{Link}
-use Rattle.http_edge.specs.declared.messages.Target.{Target}
-use Rattle.client_line.specs.Lines.{LineView}
-use Rattle.wait_rules.specs.declared.waits.WaitState.{WaitState}
-use Rattle.timed_sessions.specs.Waiting.{HasSettled, words_of}
 use Rattle.verdict_report.specs.declared.verdicts.Cause.{Cause}
-use Rattle.verdict_report.specs.declared.verdicts.Cause.TheVariants.{Exchange}
 use Rattle.verdict_report.specs.declared.verdicts.Verdict.{Verdict}
 use Rattle.url_checker.specs.Hits.{prefixes_hit}
-use Rattle.url_checker.specs.Looking.{HasAsked, unsafe_in}
-use Rattle.url_checker.specs.Resolving.{bids_of, body_asked, body_of, cause_of, find_asked, kept_by, lists_hit, message_in, unsafe_lists, verdict_by, verdict_from}
-use Rattle.url_checker.specs.Several.{all_asked, prefixes_of_first, AreTogether, IsLookOf, MakesFindFor}
-use Rattle.url_checker.specs.declared.asking.Answered.{Answered}
+use Rattle.url_checker.specs.Looking.{unsafe_in}
+use Rattle.url_checker.specs.Resolving.{open_cause, find_asked, lists_hit, message_in, unsafe_lists, verdict_by, verdict_from}
+use Rattle.url_checker.specs.Several.{all_asked, prefixes_of_first, AreTogether, IsLookOf}
 use Rattle.url_checker.specs.declared.findings.Hit.{Hit}
 use Rattle.url_checker.specs.declared.looking.Looked.{Looked}
 use Rattle.url_checker.specs.declared.looking.Looks.{Looks}
 use Rattle.url_checker.specs.declared.several.Together.{Together}
-use Rattle.url_checker.proofs.FindFacts.{told_of_find}
 use Rattle.url_checker.proofs.LookFacts.{unsafe_are}
 
 -- ---- sets of prefixes
@@ -102,43 +93,11 @@ takes_the_first looks look together few are = go together.count refl
         absurd (omega (arith, past, at, few))
     go (suc count) is = omega (arith, is)
 
--- ---- a find that was made and ended
-
-module _ (states : List (List ℕ)) (target : Target) (need : Bool) (now : Moment) (asked : List Hit) (pairs pairs' : Pairs) (waits waits' : WaitState) (before between after : LineView) where
-  pub made_for : (request : AskedHashes) (answered : Answered) (answer : Result FindResponse Cause) → request ≡ find_asked states asked → answer ≡ answered.answer
-      → HasAsked waits now target (body_of request) need before.told between.told answered
-      → HasSettled waits waits' answered.closed (bids_of answered.answer) between after
-      → pairs' ≡ kept_by answered.closed (lists_hit asked) request answered.answer pairs
-      → (answered.answer ≡ Err (Exchange Link) → Rose before.faults between.faults) → (answered.answer ≢ Err (Exchange Link) → between.faults ≡ before.faults)
-      → MakesFindFor (record { states = states; target = target; need = need; now = now; asked = asked }) (record { pairs = pairs; waits = waits; line = before })
-      (record { pairs = pairs'; waits = waits'; line = after }) answer
-  made_for request answered answer same gives held settled kept failed stays =
-      let it : HasAsked waits now target (body_asked states asked) need before.told between.told answered =
-      subst (λ (text : AskedHashes). HasAsked waits now target (body_of text) need before.told between.told answered) same held in
-      record {
-        talk = record { session = it.holds.session; answer = answered.answer; word = settled.word };
-        is = record {
-          session = it.holds.is;
-          outcome = it.outcome;
-          held = it.holds.held;
-          answers = it.answers_it;
-          drawn = settled.drawn;
-          reading = it.holds.reading;
-        };
-        told = told_of_find waits it.holds.session before between after (words_of settled.word) it.holds.told settled.told;
-        answered = gives;
-        pairs_are = kept ∙ ap (λ (text : AskedHashes). kept_by answered.closed (lists_hit asked) text answered.answer pairs) same
-            ∙ ap (λ (at : Moment). kept_by at (lists_hit asked) (find_asked states asked) answered.answer pairs) (sym it.holds.closes);
-        waits_are = rw it.holds.closes settled.leaves;
-        failed = λ fails. rw settled.told.faults (failed fails);
-        kept = λ passes. settled.told.faults ∙ stays passes;
-      }
-
 -- ---- what it says of a look
 
 pub verdict_of_look : (pairs : Pairs) (now : Moment) (hits : List Hit) (look : Looks) (answer : Result FindResponse Cause) (verdict : Verdict) → IsLookOf pairs now hits look
-    → verdict ≡ verdict_from (lists_hit (unsafe_in (message_in answer) look.looked)) (cause_of answer look.asked) → verdict ≡ verdict_by pairs now answer hits
+    → verdict ≡ verdict_from (lists_hit (unsafe_in (message_in answer) look.looked)) (open_cause answer look.asked) → verdict ≡ verdict_by pairs now answer hits
 verdict_of_look pairs now hits look answer verdict is made =
-    made ∙ ap (λ (looked : List Looked). verdict_from (lists_hit (unsafe_in (message_in answer) looked)) (cause_of answer look.asked)) is.looked
-    ∙ ap (λ (bad : List Hit). verdict_from (lists_hit bad) (cause_of answer look.asked)) (unsafe_are pairs now (message_in answer) hits)
-    ∙ ap (λ (open_ones : List Hit). verdict_from (unsafe_lists pairs now (message_in answer) hits) (cause_of answer open_ones)) is.asked
+    made ∙ ap (λ (looked : List Looked). verdict_from (lists_hit (unsafe_in (message_in answer) looked)) (open_cause answer look.asked)) is.looked
+    ∙ ap (λ (bad : List Hit). verdict_from (lists_hit bad) (open_cause answer look.asked)) (unsafe_are pairs now (message_in answer) hits)
+    ∙ ap (λ (open_ones : List Hit). verdict_from (unsafe_lists pairs now (message_in answer) hits) (open_cause answer open_ones)) is.asked

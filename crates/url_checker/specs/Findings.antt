@@ -8,8 +8,9 @@ use Rattle.timed_sessions.specs.Told.{Outside, Trace, no_trace, then_trace, Grow
 use Rattle.timed_sessions.specs.Waiting.{ClosedSession, KeepToWaits}
 use Rattle.verdict_report.specs.declared.verdicts.Verdict.{Verdict}
 use Rattle.url_checker.specs.Resolving.{Resolution, IsResolution, pairs_after, waits_after_finding, trace_of_finding, verdict_of, closed_in}
-use Rattle.url_checker.specs.Resolved.{Resolves}
+use Rattle.url_checker.specs.Resolved.{Resolves, unresolved}
 use Rattle.url_checker.specs.declared.findings.Hit.{Hit}
+use Rattle.url_checker.specs.declared.finds.Finds.{Finds}
 
 -- A finding that was resolved: the states that its find carries, its hits, and the resolution.
 pub record Resolved : Type 0 where
@@ -30,8 +31,8 @@ waits_after_one waits one = waits_after_finding waits one.resolution
 abbrev pub pairs_after_all : Pairs → List Resolved → Pairs
 pairs_after_all pairs all = fold pairs_after_one pairs all
 
-abbrev pub waits_after_all : WaitState → List Resolved → WaitState
-waits_after_all waits all = fold waits_after_one waits all
+abbrev pub waits_after_findings : WaitState → List Resolved → WaitState
+waits_after_findings waits all = fold waits_after_one waits all
 
 -- what is told more of any number of findings
 abbrev pub trace_of_all : WaitState → List Resolved → Trace
@@ -52,12 +53,12 @@ AreResolutions patience target need pairs waits (one ∷ all) =
     × AreResolutions patience target need (pairs_after_one pairs one) (waits_after_one waits one) all
 
 -- These findings were resolved: this is what they left, what is told more, and what they came to.
-pub record ResolvesAll (patience : ℕ) (target : Target) (need : Bool) (pairs pairs' : Pairs) (waits waits' : WaitState) (before after : Outside) (all : List Resolved) (verdicts : List Verdict) : Type 0 where
-  pub are : AreResolutions patience target need pairs waits all
-  pub told : Grows before after (trace_of_all waits all)
-  pub pairs_are : pairs' ≡ pairs_after_all pairs all
-  pub waits_are : waits' ≡ waits_after_all waits all
-  pub verdicts_are : verdicts ≡ verdicts_of pairs waits all
+pub record ResolvesAll (patience : ℕ) (target : Target) (need : Bool) (finds finds' : Finds) (before after : Outside) (all : List Resolved) (verdicts : List Verdict) : Type 0 where
+  pub are : AreResolutions patience target need finds.cache finds.waits all
+  pub told : Grows before after (trace_of_all finds.waits all)
+  pub pairs_are : finds'.cache ≡ pairs_after_all finds.cache all
+  pub waits_are : finds'.waits ≡ waits_after_findings finds.waits all
+  pub verdicts_are : verdicts ≡ verdicts_of finds.cache finds.waits all
 
 -- the sessions of the finds, in order
 abbrev pub sessions_of : List Resolved → List ClosedSession
@@ -65,15 +66,15 @@ sessions_of all = flat_map (λ (one : Resolved). closed_in one.resolution.talk) 
 
 -- Nothing is resolved with no finding.
 abbrev pub BeginsFindings : Type 0
-BeginsFindings = (patience : ℕ) (target : Target) (need : Bool) (pairs : Pairs) (waits : WaitState) (before : Outside)
-    → ResolvesAll patience target need pairs pairs waits waits before before [] []
+BeginsFindings = (patience : ℕ) (target : Target) (need : Bool) (finds : Finds) (before : Outside)
+    → ResolvesAll patience target need finds finds before before [] []
 
 -- Findings and one more are findings.
 abbrev pub GoesOnWithFindings : Type 0
-GoesOnWithFindings = (patience : ℕ) (target : Target) (need : Bool) (pairs pairs' pairs'' : Pairs) (waits waits' waits'' : WaitState) (before between after : Outside) (all : List Resolved) (verdicts : List Verdict) (states : List (List ℕ)) (hits : List Hit) (faults faults' : ℕ) (verdict : Verdict)
-    → ResolvesAll patience target need pairs pairs' waits waits' before between all verdicts
-    → (next : Resolves states patience target need hits pairs' pairs'' waits' waits'' between after faults faults' verdict)
-    → ResolvesAll patience target need pairs pairs'' waits waits'' before after (all ++ resolved states hits next.resolution ∷ []) (verdicts ++ verdict ∷ [])
+GoesOnWithFindings = (patience : ℕ) (target : Target) (need : Bool) (finds finds' finds'' : Finds) (before between after : Outside) (all : List Resolved) (verdicts : List Verdict) (states : List (List ℕ)) (hits : List Hit) (verdict : Verdict)
+    → ResolvesAll patience target need finds finds' before between all verdicts
+    → (next : Resolves (unresolved states hits) patience target need finds' finds'' between after verdict)
+    → ResolvesAll patience target need finds finds'' before after (all ++ resolved states hits next.resolution ∷ []) (verdicts ++ verdict ∷ [])
 
 -- No find's session precedes its allowed moment.
 abbrev pub FindingsKeepToWaits : Type 0

@@ -1,6 +1,6 @@
 -- The hits of a finding once they are looked up, each with what the kept answers say of it; and what is known on the way through a
 -- find.
-use Rattle.std.specs.Prelude.{◌≡◌, ◌≢◌, ℕ, ◌⊎◌, Bool, List, map, filter, Option, Some, None, Result, Ok, Err}
+use Rattle.std.specs.Prelude.{◌≡◌, ℕ, ◌⊎◌, Bool, List, map, filter, Option, Some, None, Result, Ok, Err}
 use Rattle.sb_model.specs.declared.names.ListName.{ListName}
 use Rattle.sb_model.specs.declared.time.Moment.{Moment}
 use Rattle.sb_outside.specs.declared.links.Kind.TheVariants.{Find}
@@ -10,16 +10,12 @@ use Rattle.http_edge.specs.declared.faults.ExchangeFault.{ExchangeFault}
 use Rattle.http_edge.specs.declared.messages.Target.{Target}
 use Rattle.http_edge.specs.Exchanges.{CountsSendFault}
 use Rattle.wait_rules.specs.declared.waits.WaitState.{WaitState}
-use Rattle.timed_sessions.specs.Timed.{IsTimedOpening, HoldsTimed, HoldsTimedPart, trace_after}
+use Rattle.timed_sessions.specs.Timed.{IsTimedOpening, HoldsTimed, HoldsTimedPart}
 use Rattle.verdict_report.specs.declared.verdicts.Cause.{Cause}
-use Rattle.http_edge.specs.declared.faults.ExchangeFault.TheVariants.{Link}
-use Rattle.sb_outside.specs.Outside.{Rose}
 use Rattle.client_line.specs.Lines.{LineView}
-use Rattle.timed_sessions.specs.Told.{Outside, Grows}
-use Rattle.timed_sessions.specs.Waiting.{words_of, waits_after}
-use Rattle.verdict_report.specs.declared.verdicts.Cause.TheVariants.{Exchange}
+use Rattle.timed_sessions.specs.Told.{Outside}
 use Rattle.verdict_report.specs.declared.verdicts.Verdict.{Verdict}
-use Rattle.url_checker.specs.Resolving.{said_of, is_ask, is_unsafe_by, lists_hit, IsAnswerOf, verdict_from, FindTalk, IsFindTalk, find_asked, body_asked, kept_by, closed_of}
+use Rattle.url_checker.specs.Resolving.{said_of, is_ask, is_unsafe_by, lists_hit, IsFindAnswerOf, verdict_from, find_asked, find_body_asked}
 use Rattle.url_checker.specs.declared.findings.Hit.{Hit}
 use Rattle.url_checker.specs.declared.asking.Answered.{Answered}
 use Rattle.url_checker.specs.declared.asking.OpenFind.{OpenFind}
@@ -36,18 +32,18 @@ abbrev pub unsafe_in : Option FindResponse → List Looked → List Hit
 unsafe_in message looked = map (λ (one : Looked). one.hit) (filter (λ (one : Looked). is_unsafe_by message one.said one.hit) looked)
 
 -- A session was held to its end, and its outcome comes to this answer.
-pub record HasAsked (waits : WaitState) (now : Moment) (target : Target) (body : List ℕ) (need : Bool) (before after : Outside) (answered : Answered) : Type 0 where
+pub record HearsFind (waits : WaitState) (now : Moment) (target : Target) (body : List ℕ) (need : Bool) (before after : Outside) (answered : Answered) : Type 0 where
   pub begun : Moment
   pub outcome : Result (List ℕ) ExchangeFault
   pub holds : HoldsTimed waits now target Find body need before after (record { begun = begun; closed = answered.closed; answer = outcome })
-  pub answers_it : IsAnswerOf outcome answered.answer
+  pub answers_it : IsFindAnswerOf outcome answered.answer
 
 -- The session of a find for these hits is open: it begins when it may, and nothing was received in it yet. A fault of the link is counted.
 pub record IsOpenFind (states : List (List ℕ)) (target : Target) (now : Moment) (asked : List Hit) (waits : WaitState) (before after : LineView) (find : OpenFind) : Type 0 where
   pub request : find.request ≡ find_asked states asked
-  pub opened : IsTimedOpening waits now target Find (body_asked states asked) before.told after.told find.opening
+  pub opened : IsTimedOpening waits now target Find (find_body_asked states asked) before.told after.told find.opening
   pub last : after.last ≡ find.opening.begun.0
-  pub counts : CountsSendFault find.opening.sent before.faults after.faults
+  pub counts : CountsSendFault find.opening.sent before.told.faults after.told.faults
 
 -- Memory was wanting before a session for this body, or after it.
 abbrev pub StopsAsking : WaitState → Moment → Target → List ℕ → Outside → Outside → Type 0
@@ -57,14 +53,3 @@ StopsAsking waits now target body before after = (after ≡ before) ⊎ HoldsTim
 abbrev pub verdict_after : List ListName → List Looked → Result FindResponse Cause → Verdict
 verdict_after told looked (Ok message) = verdict_from (lists_hit (unsafe_in (Some message) looked)) None
 verdict_after told looked (Err cause) = verdict_from told (Some cause)
-
--- A find was made for these hits and ended, and this is what it left and what is told more.
-pub record MakesFind (states : List (List ℕ)) (target : Target) (need : Bool) (now : Moment) (looks : Looks) (pairs pairs' : Pairs) (waits waits' : WaitState) (before after : LineView) (verdict : Verdict) : Type 0 where
-  pub talk : FindTalk
-  pub is : IsFindTalk states target need waits looks.asked now talk
-  pub told : Grows before.told after.told (trace_after waits talk.session (words_of talk.word))
-  pub pairs_are : pairs' ≡ kept_by talk.session.closed (lists_hit looks.asked) (find_asked states looks.asked) talk.answer pairs
-  pub waits_are : waits' ≡ waits_after waits (closed_of talk)
-  pub verdict_is : verdict ≡ verdict_after looks.told looks.looked talk.answer
-  pub failed : talk.answer ≡ Err (Exchange Link) → Rose before.faults after.faults
-  pub kept : talk.answer ≢ Err (Exchange Link) → after.faults ≡ before.faults

@@ -25,8 +25,8 @@ use Rattle.http_edge.specs.declared.faults.ExchangeFault.{ExchangeFault}
 use Rattle.http_edge.specs.declared.messages.Target.{Target}
 use Rattle.wait_rules.specs.declared.waits.WaitState.{WaitState}
 use Rattle.timed_sessions.specs.Told.{Trace}
-use Rattle.timed_sessions.specs.Timed.{TimedSession, IsTimedSession, IsHeld, trace_of}
-use Rattle.timed_sessions.specs.Waiting.{ClosedSession, IsDrawnFor, words_of, waits_after}
+use Rattle.timed_sessions.specs.Timed.{TimedSession, IsTimedSession, IsHeldToEnd, trace_of}
+use Rattle.timed_sessions.specs.Waiting.{ClosedSession, IsDrawnFor, drawn_of, waits_after}
 use Rattle.verdict_report.specs.declared.verdicts.Cause.{Cause}
 use Rattle.verdict_report.specs.declared.verdicts.Cause.TheVariants.{NotBefore, Exchange, Message}
 use Rattle.verdict_report.specs.declared.verdicts.Verdict.{Verdict}
@@ -68,29 +68,29 @@ find_asked states hits = record {
 }
 
 -- the body of a request for a find: its one spelling
-unfoldable pub body_of : AskedHashes → List ℕ
-body_of asked = spelling_of_find_request asked
+unfoldable pub find_body : AskedHashes → List ℕ
+find_body asked = spelling_of_find_request asked
 
 -- that of the find for some hits
-abbrev pub body_asked : List (List ℕ) → List Hit → List ℕ
-body_asked states hits = body_of (find_asked states hits)
+abbrev pub find_body_asked : List (List ℕ) → List Hit → List ℕ
+find_body_asked states hits = find_body (find_asked states hits)
 
 -- the lists of some hits, in the order of their names, each once
 abbrev pub lists_hit : List Hit → List ListName
 lists_hit hits = in_order (map (λ (hit : Hit). hit.list) hits)
 
 -- What a session's outcome comes to: its fault, or the message that its body is, or the first fault of that body.
-abbrev pub IsAnswerOf : Result (List ℕ) ExchangeFault → Result FindResponse Cause → Type 0
-IsAnswerOf (Err fault) answer = answer ≡ Err (Exchange fault)
-IsAnswerOf (Ok body) (Ok message) = IsTextOf ReadsFindResponse body message
-IsAnswerOf (Ok body) (Err (Message fault)) = fault_of_text fault_of_find_response (value_of body) ≡ Some fault
-IsAnswerOf (Ok body) (Err (Exchange fault)) = ⊥
-IsAnswerOf (Ok body) (Err (NotBefore moment)) = ⊥
+abbrev pub IsFindAnswerOf : Result (List ℕ) ExchangeFault → Result FindResponse Cause → Type 0
+IsFindAnswerOf (Err fault) answer = answer ≡ Err (Exchange fault)
+IsFindAnswerOf (Ok body) (Ok message) = IsTextOf ReadsFindResponse body message
+IsFindAnswerOf (Ok body) (Err (Message fault)) = fault_of_text fault_of_find_response (value_of body) ≡ Some fault
+IsFindAnswerOf (Ok body) (Err (Exchange fault)) = ⊥
+IsFindAnswerOf (Ok body) (Err (NotBefore moment)) = ⊥
 
 -- how long a message bids to wait
-abbrev pub bids_of : Result FindResponse Cause → Option Duration
-bids_of (Ok message) = Some message.wait
-bids_of (Err cause) = None
+abbrev pub find_bids : Result FindResponse Cause → Option Duration
+find_bids (Ok message) = Some message.wait
+find_bids (Err cause) = None
 
 -- A find: its session, the message that it brought, or why it brought none, and the word that was drawn.
 pub record FindTalk : Type 0 where
@@ -101,11 +101,11 @@ pub record FindTalk : Type 0 where
 -- One session asks for these hits at the first moment that is allowed after the clock read this, is read no further than its
 -- answer, and that answer is read.
 pub record IsFindTalk (states : List (List ℕ)) (target : Target) (need : Bool) (waits : WaitState) (asked : List Hit) (now : Moment) (talk : FindTalk) : Type 0 where
-  pub session : IsTimedSession waits target Find (body_asked states asked) talk.session
+  pub session : IsTimedSession waits target Find (find_body_asked states asked) talk.session
   pub outcome : Result (List ℕ) ExchangeFault
-  pub held : IsHeld target Find (body_asked states asked) need talk.session.entry outcome
-  pub answers : IsAnswerOf outcome talk.answer
-  pub drawn : IsDrawnFor (bids_of talk.answer) talk.word
+  pub held : IsHeldToEnd target Find (find_body_asked states asked) need talk.session.entry outcome
+  pub answers : IsFindAnswerOf outcome talk.answer
+  pub drawn : IsDrawnFor (find_bids talk.answer) talk.word
   pub reading : talk.session.read ≡ now
 
 -- ---- the resolution
@@ -158,10 +158,10 @@ abbrev pub unsafe_lists : Pairs → Moment → Option FindResponse → List Hit 
 unsafe_lists pairs now message hits = lists_hit (filter (λ hit. is_unsafe_by message (said_of pairs now hit) hit) hits)
 
 -- the cause of open hits, where there are any
-abbrev pub cause_of : Result FindResponse Cause → List Hit → Option Cause
-cause_of (Ok message) asked = None
-cause_of (Err cause) [] = None
-cause_of (Err cause) (hit ∷ asked) = Some cause
+abbrev pub open_cause : Result FindResponse Cause → List Hit → Option Cause
+open_cause (Ok message) asked = None
+open_cause (Err cause) [] = None
+open_cause (Err cause) (hit ∷ asked) = Some cause
 
 -- Unsafe lists decide; else an open hit leaves the verdict open.
 abbrev pub verdict_from : List ListName → Option Cause → Verdict
@@ -170,7 +170,7 @@ verdict_from [] (Some cause) = Undecided cause
 verdict_from [] None = Safe
 
 abbrev pub verdict_by : Pairs → Moment → Result FindResponse Cause → List Hit → Verdict
-verdict_by pairs now answer hits = verdict_from (unsafe_lists pairs now (message_in answer) hits) (cause_of answer (hits_asked pairs now hits))
+verdict_by pairs now answer hits = verdict_from (unsafe_lists pairs now (message_in answer) hits) (open_cause answer (hits_asked pairs now hits))
 
 abbrev pub verdict_of : Pairs → WaitState → List Hit → Resolution → Verdict
 verdict_of pairs waits hits r = verdict_by pairs r.now (answer_in waits r.talk) hits
@@ -192,13 +192,13 @@ abbrev pub pairs_after : List (List ℕ) → List Hit → Pairs → Resolution �
 pairs_after states hits pairs r = pairs_after_talk states (hits_asked pairs r.now hits) r.talk (looked_up_pairs pairs hits)
 
 -- a find as a session that was closed
-abbrev pub closed_of : FindTalk → ClosedSession
-closed_of talk = record { session = talk.session; bids = bids_of talk.answer; word = talk.word }
+abbrev pub closed_find : FindTalk → ClosedSession
+closed_find talk = record { session = talk.session; bids = find_bids talk.answer; word = talk.word }
 
 -- the sessions of a finding
 abbrev pub closed_in : Option FindTalk → List ClosedSession
 closed_in None = []
-closed_in (Some talk) = closed_of talk ∷ []
+closed_in (Some talk) = closed_find talk ∷ []
 
 -- the state of waiting after a finding
 abbrev pub waits_after_finding : WaitState → Resolution → WaitState
@@ -206,12 +206,12 @@ waits_after_finding waits r = fold waits_after waits (closed_in r.talk)
 
 -- what is told of one reading of the clock
 abbrev pub trace_of_reading : Moment → Trace
-trace_of_reading now = record { sessions = []; answers = now ∷ []; waits = []; words = [] }
+trace_of_reading now = record { sessions = []; readings = now ∷ []; waits = []; drawn = [] }
 
 -- what is told more of a finding
 abbrev pub trace_of_talk : WaitState → Moment → Option FindTalk → Trace
 trace_of_talk waits now None = trace_of_reading now
-trace_of_talk waits now (Some talk) = trace_of waits talk.session (words_of talk.word)
+trace_of_talk waits now (Some talk) = trace_of waits talk.session (drawn_of talk.word)
 
 abbrev pub trace_of_finding : WaitState → Resolution → Trace
 trace_of_finding waits r = trace_of_talk waits r.now r.talk

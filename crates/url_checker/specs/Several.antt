@@ -9,17 +9,17 @@ use Rattle.hash_messages.specs.Messages.{most_prefixes}
 use Rattle.hash_messages.specs.declared.response.FindResponse.{FindResponse}
 use Rattle.http_edge.specs.declared.faults.ExchangeFault.TheVariants.{Link}
 use Rattle.http_edge.specs.declared.messages.Target.{Target}
-use Rattle.client_line.specs.Lines.{LineView}
-use Rattle.wait_rules.specs.declared.waits.WaitState.{WaitState}
-use Rattle.timed_sessions.specs.Told.{Grows}
+use Rattle.timed_sessions.specs.Told.{Outside, Grows}
 use Rattle.timed_sessions.specs.Timed.{trace_after}
-use Rattle.timed_sessions.specs.Waiting.{words_of, waits_after}
+use Rattle.timed_sessions.specs.Waiting.{drawn_of, waits_after}
 use Rattle.verdict_report.specs.declared.verdicts.Cause.{Cause}
 use Rattle.verdict_report.specs.declared.verdicts.Cause.TheVariants.{Exchange}
+use Rattle.verdict_report.specs.declared.verdicts.Verdict.{Verdict}
 use Rattle.url_checker.specs.Hits.{prefixes_hit}
-use Rattle.url_checker.specs.Looking.{looked_of}
-use Rattle.url_checker.specs.Resolving.{lists_hit, hits_asked, FindTalk, IsFindTalk, find_asked, kept_by, closed_of}
+use Rattle.url_checker.specs.Looking.{looked_of, verdict_after}
+use Rattle.url_checker.specs.Resolving.{lists_hit, hits_asked, FindTalk, IsFindTalk, find_asked, kept_by, closed_find}
 use Rattle.url_checker.specs.declared.findings.Hit.{Hit}
+use Rattle.url_checker.specs.declared.finds.Finds.{Finds}
 use Rattle.url_checker.specs.declared.looking.Looks.{Looks}
 use Rattle.url_checker.specs.declared.several.Together.{Together}
 
@@ -50,23 +50,26 @@ pub record AskedFind : Type 0 where
   pub now : Moment
   pub asked : List Hit
 
--- what a find meets and leaves: the kept pairs, the state of waiting, and the line
-pub record FindSide : Type 0 where
-  pub pairs : Pairs
-  pub waits : WaitState
-  pub line : LineView
+abbrev pub asked_find : List (List ℕ) → Target → Bool → Moment → List Hit → AskedFind
+asked_find states target need now asked = record { states = states; target = target; need = need; now = now; asked = asked }
 
 -- A find was made and ended: this is what was answered, what it left, and what is told more. Its answer is kept for the lists of all hits
--- that were asked.
-pub record MakesFindFor (find : AskedFind) (before after : FindSide) (answer : Result FindResponse Cause) : Type 0 where
+-- that were asked. A fault of the link is counted, and nothing else is.
+pub record MakesFindFor (find : AskedFind) (finds finds' : Finds) (before after : Outside) (answer : Result FindResponse Cause) : Type 0 where
   pub talk : FindTalk
-  pub is : IsFindTalk find.states find.target find.need before.waits find.asked find.now talk
-  pub told : Grows before.line.told after.line.told (trace_after before.waits talk.session (words_of talk.word))
+  pub is : IsFindTalk find.states find.target find.need finds.waits find.asked find.now talk
+  pub told : Grows before after (trace_after finds.waits talk.session (drawn_of talk.word))
   pub answered : answer ≡ talk.answer
-  pub pairs_are : after.pairs ≡ kept_by talk.session.closed (lists_hit find.asked) (find_asked find.states find.asked) talk.answer before.pairs
-  pub waits_are : after.waits ≡ waits_after before.waits (closed_of talk)
-  pub failed : talk.answer ≡ Err (Exchange Link) → Rose before.line.faults after.line.faults
-  pub kept : talk.answer ≢ Err (Exchange Link) → after.line.faults ≡ before.line.faults
+  pub pairs_are : finds'.cache ≡ kept_by talk.session.closed (lists_hit find.asked) (find_asked find.states find.asked) talk.answer finds.cache
+  pub waits_are : finds'.waits ≡ waits_after finds.waits (closed_find talk)
+  pub failed : talk.answer ≡ Err (Exchange Link) → Rose before.faults after.faults
+  pub kept : talk.answer ≢ Err (Exchange Link) → after.faults ≡ before.faults
+
+-- A find was made for the hits of a look and ended, and the look has this verdict by its answer.
+pub record MakesFind (find : AskedFind) (look : Looks) (finds finds' : Finds) (before after : Outside) (verdict : Verdict) : Type 0 where
+  pub answer : Result FindResponse Cause
+  pub made : MakesFindFor find finds finds' before after answer
+  pub verdict_is : verdict ≡ verdict_after look.told look.looked answer
 
 -- ---- what it says of a look
 

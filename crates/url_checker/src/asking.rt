@@ -6,8 +6,8 @@ ghost use Rattle.sb_model.specs.declared.time.Moment.{Moment};
 ghost use Rattle.wait_rules.specs.declared.waits.WaitState.{WaitState};
 ghost use Rattle.timed_sessions.specs.Told.{Outside};
 ghost use Rattle.timed_sessions.specs.Timed.{IsTimedOpening, HoldsTimedPart};
-ghost use Rattle.url_checker.specs.Resolving.{IsAnswerOf, body_of};
-ghost use Rattle.url_checker.specs.Looking.{HasAsked, StopsAsking};
+ghost use Rattle.url_checker.specs.Resolving.{IsFindAnswerOf, find_body};
+ghost use Rattle.url_checker.specs.Looking.{HearsFind, StopsAsking};
 
 use client_line::Line;
 use hash_messages::{FindRequest, FindResponse, read_matches, write_find};
@@ -29,7 +29,7 @@ pub(crate) struct Answered {
 
 // Reads a body that passed.
 fn read_body(alloc: Global, body: &Bytes) -> Result<Result<FindResponse, Cause>, OutOfMemory>
-    ensures answer { IfOk result (λ answer. IsAnswerOf (Ok body.now) answer) }
+    ensures answer { IfOk result (λ answer. IsFindAnswerOf (Ok body.now) answer) }
     ensures no_link { IfOk result (λ answer. answer ≢ Err (Cause.Exchange ExchangeFault.Link)) }
 {
     match read_matches(alloc, body.as_slice()) {
@@ -44,7 +44,7 @@ fn answer_of(
     alloc: Global,
     outcome: Result<Bytes, ExchangeFault>,
 ) -> Result<Result<FindResponse, Cause>, OutOfMemory>
-    ensures answer { IfOk result (λ answer. IsAnswerOf outcome answer) }
+    ensures answer { IfOk result (λ answer. IsFindAnswerOf outcome answer) }
     ensures link { IfOk result (λ answer.
         (answer ≡ Err (Cause.Exchange ExchangeFault.Link)) ↔ (outcome ≡ Err ExchangeFault.Link)) }
     ensures had_body { OnErr result (outcome ≢ Err ExchangeFault.Link) }
@@ -63,7 +63,7 @@ pub struct OpenFind {
 }
 
 /// Begins a find, from a clock that was read already.
-#[tactic(auto, unfolding(crate::specs::Resolving::body_of))]
+#[tactic(auto, unfolding(crate::specs::Resolving::find_body))]
 pub(crate) fn begin_for<N: Line>(
     alloc: Global,
     waits: WaitState,
@@ -74,15 +74,15 @@ pub(crate) fn begin_for<N: Line>(
 ) -> Result<Opening, OutOfMemory>
     requires read { (N.view line.old).last ≡ now.0 }
     requires target { IsTarget target.now }
-    ensures opened { IfOk result (λ opening. IsTimedOpening waits now target.now Kind.Find (body_of request.now)
+    ensures opened { IfOk result (λ opening. IsTimedOpening waits now target.now Kind.Find (find_body request.now)
         (N.view line.old).told (N.view line.new).told opening) }
-    ensures refused { OnErr result (StopsAsking waits now target.now (body_of request.now)
+    ensures refused { OnErr result (StopsAsking waits now target.now (find_body request.now)
         (N.view line.old).told (N.view line.new).told) }
     ensures last { IfOk result (λ opening. (N.view line.new).last ≡ opening.begun.0) }
     ensures faults { IfOk result (λ opening.
-        CountsSendFault opening.sent (N.view line.old).faults (N.view line.new).faults) }
-    ensures unmoved { OnErr result ((N.view line.new).faults ≡ (N.view line.old).faults) }
-    ensures counted { (N.view line.old).faults ≤ (N.view line.new).faults }
+        CountsSendFault opening.sent (N.view line.old).told.faults (N.view line.new).told.faults) }
+    ensures unmoved { OnErr result ((N.view line.new).told.faults ≡ (N.view line.old).told.faults) }
+    ensures counted { (N.view line.old).told.faults ≤ (N.view line.new).told.faults }
     ensures same { (N.view line.new).objects ≡ (N.view line.old).objects }
 {
     let body = write_find(alloc, request)?;
@@ -99,19 +99,19 @@ pub(crate) fn hear<N: Line>(
     requires last { (N.view line.old).last ≡ opening.begun.0 }
     ensures asked { (waits : WaitState) (now : Moment) (target : Target) (body : List ℕ) (start : Outside)
         → IsTimedOpening waits now target Kind.Find body start (N.view line.old).told opening
-        → IfOk result (λ found. HasAsked waits now target body need_digest start (N.view line.new).told found) }
+        → IfOk result (λ found. HearsFind waits now target body need_digest start (N.view line.new).told found) }
     ensures refused { (waits : WaitState) (now : Moment) (target : Target) (body : List ℕ) (start : Outside)
         → IsTimedOpening waits now target Kind.Find body start (N.view line.old).told opening
         → OnErr result (HoldsTimedPart waits now target Kind.Find body start (N.view line.new).told) }
-    ensures failed { (start : ℕ) → CountsSendFault opening.sent start (N.view line.old).faults
+    ensures failed { (start : ℕ) → CountsSendFault opening.sent start (N.view line.old).told.faults
         → IfOk result (λ found. found.answer ≡ Err (Cause.Exchange ExchangeFault.Link)
-        → Rose start (N.view line.new).faults) }
-    ensures kept { (start : ℕ) → CountsSendFault opening.sent start (N.view line.old).faults
+        → Rose start (N.view line.new).told.faults) }
+    ensures kept { (start : ℕ) → CountsSendFault opening.sent start (N.view line.old).told.faults
         → IfOk result (λ found. found.answer ≢ Err (Cause.Exchange ExchangeFault.Link)
-        → (N.view line.new).faults ≡ start) }
-    ensures unmoved { (start : ℕ) → CountsSendFault opening.sent start (N.view line.old).faults
-        → OnErr result ((N.view line.new).faults ≡ start) }
-    ensures counted { (N.view line.old).faults ≤ (N.view line.new).faults }
+        → (N.view line.new).told.faults ≡ start) }
+    ensures unmoved { (start : ℕ) → CountsSendFault opening.sent start (N.view line.old).told.faults
+        → OnErr result ((N.view line.new).told.faults ≡ start) }
+    ensures counted { (N.view line.old).told.faults ≤ (N.view line.new).told.faults }
     ensures same { (N.view line.new).objects ≡ (N.view line.old).objects }
 {
     let Talk {

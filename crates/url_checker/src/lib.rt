@@ -8,6 +8,7 @@
 pub use asking::OpenFind;
 pub use fault::CheckFault;
 pub use findings::{Checked, Finding, Hit};
+pub use finds::Finds;
 pub use hits::{local_check_on, local_check_with};
 pub use laws::{findings_go_on, findings_keep_to_waits};
 pub use looking::{Looked, Looks, look};
@@ -21,6 +22,7 @@ pub use sizes::{Sizes, sizes_on};
 mod asking;
 mod fault;
 mod findings;
+mod finds;
 mod hits;
 mod laws;
 mod looking;

@@ -1,5 +1,4 @@
 ghost use Rattle.std.specs.Prelude.{◌≡◌, OnOk, IfOk};
-ghost use Rattle.sb_model.specs.Names.{name_cmp};
 ghost use Rattle.update_client.specs.Held.{with_name};
 ghost use Rattle.url_checker.specs.Resolving.{lists_hit};
 
@@ -8,23 +7,13 @@ use sb_model::{ListName, OutOfMemory, Row};
 use std::alloc::Global;
 use std::cmp::Ordering;
 
-// The order of two names.
-fn compare(first: ListName, second: ListName) -> Ordering
-    ensures { result ≡ name_cmp first second }
-{
-    let threats = first.threat.code().cmp(&second.threat.code());
-    let platforms = first.platform.code().cmp(&second.platform.code());
-    let entries = first.entry.code().cmp(&second.entry.code());
-    threats.then(platforms.then(entries))
-}
-
 // Puts a name among rising ones, where it does not stand yet.
 fn put_name(names: &mut Vec<ListName>, name: ListName) -> Result<(), OutOfMemory>
     ensures { OnOk result (names.new.items ≡ with_name name names.old.items) }
 {
     let mut place = 0;
     while place < names.len() {
-        match compare(name, names[place]) {
+        match name.compare(names[place]) {
             Ordering::Less => break,
             Ordering::Equal => return Ok(()),
             Ordering::Greater => place += 1,

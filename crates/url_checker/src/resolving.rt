@@ -7,15 +7,16 @@ ghost use Rattle.sb_model.specs.declared.time.Moment.{Moment};
 ghost use Rattle.client_line.specs.Lines.{LineView};
 ghost use Rattle.timed_sessions.specs.Waiting.{HasSettled};
 ghost use Rattle.url_checker.specs.Hits.{AreAskable, prefixes_hit};
-ghost use Rattle.url_checker.specs.Resolving.{verdict_from, lists_hit, bids_of, kept_by, cause_of, body_asked, makes_find};
-ghost use Rattle.url_checker.specs.Looking.{unsafe_in, verdict_after, IsOpenFind, MakesFind, StopsAsking};
-ghost use Rattle.url_checker.specs.Resolved.{Resolves, StopsResolving};
+ghost use Rattle.url_checker.specs.Resolving.{verdict_from, lists_hit, find_bids, kept_by, open_cause, find_body_asked, makes_find};
+ghost use Rattle.url_checker.specs.Looking.{unsafe_in, verdict_after, IsOpenFind, StopsAsking};
+ghost use Rattle.url_checker.specs.Resolved.{Resolves, StopsResolving, unresolved};
+ghost use Rattle.url_checker.specs.Several.{asked_find, MakesFind};
 
 use crate::asking::{Answered, OpenFind, hear};
 use crate::looking::{Looked, Looks, look, unsafe_names};
 use crate::naming::lists_of;
 use crate::several::begin_find_for;
-use crate::{Finding, Hit};
+use crate::{Finding, Finds, Hit};
 use client_line::Line;
 use full_hash_cache::FullHashCache;
 use hash_messages::{FindRequest, FindResponse};
@@ -67,19 +68,18 @@ fn conclude<N: Line>(
     looks: Looks,
     request: &FindRequest,
     answered: Answered,
-    cache: &mut FullHashCache,
-    waits: &mut WaitState,
+    finds: &mut Finds,
     line: &mut N,
 ) -> Result<Verdict, OutOfMemory>
     ensures verdict { IfOk result (λ verdict.
         verdict ≡ verdict_after looks.told looks.looked answered.answer) }
-    ensures pairs { OnOk result (cache.new ≡ kept_by answered.closed (lists_hit looks.asked) request.now
-        answered.answer cache.old) }
-    ensures settled { OnOk result (HasSettled waits.old waits.new answered.closed (bids_of answered.answer)
-        (N.view line.old) (N.view line.new)) }
-    ensures waits_kept { OnErr result (waits.new ≡ waits.old) }
+    ensures pairs { OnOk result (finds.new.cache ≡ kept_by answered.closed (lists_hit looks.asked) request.now
+        answered.answer finds.old.cache) }
+    ensures settled { OnOk result (HasSettled finds.old.waits finds.new.waits answered.closed
+        (find_bids answered.answer) (N.view line.old) (N.view line.new)) }
+    ensures waits_kept { OnErr result (finds.new.waits ≡ finds.old.waits) }
     ensures untouched { OnErr result (N.view line.new ≡ N.view line.old) }
-    ensures faults { (N.view line.new).faults ≡ (N.view line.old).faults }
+    ensures faults { (N.view line.new).told.faults ≡ (N.view line.old).told.faults }
     ensures same { (N.view line.new).objects ≡ (N.view line.old).objects }
     ensures had_message { OnErr result (answered.answer ≢ Err (Cause.Exchange ExchangeFault.Link)) }
 {
@@ -98,13 +98,13 @@ fn conclude<N: Line>(
                 request,
                 &message,
                 closed,
-                cache,
+                &mut finds.cache,
             )?;
-            settle(waits, closed, Some(message.wait), line);
+            settle(&mut finds.waits, closed, Some(message.wait), line);
             Ok(verdict)
         }
         Err(cause) => {
-            settle(waits, closed, None, line);
+            settle(&mut finds.waits, closed, None, line);
             Ok(verdict_with(told, Some(cause)))
         }
     }
@@ -129,10 +129,10 @@ pub fn begin_find<N: Line>(
     // The session is open of a find that asks for these hits, and begins when it may. A fault of the link is counted.
     ensures opened { IfOk result (IsOpenFind states.now target.now now looks.now.asked waits
         (N.view line.old) (N.view line.new)) }
-    ensures stopped { OnErr result (StopsAsking waits now target.now (body_asked states.now looks.now.asked)
+    ensures stopped { OnErr result (StopsAsking waits now target.now (find_body_asked states.now looks.now.asked)
         (N.view line.old).told (N.view line.new).told) }
-    ensures unmoved { OnErr result ((N.view line.new).faults ≡ (N.view line.old).faults) }
-    ensures counted { (N.view line.old).faults ≤ (N.view line.new).faults }
+    ensures unmoved { OnErr result ((N.view line.new).told.faults ≡ (N.view line.old).told.faults) }
+    ensures counted { (N.view line.old).told.faults ≤ (N.view line.new).told.faults }
 
     // The line's objects are the same.
     ensures same { (N.view line.new).objects ≡ (N.view line.old).objects }
@@ -154,8 +154,7 @@ pub fn end_find<N: Line>(
     alloc: Global,
     looks: Looks,
     find: OpenFind,
-    cache: &mut FullHashCache,
-    waits: &mut WaitState,
+    finds: &mut Finds,
     need_digest: bool,
     line: &mut N,
 ) -> Result<Verdict, OutOfMemory>
@@ -163,24 +162,24 @@ pub fn end_find<N: Line>(
 
     // If these hits were asked for with this state of waiting, one find was made, and this is what it left and came to.
     ensures made { (states : List (List ℕ)) (target : Target) (now : Moment) (start : LineView)
-        → IsOpenFind states target now looks.asked waits.old start (N.view line.old) find
-        → IfOk result (MakesFind states target need_digest now looks
-        cache.old cache.new waits.old waits.new start (N.view line.new)) }
+        → IsOpenFind states target now looks.asked finds.old.waits start (N.view line.old) find
+        → IfOk result (MakesFind (asked_find states target need_digest now looks.asked) looks
+        finds.old finds.new start.told (N.view line.new).told) }
     ensures stopped { (states : List (List ℕ)) (target : Target) (now : Moment) (start : LineView)
-        → IsOpenFind states target now looks.asked waits.old start (N.view line.old) find
-        → OnErr result (StopsAsking waits.old now target (body_asked states looks.asked)
+        → IsOpenFind states target now looks.asked finds.old.waits start (N.view line.old) find
+        → OnErr result (StopsAsking finds.old.waits now target (find_body_asked states looks.asked)
         start.told (N.view line.new).told) }
-    ensures waits_kept { OnErr result (waits.new ≡ waits.old) }
-    ensures unmoved { (start : ℕ) → CountsSendFault find.opening.sent start (N.view line.old).faults
-        → OnErr result ((N.view line.new).faults ≡ start) }
-    ensures counted { (N.view line.old).faults ≤ (N.view line.new).faults }
+    ensures waits_kept { OnErr result (finds.new.waits ≡ finds.old.waits) }
+    ensures unmoved { (start : ℕ) → CountsSendFault find.opening.sent start (N.view line.old).told.faults
+        → OnErr result ((N.view line.new).told.faults ≡ start) }
+    ensures counted { (N.view line.old).told.faults ≤ (N.view line.new).told.faults }
 
     // The line's objects are the same.
     ensures same { (N.view line.new).objects ≡ (N.view line.old).objects }
 {
     let OpenFind { request, opening } = find;
     let answered = hear(alloc, opening, need_digest, line)?;
-    conclude(alloc, looks, &request, answered, cache, waits, line)
+    conclude(alloc, looks, &request, answered, finds, line)
 }
 
 // Makes a find for the hits of which the server has to be asked, and ends it.
@@ -189,8 +188,7 @@ fn find<N: Line>(
     now: Moment,
     looks: Looks,
     states: &Row<Bytes>,
-    cache: &mut FullHashCache,
-    waits: &mut WaitState,
+    finds: &mut Finds,
     target: &Target,
     need_digest: bool,
     line: &mut N,
@@ -198,17 +196,17 @@ fn find<N: Line>(
     requires read { (N.view line.old).last ≡ now.0 }
     requires target { IsTarget target.now }
     requires few { length (prefixes_hit looks.asked) ≤ most_prefixes }
-    ensures made { IfOk result (MakesFind states.now target.now need_digest now looks
-        cache.old cache.new waits.old waits.new (N.view line.old) (N.view line.new)) }
-    ensures stopped { OnErr result (StopsAsking waits.old now target.now (body_asked states.now looks.asked)
+    ensures made { IfOk result (MakesFind (asked_find states.now target.now need_digest now looks.asked) looks
+        finds.old finds.new (N.view line.old).told (N.view line.new).told) }
+    ensures stopped { OnErr result (StopsAsking finds.old.waits now target.now (find_body_asked states.now looks.asked)
         (N.view line.old).told (N.view line.new).told) }
-    ensures waits_kept { OnErr result (waits.new ≡ waits.old) }
-    ensures unmoved { OnErr result ((N.view line.new).faults ≡ (N.view line.old).faults) }
-    ensures counted { (N.view line.old).faults ≤ (N.view line.new).faults }
+    ensures waits_kept { OnErr result (finds.new.waits ≡ finds.old.waits) }
+    ensures unmoved { OnErr result ((N.view line.new).told.faults ≡ (N.view line.old).told.faults) }
+    ensures counted { (N.view line.old).told.faults ≤ (N.view line.new).told.faults }
     ensures same { (N.view line.new).objects ≡ (N.view line.old).objects }
 {
-    let find = begin_find(alloc, now, &looks, states, *waits, target, line)?;
-    end_find(alloc, looks, find, cache, waits, need_digest, line)
+    let find = begin_find(alloc, now, &looks, states, finds.waits, target, line)?;
+    end_find(alloc, looks, find, finds, need_digest, line)
 }
 
 // Whether a find is made for these hits.
@@ -220,7 +218,7 @@ fn is_made(waits: WaitState, patience: u64, now: Moment, asked: &[Hit]) -> bool
 
 // The verdict where no find is made. Hits of which the server has to be asked are open until the moment at which one is allowed.
 fn unasked(looks: Looks, allowed_at: Moment) -> Verdict
-    ensures { result ≡ verdict_from looks.told (cause_of (Err (Cause.NotBefore allowed_at)) looks.asked) }
+    ensures { result ≡ verdict_from looks.told (open_cause (Err (Cause.NotBefore allowed_at)) looks.asked) }
 {
     if looks.asked.is_empty() {
         return verdict_with(looks.told, None);
@@ -237,8 +235,7 @@ pub fn resolve<N: Line>(
     alloc: Global,
     finding: &Finding,
     states: &Row<Bytes>,
-    cache: &mut FullHashCache,
-    waits: &mut WaitState,
+    finds: &mut Finds,
     patience: u64,
     target: &Target,
     need_digest: bool,
@@ -248,33 +245,21 @@ pub fn resolve<N: Line>(
     requires target { IsTarget target.now }
 
     // The hits were resolved, and this is what it left and came to.
-    ensures resolves { IfOk result (Resolves states.now patience target.now need_digest finding.now.hits
-        cache.old cache.new waits.old waits.new
-        (N.view line.old).told (N.view line.new).told
-        (N.view line.old).faults (N.view line.new).faults) }
+    ensures resolves { IfOk result (Resolves (unresolved states.now finding.now.hits) patience target.now need_digest
+        finds.old finds.new (N.view line.old).told (N.view line.new).told) }
 
     // Want of memory breaks it off.
-    ensures stopped { OnErr result (StopsResolving states.now target.now finding.now.hits cache.old waits.old
+    ensures stopped { OnErr result (StopsResolving (unresolved states.now finding.now.hits) target.now finds.old
         (N.view line.old).told (N.view line.new).told) }
-    ensures waits_kept { OnErr result (waits.new ≡ waits.old) }
-    ensures unmoved { OnErr result ((N.view line.new).faults ≡ (N.view line.old).faults) }
-    ensures counted { (N.view line.old).faults ≤ (N.view line.new).faults }
+    ensures waits_kept { OnErr result (finds.new.waits ≡ finds.old.waits) }
+    ensures unmoved { OnErr result ((N.view line.new).told.faults ≡ (N.view line.old).told.faults) }
+    ensures counted { (N.view line.old).told.faults ≤ (N.view line.new).told.faults }
     ensures same { (N.view line.new).objects ≡ (N.view line.old).objects }
 {
     let now = line.now();
-    let looks = look(alloc, now, finding.hits.as_slice(), cache)?;
-    if is_made(*waits, patience, now, looks.asked.as_slice()) {
-        return find(
-            alloc,
-            now,
-            looks,
-            states,
-            cache,
-            waits,
-            target,
-            need_digest,
-            line,
-        );
+    let looks = look(alloc, now, finding.hits.as_slice(), &mut finds.cache)?;
+    if is_made(finds.waits, patience, now, looks.asked.as_slice()) {
+        return find(alloc, now, looks, states, finds, target, need_digest, line);
     }
-    Ok(unasked(looks, waits.allowed_at))
+    Ok(unasked(looks, finds.waits.allowed_at))
 }

@@ -8,18 +8,18 @@ ghost use Rattle.http_edge.specs.Exchanges.{CountsSendFault, IsTarget};
 ghost use Rattle.http_edge.specs.declared.messages.Target.{Target};
 ghost use Rattle.client_line.specs.Lines.{LineView};
 ghost use Rattle.url_checker.specs.Hits.{prefixes_hit};
-ghost use Rattle.url_checker.specs.Resolving.{bids_of, body_asked, cause_of, find_asked, kept_by, lists_hit, message_in, verdict_by};
+ghost use Rattle.url_checker.specs.Resolving.{find_bids, find_body_asked, open_cause, find_asked, kept_by, lists_hit, message_in, verdict_by};
 ghost use Rattle.url_checker.specs.Looking.{IsOpenFind, StopsAsking};
-ghost use Rattle.url_checker.specs.Several.{all_asked, AreTogether, IsLookOf, MakesFindFor};
+ghost use Rattle.url_checker.specs.Several.{all_asked, asked_find, AreTogether, IsLookOf, MakesFindFor};
 ghost use Rattle.url_checker.specs.declared.findings.Hit.{Hit};
 ghost use Rattle.url_checker.specs.declared.looking.Looks.{Looks};
 
-use crate::Hit;
 use crate::asking::{Answered, OpenFind, begin_for, hear};
 use crate::looking::{Looks, unsafe_names};
 use crate::naming::lists_of;
 use crate::request::{find_for, push_prefixes, set_members};
 use crate::resolving::verdict_with;
+use crate::{Finds, Hit};
 use client_line::Line;
 use full_hash_cache::FullHashCache;
 use hash_messages::{FindRequest, FindResponse};
@@ -119,10 +119,10 @@ pub fn begin_find_for<N: Line>(
     // The session is open of a find that asks for these hits, and begins when it may. A fault of the link is counted.
     ensures opened { IfOk result (IsOpenFind states.now target.now now asked.now waits
         (N.view line.old) (N.view line.new)) }
-    ensures stopped { OnErr result (StopsAsking waits now target.now (body_asked states.now asked.now)
+    ensures stopped { OnErr result (StopsAsking waits now target.now (find_body_asked states.now asked.now)
         (N.view line.old).told (N.view line.new).told) }
-    ensures unmoved { OnErr result ((N.view line.new).faults ≡ (N.view line.old).faults) }
-    ensures counted { (N.view line.old).faults ≤ (N.view line.new).faults }
+    ensures unmoved { OnErr result ((N.view line.new).told.faults ≡ (N.view line.old).told.faults) }
+    ensures counted { (N.view line.old).told.faults ≤ (N.view line.new).told.faults }
 
     // The line's objects are the same.
     ensures same { (N.view line.new).objects ≡ (N.view line.old).objects }
@@ -153,7 +153,7 @@ fn keep_answer(
 
 // How long an answer bids to wait.
 fn bids(answer: &Result<FindResponse, Cause>) -> Option<Duration>
-    ensures { result ≡ bids_of answer.now }
+    ensures { result ≡ find_bids answer.now }
 {
     match answer {
         Ok(message) => Some(message.wait),
@@ -167,8 +167,7 @@ pub fn end_find_for<N: Line>(
     alloc: Global,
     asked: &[Hit],
     find: OpenFind,
-    cache: &mut FullHashCache,
-    waits: &mut WaitState,
+    finds: &mut Finds,
     need_digest: bool,
     line: &mut N,
 ) -> Result<Result<FindResponse, Cause>, OutOfMemory>
@@ -176,26 +175,30 @@ pub fn end_find_for<N: Line>(
 
     // If these hits were asked for with this state of waiting, one find was made, and this is what it left and came to.
     ensures made { (states : List (List ℕ)) (target : Target) (now : Moment) (start : LineView)
-        → IsOpenFind states target now asked.now waits.old start (N.view line.old) find
-        → IfOk result (MakesFindFor (record { states = states; target = target; need = need_digest; now = now; asked = asked.now })
-        (record { pairs = cache.old; waits = waits.old; line = start })
-        (record { pairs = cache.new; waits = waits.new; line = N.view line.new })) }
+        → IsOpenFind states target now asked.now finds.old.waits start (N.view line.old) find
+        → IfOk result (MakesFindFor (asked_find states target need_digest now asked.now)
+        finds.old finds.new start.told (N.view line.new).told) }
     ensures stopped { (states : List (List ℕ)) (target : Target) (now : Moment) (start : LineView)
-        → IsOpenFind states target now asked.now waits.old start (N.view line.old) find
-        → OnErr result (StopsAsking waits.old now target (body_asked states asked.now)
+        → IsOpenFind states target now asked.now finds.old.waits start (N.view line.old) find
+        → OnErr result (StopsAsking finds.old.waits now target (find_body_asked states asked.now)
         start.told (N.view line.new).told) }
-    ensures waits_kept { OnErr result (waits.new ≡ waits.old) }
-    ensures unmoved { (start : ℕ) → CountsSendFault find.opening.sent start (N.view line.old).faults
-        → OnErr result ((N.view line.new).faults ≡ start) }
-    ensures counted { (N.view line.old).faults ≤ (N.view line.new).faults }
+    ensures waits_kept { OnErr result (finds.new.waits ≡ finds.old.waits) }
+    ensures unmoved { (start : ℕ) → CountsSendFault find.opening.sent start (N.view line.old).told.faults
+        → OnErr result ((N.view line.new).told.faults ≡ start) }
+    ensures counted { (N.view line.old).told.faults ≤ (N.view line.new).told.faults }
 
     // The line's objects are the same.
     ensures same { (N.view line.new).objects ≡ (N.view line.old).objects }
 {
     let OpenFind { request, opening } = find;
     let answered = hear(alloc, opening, need_digest, line)?;
-    keep_answer(alloc, asked, &request, &answered, cache)?;
-    settle(waits, answered.closed, bids(&answered.answer), line);
+    keep_answer(alloc, asked, &request, &answered, &mut finds.cache)?;
+    settle(
+        &mut finds.waits,
+        answered.closed,
+        bids(&answered.answer),
+        line,
+    );
     Ok(answered.answer)
 }
 
@@ -212,7 +215,7 @@ fn copied(cause: &Cause) -> Cause
 
 // Why open hits are open still after an answer, if there are any.
 fn cause_after(answer: &Result<FindResponse, Cause>, asked: &[Hit]) -> Option<Cause>
-    ensures { result ≡ cause_of answer.now asked.now }
+    ensures { result ≡ open_cause answer.now asked.now }
 {
     match answer {
         Ok(_) => None,

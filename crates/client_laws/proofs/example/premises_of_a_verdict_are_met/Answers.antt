@@ -1,7 +1,7 @@
 use Rattle.std.proofs.Common.{◌≡◌, ℕ, zero, suc, ◌≤◌, List, [], ◌∷◌, refl, ap, subst, arith}
 use Rattle.full_hash_cache.specs.Law.{after_steps}
 use Rattle.url_checker.specs.declared.findings.Hit.{Hit}
-use Rattle.url_checker.specs.Resolving.{verdict_of, answer_in, cause_of, hits_asked}
+use Rattle.url_checker.specs.Resolving.{verdict_of, answer_in, open_cause, hits_asked}
 use Rattle.client_laws.specs.Faithful.{IsFaithful}
 use Rattle.client_laws.specs.Example.{example_url_history, example_tokens, example_hit, example_asked, answer_at, got_at, held_at, second_later, steps_at}
 use Rattle.client_laws.proofs.Members.{nothing}
@@ -55,4 +55,4 @@ returns-clause-kept c version waits low high =
     (taken_is_faithful one served version is)
     (λ message same. absurd (no_message _ message same)) in
     premises one served version is (steps_at version) waits second_later decided
-    ((c.resolved_verdicts_are_lookups.ensures.open (steps_at version) waits (example_hit ∷ []) second_later).1 (ap (λ (asked : List Hit). cause_of answer asked) (none_asked version low high)))
+    ((c.resolved_verdicts_are_lookups.ensures.open (steps_at version) waits (example_hit ∷ []) second_later).1 (ap (λ (asked : List Hit). open_cause answer asked) (none_asked version low high)))

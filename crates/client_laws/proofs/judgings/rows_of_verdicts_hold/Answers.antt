@@ -13,6 +13,6 @@ returns-clause-cases c history token_at plan published waits lines cases well re
     (first_finds waits) [] lines cases refl are
 
 pub returns-clause-judged : goal.returns-clause-judged
-returns-clause-judged c history token_at plan published waits finds before after faults faults' lines all judges well replicas =
+returns-clause-judged c history token_at plan published waits finds before after lines all judges well replicas =
     subst (λ (one : List Judged). VerdictsHold history token_at published (first_finds waits) [] lines judges.cases one) (sym judges.judged_are)
     (returns-clause-cases c history token_at plan published waits lines judges.cases well replicas judges.are)

@@ -10,7 +10,7 @@ use Rattle.sb_model.specs.declared.time.Moment.{Moment}
 use Rattle.verdict_report.specs.declared.verdicts.Cause.{Cause}
 use Rattle.url_checker.specs.declared.findings.Hit.{Hit}
 use Rattle.url_checker.specs.Hits.{hits_of}
-use Rattle.url_checker.specs.Resolving.{said_of, is_ask, is_unsafe_by, message_in, hits_asked, unsafe_lists, cause_of}
+use Rattle.url_checker.specs.Resolving.{said_of, is_ask, is_unsafe_by, message_in, hits_asked, unsafe_lists, open_cause}
 use Rattle.client_laws.specs.Rulings.{AreRight}
 use Rattle.client_laws.specs.Faithful.{said_after}
 use Rattle.client_laws.specs.Shared.{IsDecidedBy, said_by_answer}
@@ -49,7 +49,7 @@ returns-clause-resolved c history token_at lists url steps now answer well are d
     let right = rightly history token_at lists url steps now answer kept decided in
     let named = named_are_called pairs now (message_in answer) hits in
     let called = called_are_named pairs now (message_in answer) hits c.names_go_by_their_codes.ensures.same in
-    is_lookup history token_at lists url (Names history token_at lists url steps now answer) (cause_of answer (hits_asked pairs now hits))
+    is_lookup history token_at lists url (Names history token_at lists url steps now answer) (open_cause answer (hits_asked pairs now hits))
     (none_open_no_cause pairs now answer hits none) (in_order_rises (map (λ (hit : Hit). hit.list) (filter (λ hit. is_unsafe_by (message_in answer) (said_of pairs now hit) hit) hits)))
     (λ name.
     let same = c.right_rulings_are_lookups.ensures.all history token_at lists url (said_by_answer steps now answer) well are right none name in
@@ -63,7 +63,7 @@ returns-clause-borne_out c history token_at lists url steps now answer well are 
     let kept = c.faithful_answers_rule_rightly.ensures.kept_hits history token_at lists url steps now decided.kept in
     let right = rightly history token_at lists url steps now answer kept decided in
     let called = called_are_named pairs now (message_in answer) hits c.names_go_by_their_codes.ensures.same in
-    is_borne_out history token_at lists url (Names history token_at lists url steps now answer) (cause_of answer (hits_asked pairs now hits))
+    is_borne_out history token_at lists url (Names history token_at lists url steps now answer) (open_cause answer (hits_asked pairs now hits))
     (λ name is. c.right_rulings_are_lookups.ensures.some history token_at lists url said are right name (named_are_called pairs now (message_in answer) hits name is))
     (λ none name listed.
     let closed = no_cause_none_open pairs now answer hits none in

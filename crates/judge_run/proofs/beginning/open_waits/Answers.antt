@@ -1,5 +1,5 @@
 use Rattle.std.proofs.Common.{◌∙◌}
-use Rattle.judge_run.proofs.Endings.{opens}
+use Rattle.judge_run.proofs.Openings.{opens}
 use Rattle.judge_run.proofs.beginning.open_waits.Goals as goal
 
 pub returns-clause-opened : goal.returns-clause-opened

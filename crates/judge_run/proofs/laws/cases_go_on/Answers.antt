@@ -5,5 +5,5 @@ pub returns-clause-none : goal.returns-clause-none
 returns-clause-none c = none_judged
 
 pub returns-clause-one_more : goal.returns-clause-one_more
-returns-clause-one_more c plan published finds mid finds' before between after a b faults lines all line one =
-    one_more_judged plan published finds mid finds' before between after a b faults lines all line one c.traces_go_on.ensures.one_more
+returns-clause-one_more c plan published finds mid finds' before between after lines all line one =
+    one_more_judged plan published finds mid finds' before between after lines all line one c.traces_go_on.ensures.one_more

@@ -1,9 +1,0 @@
-use Rattle.input_lines.specs.Ways.{on_any}
-use Rattle.judge_run.proofs.Cases.{stops_at_once}
-use Rattle.judge_run.proofs.judging.judge_all.Goals as goal
-
-pub returns-in_err-states-clause-stopped : goal.returns-in_err-states-clause-stopped
-returns-in_err-states-clause-stopped g c = on_any _ (stops_at_once _ _ _ _ _ _)
-
-pub returns-in_err-cache-clause-stopped : goal.returns-in_err-cache-clause-stopped
-returns-in_err-cache-clause-stopped g c = on_any _ (stops_at_once _ _ _ _ _ _)
