@@ -15,6 +15,7 @@ mod kept_calls;
 mod lists;
 mod low_calls;
 mod printing;
+mod proto_calls;
 mod steps;
 mod update_calls;
 mod words;
@@ -29,7 +30,8 @@ fn call(alloc: Global, name: &[u8], text: &[u8], out: &mut Bytes) -> Result<bool
             || find_calls::call(alloc, name, text, out)?
             || update_calls::call(alloc, name, text, out)?
             || kept_calls::call(alloc, name, text, out)?
-            || low_calls::call(alloc, name, text, out)?,
+            || low_calls::call(alloc, name, text, out)?
+            || proto_calls::call(alloc, name, text, out)?,
     )
 }
 

@@ -1,0 +1,9 @@
+pub mod Answers
+pub mod Fetch
+pub mod Fields
+pub mod Find
+pub mod Numbers
+pub mod Parts
+pub mod Reading
+pub mod Rows
+pub mod Writing
