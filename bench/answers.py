@@ -409,10 +409,12 @@ def tell_crowd(journal, sizes):
 
 
 def tell_slow_readers(folder, sizes):
-    """One answer of some 16.8 MB that a hundred clients read at 1.5 MB a second each, all at once: how many get it whole."""
-    journal = Journal(os.path.join(folder, "wide"), size=12)
-    journal.grow([(LIST, A_CHANGE, 0)] * sizes.growing)
-    body = fetch(Item(codings=("RAW",)))
+    """One answer of some 16.8 MB that a hundred clients read at 1.5 MB a second each, all at once: how many get it whole. It has two
+    lists of prefixes of six bytes, as long as an answer may be that is kept."""
+    lists = (LIST, OTHER_LIST)
+    journal = Journal(os.path.join(folder, "wide"), lists, size=6)
+    journal.grow([(name, A_CHANGE, 0) for name in lists] * sizes.growing)
+    body = fetch(*(Item(name=name, codings=("RAW",)) for name in lists))
     with Server(journal) as server:
         with server.send(body) as stream:
             length = sum(map(len, iter(lambda: stream.recv(MIB), b"")))
