@@ -1,7 +1,7 @@
 -- Declared lists, targets that need no walk, and answers part by part.
-use Rattle.std.proofs.Common.{◌≡◌, ℕ, ◌+◌, ◌<◌, ◌≤◌, inl, inr, Bool, true, false, cond, not, List, [], ◌∷◌, ◌++◌, length, map, take, get_or, append-nil, refl, sym, ap, ◌∙◌, arith, Option, Some, None}
+use Rattle.std.proofs.Common.{◌≡◌, ℕ, ◌+◌, ◌<◌, ◌≤◌, Bool, true, false, cond, List, [], ◌∷◌, ◌++◌, length, map, take, get_or, append-nil, refl, sym, ap, ◌∙◌, arith, Option, Some, None}
 use Rattle.std.specs.Prelude.{◌==◌, ◌&&◌, ◌||◌, nat_le, filter, find, is_some, All}
-use Rattle.std.specs.List.{list_any, enumerate_from}
+use Rattle.std.specs.List.{list_any}
 use Rattle.std.specs.Option.{IfSome, option_map}
 use Rattle.std.proofs.lemmas.Bool.{le-leb, leb-true}
 use Rattle.std.proofs.lemmas.List.{map-append, take_more}
@@ -9,7 +9,7 @@ use Rattle.std.proofs.lemmas.List.Elements.{All-weaker, filter-append}
 use Rattle.std.proofs.lemmas.Option.{same_Some}
 use Rattle.sb_model.specs.declared.history.Change.{Change}
 use Rattle.sb_model.specs.declared.names.ListName.{ListName}
-use Rattle.sb_model.specs.Difference.{has_member, removed_places, added_members, difference_count}
+use Rattle.sb_model.specs.Difference.{difference_count}
 use Rattle.sb_model.specs.History.{History, IsPrefixSize, IsWellFormed, declares, version_count, prefixes_at}
 use Rattle.sb_model.specs.Names.{same_name}
 use Rattle.sb_model.specs.Target.{is_within, can_reach, target_version}
@@ -18,8 +18,6 @@ use Rattle.update_messages.specs.Answer.{version_named, size_in, declared_size, 
 use Rattle.update_messages.specs.Messages.{AskedList, UpdatedList}
 use Rattle.delta_server.specs.Tokens.{server_token, server_naming}
 use Rattle.delta_server.specs.Walk.{HasSizes, may_take, held_set}
-use Rattle.delta_server.proofs.Membership.{In}
-use Rattle.delta_server.proofs.SetCounts.{in_has}
 use Rattle.delta_server.proofs.TargetFacts.{from_nothing}
 
 -- ---- declared lists
@@ -91,29 +89,6 @@ module _ (history : History) (list : ListName) (max_update max_database : ℕ) w
   reaches_newest from held set within own is takes =
       newest_reached from within (ap (λ (s : List (List ℕ)). may_take (held_set list from history.changes) max_update max_database s) (sym is)
       ∙ ap (λ (h : List (List ℕ)). may_take h max_update max_database set) (sym own) ∙ takes)
-
--- ---- nothing leads from a set to itself
-
-module _ (set : List (List ℕ)) where
-  none_added : (members : List (List ℕ)) → ((x : List ℕ) → In x members → In x set) → filter (λ (member : List ℕ). not (has_member set member)) members ≡ []
-  none_added [] own = refl
-  none_added (m ∷ ms) own =
-      ap (λ (b : Bool). cond (not b) (m ∷ filter (λ (member : List ℕ). not (has_member set member)) ms) (filter (λ (member : List ℕ). not (has_member set member)) ms)) (in_has set m (own m (inl refl)))
-      ∙ none_added ms (λ x h. own x (inr h))
-
-  none_removed : (n : ℕ) (members : List (List ℕ)) → ((x : List ℕ) → In x members → In x set)
-      → map (λ (member : ℕ × List ℕ). member.0) (filter (λ (member : ℕ × List ℕ). not (has_member set member.1)) (enumerate_from n members)) ≡ []
-  none_removed n [] own = refl
-  none_removed n (m ∷ ms) own =
-      ap (λ (b : Bool). map (λ (member : ℕ × List ℕ). member.0) (cond (not b) ((n, m) ∷ filter (λ (member : ℕ × List ℕ). not (has_member set member.1)) (enumerate_from (n + 1) ms)) (filter (λ (member : ℕ × List ℕ). not (has_member set member.1)) (enumerate_from (n + 1) ms))))
-      (in_has set m (own m (inl refl)))
-      ∙ none_removed (n + 1) ms (λ x h. own x (inr h))
-
-  pub unchanged_adds : added_members set set ≡ []
-  unchanged_adds = none_added set (λ x h. h)
-
-  pub unchanged_removes : removed_places set set ≡ []
-  unchanged_removes = none_removed 0 set (λ x h. h)
 
 -- ---- answers
 

@@ -1,14 +1,15 @@
 -- What leads from one version of a list to another, told by its stretches.
-use Rattle.std.proofs.Common.{◌≡◌, ℕ, ◌^◌, ◌<◌, ◌≤◌, inl, inr, List, [], ◌∷◌, ◌++◌, length, take, drop, refl, ap, sym, ◌∙◌, arith, length-append}
-use Rattle.std.proofs.lemmas.List.{take_at, drop_at}
+use Rattle.std.proofs.Common.{◌≡◌, ℕ, ◌^◌, ◌<◌, ◌≤◌, inl, inr, List, [], ◌∷◌, ◌++◌, length, map, take, drop, refl, ap, sym, ◌∙◌, arith, length-append}
+use Rattle.std.proofs.lemmas.List.{length-map, take_at, drop_at}
 use Rattle.std.proofs.lemmas.List.Elements.{All-contains}
 use Rattle.sha2.specs.Sha256.{sha256}
 use Rattle.prefix_set.specs.declared.difference.Delta.{Delta}
 use Rattle.prefix_set.specs.Packing.{HaveSize}
+use Rattle.prefix_set.specs.declared.set.TheConstants.{MAX_PREFIXES}
 use Rattle.sb_model.specs.declared.names.ListName.{ListName}
 use Rattle.sb_model.specs.Difference.{removed_places, added_members}
-use Rattle.sb_model.specs.History.{History, version_count, prefixes_at}
-use Rattle.sb_model.specs.Prefixes.{concatenation}
+use Rattle.sb_model.specs.History.{History, version_count, prefix_of, sizes_at, prefixes_at}
+use Rattle.sb_model.specs.Prefixes.{concatenation, set_of}
 use Rattle.list_versions.specs.Limits.{WithinLimits}
 use Rattle.list_versions.specs.Stretches.{AreStretches}
 use Rattle.list_versions.specs.declared.stretch.Stretch.{Stretch}
@@ -17,8 +18,16 @@ use Rattle.delta_server.specs.Sweeping.{shown_at}
 use Rattle.delta_server.proofs.CountFacts.{SetLaws}
 use Rattle.delta_server.proofs.Membership.{In, contains_in}
 use Rattle.delta_server.proofs.PassageFacts.{quads_shown}
-use Rattle.delta_server.proofs.ShownFacts.{shown_is}
-use Rattle.delta_server.proofs.UpdateFacts.{few_prefixes}
+use Rattle.delta_server.proofs.ShownFacts.{few_with, shown_is}
+
+few_members : (xs : List (List ℕ)) → length (set_of xs) ≤ length xs
+few_members [] = omega arith
+few_members (x ∷ xs) = omega (arith, few_with x (set_of xs), few_members xs)
+
+-- a version has no more prefixes than a set
+pub few_prefixes : (versions : History) (list : ListName) (version : ℕ) → WithinLimits versions → version ≤ version_count versions → length (prefixes_at versions list version) ≤ MAX_PREFIXES
+few_prefixes versions list version within below =
+    omega (arith, (within list version below).count, few_members (map prefix_of (sizes_at versions list version)), length-map (sizes_at versions list version) prefix_of)
 
 -- strings of four bytes that stand one after the other are told apart
 same_quads : (xs ys : List (List ℕ)) → ((x : List ℕ) → In x xs → length x ≡ 4) → ((y : List ℕ) → In y ys → length y ≡ 4) → concatenation xs ≡ concatenation ys → xs ≡ ys

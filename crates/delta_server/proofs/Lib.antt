@@ -6,14 +6,11 @@ pub mod FindFacts
 pub mod LeadFacts
 pub mod MarkFacts
 pub mod Membership
-pub mod NumberFacts
 pub mod PassageFacts
 pub mod QuadFacts
 pub mod SameFacts
 pub mod SetCounts
-pub mod SetFacts
 pub mod ShownFacts
 pub mod SweepFacts
 pub mod TargetFacts
 pub mod TokenFacts
-pub mod UpdateFacts

@@ -1,7 +1,7 @@
 -- What is in a list, by recursion on it.
 use Rattle.std.proofs.Common.{◌≡◌, ℕ, zero, suc, ◌+◌, ◌<◌, ◌≤◌, ◌⊎◌, inl, inr, Bool, true, false, cond, List, [], ◌∷◌, ◌++◌, length, map, get_or, refl, sym, ap, subst, ◌∙◌, arith, Some, None}
 use Rattle.std.specs.Prelude.{Contains, filter}
-use Rattle.std.specs.List.{AllByRecursion, find, flat_map, range_with_len}
+use Rattle.std.specs.List.{find, flat_map, range_with_len}
 use Rattle.std.proofs.lemmas.Bool.{cases_eq}
 
 abbrev pub In : {X : Type 0} → X → List X → Type 0
@@ -80,25 +80,6 @@ from_filter p x (y ∷ ys) h = go (p y) refl h (from_filter p x ys)
     go true e (inl same) more = (inl same, ap p (sym same) ∙ e)
     go true e (inr k) more = (inr (more k).0, (more k).1)
     go false e k more = (inr (more k).0, (more k).1)
-
-pub found_by : {X : Type 0} (p : X → Bool) (xs : List X) (x : X) → find p xs ≡ Some x → In x xs × (p x ≡ true)
-found_by p [] x h = absurd (cc)
-found_by p (y ∷ ys) x h = go (p y) refl h (found_by p ys x)
-  where
-    go : (b : Bool) → p y ≡ b → cond b (Some y) (find p ys) ≡ Some x → (find p ys ≡ Some x → In x ys × (p x ≡ true)) → ((y ≡ x) ⊎ In x ys) × (p x ≡ true)
-    go true e k more = let same : y ≡ x = cc in (inl same, ap p (sym same) ∙ e)
-    go false e k more = (inr (more k).0, (more k).1)
-
--- ---- what holds of each
-
-pub of_each : {X : Type 0} (P : X → Type 0) (x : X) (xs : List X) → AllByRecursion P xs → In x xs → P x
-of_each P x [] all h = absurd h
-of_each P x (y ∷ ys) all (inl e) = subst P e all.0
-of_each P x (y ∷ ys) all (inr h) = of_each P x ys all.1 h
-
-pub each_in : {X : Type 0} (P : X → Type 0) (xs : List X) → ((x : X) → In x xs → P x) → AllByRecursion P xs
-each_in P [] each = tt
-each_in P (x ∷ xs) each = (each x (inl refl), each_in P xs (λ y h. each y (inr h)))
 
 -- ---- numbers from one on
 

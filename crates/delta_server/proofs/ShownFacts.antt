@@ -290,6 +290,14 @@ module _ (laws : SetLaws) where
 
 -- ---- how many
 
+pub few_kept : (p : List ℕ → Bool) (ms : List (List ℕ)) → length (filter p ms) ≤ length ms
+few_kept p [] = omega arith
+few_kept p (m ∷ ms) = go (p m) (few_kept p ms)
+  where
+    go : (b : Bool) → length (filter p ms) ≤ length ms → length (cond b (m ∷ filter p ms) (filter p ms)) ≤ suc (length ms)
+    go true more = omega (arith, more)
+    go false more = omega (arith, more)
+
 pub few_with : (q : List ℕ) (set : List (List ℕ)) → length (with_member q set) ≤ suc (length set)
 few_with q [] = omega arith
 few_with q (y ∷ ys) = go (bytes_cmp q y) (few_with q ys)

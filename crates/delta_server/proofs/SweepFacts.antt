@@ -18,8 +18,7 @@ use Rattle.delta_server.proofs.CountFacts.{SetLaws}
 use Rattle.delta_server.proofs.MarkFacts.{bit, tells_more}
 use Rattle.delta_server.proofs.Membership.{In, in_left, in_right}
 use Rattle.delta_server.proofs.SetCounts.{kept, difference_by_shared}
-use Rattle.delta_server.proofs.SetFacts.{few_kept}
-use Rattle.delta_server.proofs.ShownFacts.{same_test, both_true, first_true, second_true, of_all, length_shown, kept_shown, held_is, kept_both, shown_is}
+use Rattle.delta_server.proofs.ShownFacts.{same_test, both_true, first_true, second_true, of_all, few_kept, length_shown, kept_shown, held_is, kept_both, shown_is}
 use Rattle.delta_server.proofs.TargetFacts.{greatest_step, greatest_within, greatest_from, reach, later, target_none}
 
 -- a list at one of its places

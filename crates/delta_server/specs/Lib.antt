@@ -5,6 +5,5 @@ pub mod Served
 pub mod Sweeping
 pub mod Swept
 pub mod Tokens
-pub mod Updates
 pub mod Version
 pub mod Walk

@@ -14,14 +14,15 @@ use crate::served::{Served, served_list, set_at};
 use crate::swept::Swept;
 use crate::targets::{Limits, newest_delta, older_target, whole_target};
 use crate::tokens::{held_version, state_token};
-use crate::updates::{
-    Sent, delta_update, full_update, numbered_update, partial_update, unchanged_update,
-};
 use list_versions::History;
 use prefix_set::{Delta, PrefixSet};
 use sb_model::{ListName, OutOfMemory, Row};
+use set_updates::{
+    Sent, delta_update, differences_may_be_sent, full_update, numbered_update,
+    numbers_go_by_members, partial_update, unchanged_update,
+};
 use std::alloc::Global;
-use update_messages::{ListRequest, ListUpdate, sent_numbers_rise};
+use update_messages::{ListRequest, ListUpdate};
 
 // The limits of an asked list.
 fn limits_of(asked: &ListRequest) -> Limits
@@ -45,6 +46,7 @@ fn newest_whole(
     ensures { IfOk result (λ update. update ≡ update_to history.now.versions (server_naming history.now.versions) asked.now None
         (version_count history.now.versions)) }
 {
+    numbers_go_by_members();
     let token = state_token(history.epoch(), asked.name, history.len());
     let sent = Sent {
         set: served.set,
@@ -118,7 +120,7 @@ fn led_answer(
     requires digest { digest ≡ sha256 (concatenation (prefixes_at history.now.versions asked.now.name version)) }
     ensures { IfOk result (λ update. update ≡ update_to history.now.versions (server_naming history.now.versions) asked.now (Some held) version) }
 {
-    sent_numbers_rise();
+    differences_may_be_sent();
     // looked at for the prover: what holds of each history that was read
     let _ = history.len();
     let token = state_token(history.epoch(), asked.name, version);

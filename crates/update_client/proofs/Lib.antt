@@ -1,4 +1,5 @@
 pub mod AnswerSets
+pub mod BetweenSets
 pub mod Births
 pub mod Blocks
 pub mod GenuineAnswers

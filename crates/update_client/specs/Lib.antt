@@ -1,4 +1,5 @@
 pub mod Asked
+pub mod Between
 pub mod Feeding
 pub mod Genuine
 pub mod Held

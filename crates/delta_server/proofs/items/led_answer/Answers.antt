@@ -8,7 +8,7 @@ use Rattle.update_messages.specs.Answer.{update_to, difference_update}
 use Rattle.update_messages.specs.Messages.{AskedList, UpdatedList}
 use Rattle.delta_server.specs.Tokens.{server_token, server_naming}
 use Rattle.delta_server.proofs.AnswerFacts.{partial_is, token_same}
-use Rattle.delta_server.proofs.UpdateFacts.{may_be_sent, few_prefixes}
+use Rattle.delta_server.proofs.LeadFacts.{few_prefixes}
 use Rattle.delta_server.proofs.items.led_answer.Goals as goal
 
 pub delta_update-requires : goal.delta_update-requires
@@ -17,7 +17,7 @@ delta_update-requires c =
     let asked : AskedList = c.args.asked.now in
     let old : List (List ℕ) = prefixes_at versions asked.name c.args.held in
     let newer : List (List ℕ) = prefixes_at versions asked.name c.args.version in
-    may_be_sent c.args.delta old newer (c.sent_numbers_rise.ensures.places old newer) c.requires.delta.removals c.requires.delta.additions
+    c.differences_may_be_sent.ensures c.args.delta old newer c.requires.delta.removals c.requires.delta.additions
     (few_prefixes versions asked.name c.args.held c.len.ensures.within c.requires.within) (few_prefixes versions asked.name c.args.version c.len.ensures.within c.requires.version)
 
 pub returns : goal.returns

@@ -1,8 +1,9 @@
 use Rattle.std.proofs.Common.{◌≡◌, ℕ, List, None, ap, refl, ◌∙◌}
+use Rattle.std.specs.Prelude.{filter}
 use Rattle.std.proofs.lemmas.Result.{IfOk-weaker}
 use Rattle.sb_model.specs.declared.names.ListName.{ListName}
 use Rattle.sb_model.specs.History.{History, prefixes_at, version_count}
-use Rattle.update_messages.specs.Answer.{update_to, whole_update}
+use Rattle.update_messages.specs.Answer.{has_size, update_to, whole_update}
 use Rattle.update_messages.specs.Messages.{AskedList, UpdatedList}
 use Rattle.delta_server.specs.Tokens.{server_token, server_naming}
 use Rattle.delta_server.proofs.AnswerFacts.{whole_is}
@@ -18,6 +19,10 @@ module _ (history : History) (asked : AskedList) (set : List (List ℕ)) (token 
 
   wanted : set ≡ prefixes_at history asked.name (version_count history) → token ≡ server_token history.epoch asked.name (version_count history) → (update : UpdatedList) → Made update → Wanted update
   wanted sent named update made = whole_is history asked set token (version_count history) (version_count history) update made sent named refl
+
+pub numbered_update-requires-clause-numbers : goal.numbered_update-requires-clause-numbers
+numbered_update-requires-clause-numbers c =
+    c.numbers_go_by_members.ensures (filter (has_size 4) c.args.served.now.set.now) c.args.served.now.numbers.now c.requires.numbers.rising c.requires.numbers.same
 
 pub returns : goal.returns
 returns c =

@@ -2,8 +2,7 @@ use Rattle.std.proofs.Common.{◌+◌, ◌<◌, ◌^◌, ℕ, length, arith}
 use Rattle.delta_server.specs.Sweeping.{shown_at}
 use Rattle.delta_server.proofs.MarkFacts.{next_level}
 use Rattle.delta_server.proofs.SetCounts.{kept}
-use Rattle.delta_server.proofs.SetFacts.{few_kept}
-use Rattle.delta_server.proofs.ShownFacts.{few_shown}
+use Rattle.delta_server.proofs.ShownFacts.{few_kept, few_shown}
 use Rattle.sb_model.specs.Difference.{has_member}
 use Rattle.delta_server.proofs.sweeping.Level.next.Goals as goal
 

@@ -1,6 +1,0 @@
-use Rattle.std.proofs.Common.{◌≡◌, map, take}
-use Rattle.std.specs.Int.{w32, from_le_bytes}
-use Rattle.delta_server.proofs.numbers.numbers_in_order.Given as goal
-
-abbrev pub invariant-loop-quad : goal.invariant-loop-quad
-invariant-loop-quad l = l.numbers.items ≡ map (from_le_bytes w32) (take l.quad-index l.quads)

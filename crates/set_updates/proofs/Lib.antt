@@ -1,0 +1,5 @@
+pub mod Membership
+pub mod NumberFacts
+pub mod SameSets
+pub mod SetFacts
+pub mod UpdateFacts

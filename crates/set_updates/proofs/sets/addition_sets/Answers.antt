@@ -1,0 +1,32 @@
+use Rattle.std.proofs.Common.{◌-◌, ap, subst, sym, ◌∙◌, ◌≡◌, arith}
+use Rattle.std.specs.Prelude.{All}
+use Rattle.std.proofs.lemmas.List.Elements.{All-push}
+use Rattle.update_messages.specs.Messages.{IsAddition}
+use Rattle.set_updates.proofs.SetFacts.{sets_up_to, sets_pushed, sets_kept}
+use Rattle.set_updates.proofs.sets.addition_sets.Goals as goal
+use Rattle.set_updates.proofs.sets.addition_sets.Goals.{then-sizes-size+in_ok-bytes+in_ok-addition_set+in_ok-push, else-sizes-size}
+
+pub addition_set-requires-clause-members : goal.addition_set-requires-clause-members
+addition_set-requires-clause-members c =
+    (c.args.members.now, c.in_ok-bytes.ensures, sym (c.sizes_in-sizes.ensures.occurs c.loop-size.size (omega arith)) ∙ c.if-sizes-size.true, c.requires)
+
+pub loop-size-preserved : goal.loop-size-preserved
+loop-size-preserved c =
+    elim c.if-sizes-size.branch [
+      | then-sizes-size+in_ok-bytes+in_ok-addition_set+in_ok-push w ↦ (
+        sets_pushed c.args.rice c.args.members.now c.loop-size.size c.loop-size.sets c.if-sizes-size.sets w.in_ok-addition_set.field-0 c.loop-size.auto.size
+            (sym (c.sizes_in-sizes.ensures.occurs c.loop-size.size (omega arith)) ∙ w.if-sizes-size.true) c.loop-size.invariant.0
+            (w.in_ok-addition_set.ensures.set c.args.members.now w.in_ok-bytes.ensures) (w.sets-is ∙ w.in_ok-push.ensures.ok),
+        subst (All IsAddition) (sym (w.sets-is ∙ w.in_ok-push.ensures.ok))
+            (All-push IsAddition c.loop-size.sets w.in_ok-addition_set.field-0 c.loop-size.invariant.1 w.in_ok-addition_set.ensures.keeps),
+      )
+      | else-sizes-size w ↦ (
+        w.sets-is ∙ sets_kept c.args.rice c.args.members.now c.loop-size.size c.loop-size.sets c.loop-size.auto.size (sym (c.sizes_in-sizes.ensures.occurs c.loop-size.size (omega arith)) ∙ w.if-sizes-size.false) c.loop-size.invariant.0,
+        subst (All IsAddition) (sym w.sets-is) c.loop-size.invariant.1,
+      )
+    ]
+
+pub returns-clause-sets : goal.returns-clause-sets
+returns-clause-sets c =
+    let all : c.loop-size.size ≡ 33 = omega arith in
+    c.loop-size.invariant.0 ∙ ap (λ n. sets_up_to c.args.rice c.args.members.now (n - 4)) all

@@ -1,0 +1,14 @@
+use Rattle.update_client.proofs.BetweenSets.{updates_lead}
+use Rattle.update_client.proofs.laws.updates_lead_to_their_sets.Goals as goal
+
+pub returns : goal.returns
+returns c = updates_lead (record {
+  leads = c.differences_lead.ensures.leads;
+  in_range = c.differences_lead.ensures.in_range;
+  rising = c.sets_go_by_members.ensures.rising;
+  members = c.sets_go_by_members.ensures.members;
+  only = c.sets_go_by_members.ensures.only;
+  same = c.sets_go_by_members.ensures.same;
+  decodes = c.encoding_is_decoded.ensures;
+  rise = c.sent_numbers_rise.ensures;
+})
