@@ -12,20 +12,20 @@ use Rattle.http_edge.specs.declared.messages.Target.{Target}
 use Rattle.wait_rules.specs.declared.waits.WaitState.{WaitState}
 use Rattle.client_line.specs.Lines.{LineView, Draws}
 use Rattle.timed_sessions.specs.Told.{Outside, Grows, with_more}
-use Rattle.timed_sessions.specs.Timed.{TimedSession, IsTimedOpening, HoldsTimed, HoldsTimedPart, TellsSession, trace_after}
+use Rattle.timed_sessions.specs.Timed.{TimedSession, IsTimedOpening, TellsSession, trace_after}
 use Rattle.timed_sessions.specs.Waiting.{HasSettled, drawn_of}
 use Rattle.verdict_report.specs.declared.verdicts.Cause.{Cause}
 use Rattle.verdict_report.specs.declared.verdicts.Cause.TheVariants.{Exchange}
 use Rattle.verdict_report.specs.declared.verdicts.Verdict.{Verdict}
 use Rattle.url_checker.specs.declared.findings.Hit.{Hit}
-use Rattle.url_checker.specs.declared.asking.Answered.{Answered}
+use Rattle.find_sessions.specs.Asking.{find_bids, find_body, HearsFind, StopsAsking}
+use Rattle.find_sessions.specs.declared.asking.AnsweredFind.{AnsweredFind}
 use Rattle.url_checker.specs.declared.finds.Finds.{Finds}
 use Rattle.url_checker.specs.declared.looking.Looks.{Looks}
 use Rattle.timed_sessions.specs.declared.timing.Opening.{Opening}
-use Rattle.timed_sessions.specs.declared.timing.Talk.{Talk}
 use Rattle.http_edge.specs.Exchanges.{CountsSendFault}
-use Rattle.url_checker.specs.Resolving.{lists_hit, find_asked, kept_by, find_bids, find_body, find_body_asked}
-use Rattle.url_checker.specs.Looking.{HearsFind, IsOpenFind, StopsAsking, verdict_after}
+use Rattle.url_checker.specs.Resolving.{lists_hit, find_asked, kept_by, find_body_asked}
+use Rattle.url_checker.specs.Looking.{IsOpenFind, verdict_after}
 use Rattle.url_checker.specs.Several.{AskedFind, MakesFind, MakesFindFor}
 
 pub on_err : {A E : Type 0} (P : Type 0) (r : Result A E) → P → OnErr r P
@@ -44,7 +44,7 @@ told_of_find waits session before between after drawn told draws = record {
 
 -- a find that was made and ended
 module _ (find : AskedFind) (finds finds' : Finds) (before between after : LineView) where
-  pub made_for : (request : AskedHashes) (answered : Answered) (answer : Result FindResponse Cause) → request ≡ find_asked find.states find.asked → answer ≡ answered.answer
+  pub made_for : (request : AskedHashes) (answered : AnsweredFind) (answer : Result FindResponse Cause) → request ≡ find_asked find.states find.asked → answer ≡ answered.answer
       → HearsFind finds.waits find.now find.target (find_body request) find.need before.told between.told answered
       → HasSettled finds.waits finds'.waits answered.closed (find_bids answered.answer) between after
       → finds'.cache ≡ kept_by answered.closed (lists_hit find.asked) request answered.answer finds.cache
@@ -73,7 +73,7 @@ module _ (find : AskedFind) (finds finds' : Finds) (before between after : LineV
       }
 
   -- a find for the hits of a look
-  pub made_if : (look : Looks) (request : AskedHashes) (answered : Answered) (result : Result Verdict OutOfMemory) → request ≡ find_asked find.states find.asked
+  pub made_if : (look : Looks) (request : AskedHashes) (answered : AnsweredFind) (result : Result Verdict OutOfMemory) → request ≡ find_asked find.states find.asked
       → HearsFind finds.waits find.now find.target (find_body request) find.need before.told between.told answered
       → OnOk result (HasSettled finds.waits finds'.waits answered.closed (find_bids answered.answer) between after)
       → OnOk result (finds'.cache ≡ kept_by answered.closed (lists_hit find.asked) request answered.answer finds.cache)
@@ -87,7 +87,7 @@ module _ (find : AskedFind) (finds finds' : Finds) (before between after : LineV
   }
   made_if look request answered (Err refused) same held settled kept by failed stays = tt
 
-pub stops_after : (states : List (List ℕ)) (target : Target) (need : Bool) (now : Moment) (asked : List Hit) (waits : WaitState) (before after : Outside) (request : AskedHashes) (answered : Answered) → request ≡ find_asked states asked
+pub stops_after : (states : List (List ℕ)) (target : Target) (need : Bool) (now : Moment) (asked : List Hit) (waits : WaitState) (before after : Outside) (request : AskedHashes) (answered : AnsweredFind) → request ≡ find_asked states asked
     → HearsFind waits now target (find_body request) need before after answered → StopsAsking waits now target (find_body_asked states asked) before after
 stops_after states target need now asked waits before after request answered same held =
     let it : HearsFind waits now target (find_body_asked states asked) need before after answered =
@@ -95,7 +95,7 @@ stops_after states target need now asked waits before after request answered sam
     inr (record { session = it.holds.session; is = it.holds.is; told = it.holds.told; reading = it.holds.reading })
 
 -- a session that was held, of which no more is said
-pub stopped_after : (states : List (List ℕ)) (target : Target) (need : Bool) (now : Moment) (asked : List Hit) (waits : WaitState) (before : Outside) (between after : LineView) (request : AskedHashes) (answered : Answered) (result : Result Verdict OutOfMemory) → request ≡ find_asked states asked
+pub stopped_after : (states : List (List ℕ)) (target : Target) (need : Bool) (now : Moment) (asked : List Hit) (waits : WaitState) (before : Outside) (between after : LineView) (request : AskedHashes) (answered : AnsweredFind) (result : Result Verdict OutOfMemory) → request ≡ find_asked states asked
     → HearsFind waits now target (find_body request) need before between.told answered
     → OnErr result (after ≡ between)
     → OnErr result (StopsAsking waits now target (find_body_asked states asked) before after.told)
@@ -123,13 +123,8 @@ opened_if states target now asked waits before after request opening same opens 
 }
 
 -- what was asked is what the request of an open find says
-pub asked_for : (states : List (List ℕ)) (target : Target) (need : Bool) (now : Moment) (asked : List Hit) (waits : WaitState) (before between : Outside) (request : AskedHashes) (answered : Answered)
+pub asked_for : (states : List (List ℕ)) (target : Target) (need : Bool) (now : Moment) (asked : List Hit) (waits : WaitState) (before between : Outside) (request : AskedHashes) (answered : AnsweredFind)
     → request ≡ find_asked states asked → HearsFind waits now target (find_body_asked states asked) need before between answered
     → HearsFind waits now target (find_body request) need before between answered
 asked_for states target need now asked waits before between request answered same has =
     subst (λ (text : AskedHashes). HearsFind waits now target (find_body text) need before between answered) (sym same) has
-
--- a session that was held to its end was held
-pub held_so_far : (waits : WaitState) (now : Moment) (target : Target) (body : List ℕ) (need : Bool) (before after : Outside) (talk : Talk)
-    → HoldsTimed waits now target Find body need before after talk → HoldsTimedPart waits now target Find body before after
-held_so_far waits now target body need before after talk holds = record { session = holds.session; is = holds.is; told = holds.told; reading = holds.reading }

@@ -18,12 +18,13 @@ use Rattle.timed_sessions.specs.Waiting.{drawn_of}
 use Rattle.verdict_report.specs.declared.verdicts.Cause.{Cause}
 use Rattle.verdict_report.specs.declared.verdicts.Cause.TheVariants.{NotBefore}
 use Rattle.verdict_report.specs.declared.verdicts.Verdict.{Verdict}
+use Rattle.find_sessions.specs.Asking.{StopsAsking}
 use Rattle.url_checker.specs.declared.findings.Hit.{Hit}
 use Rattle.url_checker.specs.declared.finds.Finds.{Finds}
 use Rattle.url_checker.specs.declared.looking.Looked.{Looked}
 use Rattle.url_checker.specs.declared.looking.Looks.{Looks}
 use Rattle.url_checker.specs.Resolving.{lists_hit, find_asked, kept_by, is_any, makes_find, hits_asked, unsafe_lists, open_cause, verdict_from, verdict_by, looked_up_pairs, trace_of_reading, IsFindTalk, find_body_asked}
-use Rattle.url_checker.specs.Looking.{looked_of, unsafe_in, verdict_after, StopsAsking}
+use Rattle.url_checker.specs.Looking.{looked_of, unsafe_in, verdict_after}
 use Rattle.url_checker.specs.Several.{asked_find, MakesFind}
 use Rattle.url_checker.specs.Resolved.{Resolves, StopsResolving, HoldsFindSession, unresolved}
 use Rattle.url_checker.proofs.LookFacts.{unsafe_are}

@@ -5,17 +5,10 @@ use Rattle.std.specs.List.{fold, list_any}
 use Rattle.std.specs.Str.{bytes_eq}
 use Rattle.sb_model.specs.declared.names.ListName.{ListName}
 use Rattle.sb_model.specs.declared.time.Moment.{Moment}
-use Rattle.sb_model.specs.declared.time.Duration.{Duration}
 use Rattle.sb_model.specs.Names.{threats, platforms, entries, threat_code, platform_code, entry_code, same_name}
 use Rattle.sb_model.specs.Time.{later_than}
 use Rattle.sb_outside.specs.declared.links.Kind.TheVariants.{Find}
-use Rattle.sb_json.specs.Values.{value_of}
-use Rattle.update_messages.specs.Reading.{IsTextOf}
-use Rattle.update_messages.specs.Faults.{fault_of_text}
 use Rattle.hash_messages.specs.Messages.{AskedHashes}
-use Rattle.hash_messages.specs.Reading.{ReadsFindResponse}
-use Rattle.hash_messages.specs.Faults.{fault_of_find_response}
-use Rattle.hash_messages.specs.Writing.{spelling_of_find_request}
 use Rattle.hash_messages.specs.declared.response.FindResponse.{FindResponse}
 use Rattle.update_client.specs.Held.{in_order}
 use Rattle.full_hash_cache.specs.Cache.{Pairs, pair_of, cached_of, asked_pairs, taken}
@@ -28,9 +21,10 @@ use Rattle.timed_sessions.specs.Told.{Trace}
 use Rattle.timed_sessions.specs.Timed.{TimedSession, IsTimedSession, IsHeldToEnd, trace_of}
 use Rattle.timed_sessions.specs.Waiting.{ClosedSession, IsDrawnFor, drawn_of, waits_after}
 use Rattle.verdict_report.specs.declared.verdicts.Cause.{Cause}
-use Rattle.verdict_report.specs.declared.verdicts.Cause.TheVariants.{NotBefore, Exchange, Message}
+use Rattle.verdict_report.specs.declared.verdicts.Cause.TheVariants.{NotBefore}
 use Rattle.verdict_report.specs.declared.verdicts.Verdict.{Verdict}
 use Rattle.verdict_report.specs.declared.verdicts.Verdict.TheVariants.{Safe, Unsafe, Undecided}
+use Rattle.find_sessions.specs.Asking.{find_body, IsFindAnswerOf, find_bids}
 use Rattle.url_checker.specs.Hits.{prefixes_hit}
 use Rattle.url_checker.specs.declared.findings.Hit.{Hit}
 
@@ -67,30 +61,13 @@ find_asked states hits = record {
   prefixes = prefixes_hit hits;
 }
 
--- the body of a request for a find: its one spelling
-unfoldable pub find_body : AskedHashes → List ℕ
-find_body asked = spelling_of_find_request asked
-
--- that of the find for some hits
+-- the body of the request for some hits
 abbrev pub find_body_asked : List (List ℕ) → List Hit → List ℕ
 find_body_asked states hits = find_body (find_asked states hits)
 
 -- the lists of some hits, in the order of their names, each once
 abbrev pub lists_hit : List Hit → List ListName
 lists_hit hits = in_order (map (λ (hit : Hit). hit.list) hits)
-
--- What a session's outcome comes to: its fault, or the message that its body is, or the first fault of that body.
-abbrev pub IsFindAnswerOf : Result (List ℕ) ExchangeFault → Result FindResponse Cause → Type 0
-IsFindAnswerOf (Err fault) answer = answer ≡ Err (Exchange fault)
-IsFindAnswerOf (Ok body) (Ok message) = IsTextOf ReadsFindResponse body message
-IsFindAnswerOf (Ok body) (Err (Message fault)) = fault_of_text fault_of_find_response (value_of body) ≡ Some fault
-IsFindAnswerOf (Ok body) (Err (Exchange fault)) = ⊥
-IsFindAnswerOf (Ok body) (Err (NotBefore moment)) = ⊥
-
--- how long a message bids to wait
-abbrev pub find_bids : Result FindResponse Cause → Option Duration
-find_bids (Ok message) = Some message.wait
-find_bids (Err cause) = None
 
 -- A find: its session, the message that it brought, or why it brought none, and the word that was drawn.
 pub record FindTalk : Type 0 where

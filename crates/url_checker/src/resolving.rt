@@ -6,18 +6,20 @@ ghost use Rattle.http_edge.specs.declared.messages.Target.{Target};
 ghost use Rattle.sb_model.specs.declared.time.Moment.{Moment};
 ghost use Rattle.client_line.specs.Lines.{LineView};
 ghost use Rattle.timed_sessions.specs.Waiting.{HasSettled};
+ghost use Rattle.find_sessions.specs.Asking.{find_bids, StopsAsking};
 ghost use Rattle.url_checker.specs.Hits.{AreAskable, prefixes_hit};
-ghost use Rattle.url_checker.specs.Resolving.{verdict_from, lists_hit, find_bids, kept_by, open_cause, find_body_asked, makes_find};
-ghost use Rattle.url_checker.specs.Looking.{unsafe_in, verdict_after, IsOpenFind, StopsAsking};
+ghost use Rattle.url_checker.specs.Resolving.{verdict_from, lists_hit, kept_by, open_cause, find_body_asked, makes_find};
+ghost use Rattle.url_checker.specs.Looking.{unsafe_in, verdict_after, IsOpenFind};
 ghost use Rattle.url_checker.specs.Resolved.{Resolves, StopsResolving, unresolved};
 ghost use Rattle.url_checker.specs.Several.{asked_find, MakesFind};
 
-use crate::asking::{Answered, OpenFind, hear};
+use crate::asking::OpenFind;
 use crate::looking::{Looked, Looks, look, unsafe_names};
 use crate::naming::lists_of;
 use crate::several::begin_find_for;
 use crate::{Finding, Finds, Hit};
 use client_line::Line;
+use find_sessions::{AnsweredFind, end_find_session};
 use full_hash_cache::FullHashCache;
 use hash_messages::{FindRequest, FindResponse};
 use http_edge::{ExchangeFault, Target};
@@ -67,7 +69,7 @@ fn conclude<N: Line>(
     alloc: Global,
     looks: Looks,
     request: &FindRequest,
-    answered: Answered,
+    answered: AnsweredFind,
     finds: &mut Finds,
     line: &mut N,
 ) -> Result<Verdict, OutOfMemory>
@@ -88,7 +90,7 @@ fn conclude<N: Line>(
         asked,
         told,
     } = looks;
-    let Answered { closed, answer } = answered;
+    let AnsweredFind { closed, answer } = answered;
     match answer {
         Ok(message) => {
             let verdict = take_message(
@@ -178,7 +180,7 @@ pub fn end_find<N: Line>(
     ensures same { (N.view line.new).objects ≡ (N.view line.old).objects }
 {
     let OpenFind { request, opening } = find;
-    let answered = hear(alloc, opening, need_digest, line)?;
+    let answered = end_find_session(alloc, opening, need_digest, line)?;
     conclude(alloc, looks, &request, answered, finds, line)
 }
 

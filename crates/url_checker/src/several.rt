@@ -7,25 +7,27 @@ ghost use Rattle.full_hash_cache.specs.Cache.{Pairs};
 ghost use Rattle.http_edge.specs.Exchanges.{CountsSendFault, IsTarget};
 ghost use Rattle.http_edge.specs.declared.messages.Target.{Target};
 ghost use Rattle.client_line.specs.Lines.{LineView};
+ghost use Rattle.find_sessions.specs.Asking.{StopsAsking};
 ghost use Rattle.url_checker.specs.Hits.{prefixes_hit};
-ghost use Rattle.url_checker.specs.Resolving.{find_bids, find_body_asked, open_cause, find_asked, kept_by, lists_hit, message_in, verdict_by};
-ghost use Rattle.url_checker.specs.Looking.{IsOpenFind, StopsAsking};
+ghost use Rattle.url_checker.specs.Resolving.{find_body_asked, open_cause, find_asked, kept_by, lists_hit, message_in, verdict_by};
+ghost use Rattle.url_checker.specs.Looking.{IsOpenFind};
 ghost use Rattle.url_checker.specs.Several.{all_asked, asked_find, AreTogether, IsLookOf, MakesFindFor};
 ghost use Rattle.url_checker.specs.declared.findings.Hit.{Hit};
 ghost use Rattle.url_checker.specs.declared.looking.Looks.{Looks};
 
-use crate::asking::{Answered, OpenFind, begin_for, hear};
+use crate::asking::OpenFind;
 use crate::looking::{Looks, unsafe_names};
 use crate::naming::lists_of;
 use crate::request::{find_for, push_prefixes, set_members};
 use crate::resolving::verdict_with;
 use crate::{Finds, Hit};
 use client_line::Line;
+use find_sessions::{AnsweredFind, begin_find_session, bids, end_find_session};
 use full_hash_cache::FullHashCache;
 use hash_messages::{FindRequest, FindResponse};
 use http_edge::{ExchangeFault, Target};
 use prefix_set::{PrefixSet, sets_go_by_members};
-use sb_model::{Bytes, Duration, Moment, OutOfMemory, Row};
+use sb_model::{Bytes, Moment, OutOfMemory, Row};
 use std::alloc::Global;
 use timed_sessions::settle;
 use verdict_report::{Cause, Verdict};
@@ -128,7 +130,7 @@ pub fn begin_find_for<N: Line>(
     ensures same { (N.view line.new).objects ≡ (N.view line.old).objects }
 {
     let request = find_for(alloc, states, asked)?;
-    let opening = begin_for(alloc, waits, now, target, &request, line)?;
+    let opening = begin_find_session(alloc, waits, now, target, &request, line)?;
     Ok(OpenFind { request, opening })
 }
 
@@ -137,7 +139,7 @@ fn keep_answer(
     alloc: Global,
     asked: &[Hit],
     request: &FindRequest,
-    answered: &Answered,
+    answered: &AnsweredFind,
     cache: &mut FullHashCache,
 ) -> Result<(), OutOfMemory>
     ensures pairs { OnOk result (cache.new ≡ kept_by answered.now.closed (lists_hit asked.now) request.now answered.now.answer cache.old) }
@@ -149,16 +151,6 @@ fn keep_answer(
     let lists = lists_of(alloc, asked)?;
     cache.take(alloc, answered.closed, lists.as_slice(), request, message)?;
     Ok(())
-}
-
-// How long an answer bids to wait.
-fn bids(answer: &Result<FindResponse, Cause>) -> Option<Duration>
-    ensures { result ≡ find_bids answer.now }
-{
-    match answer {
-        Ok(message) => Some(message.wait),
-        Err(_) => None,
-    }
 }
 
 /// Ends a find that `begin_find_for` left open, and gives its answer, which `verdict_by_answer` reads for each look. In between
@@ -191,7 +183,7 @@ pub fn end_find_for<N: Line>(
     ensures same { (N.view line.new).objects ≡ (N.view line.old).objects }
 {
     let OpenFind { request, opening } = find;
-    let answered = hear(alloc, opening, need_digest, line)?;
+    let answered = end_find_session(alloc, opening, need_digest, line)?;
     keep_answer(alloc, asked, &request, &answered, &mut finds.cache)?;
     settle(
         &mut finds.waits,

@@ -8,11 +8,11 @@ use Rattle.url_checker.proofs.several.end_find_for.Goals as goal
 pub returns-clause-made : goal.returns-clause-made
 returns-clause-made g c = λ states target now start opens.
     made_for (asked_find states target c.args.need_digest now c.args.asked.now) c.args.finds.now (record { cache = c.keep_answer.new.cache; waits = c.settle.new.waits })
-    start (g.N.Line.view c.hear.new.line) (g.N.Line.view c.settle.new.line)
+    start (g.N.Line.view c.end_find_session.new.line) (g.N.Line.view c.settle.new.line)
     c.args.find.request c.in_ok-answered.answered c.in_ok-answered.answered.answer opens.request refl
     (asked_for states target c.args.need_digest now c.args.asked.now c.args.finds.now.waits start.told _ c.args.find.request c.in_ok-answered.answered opens.request
     (c.in_ok-answered.ensures.asked c.args.finds.now.waits now target _ start.told opens.opened))
-    (subst (λ (bids : Option Duration). HasSettled c.args.finds.now.waits c.settle.new.waits c.in_ok-answered.answered.closed bids (g.N.Line.view c.hear.new.line) (g.N.Line.view c.settle.new.line)) c.bids.ensures c.settle.ensures)
+    (subst (λ (bids : Option Duration). HasSettled c.args.finds.now.waits c.settle.new.waits c.in_ok-answered.answered.closed bids (g.N.Line.view c.end_find_session.new.line) (g.N.Line.view c.settle.new.line)) c.bids.ensures c.settle.ensures)
     c.in_ok-keep_answer.ensures.pairs
     (c.in_ok-answered.ensures.failed start.told.faults opens.counts) (c.in_ok-answered.ensures.kept start.told.faults opens.counts)
 

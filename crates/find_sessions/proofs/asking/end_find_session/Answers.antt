@@ -1,6 +1,6 @@
 use Rattle.sb_outside.specs.declared.links.Kind.TheVariants.{Find}
-use Rattle.url_checker.proofs.FindFacts.{on_err, held_so_far}
-use Rattle.url_checker.proofs.asking.hear.Goals as goal
+use Rattle.find_sessions.proofs.AskingFacts.{on_err, held_so_far}
+use Rattle.find_sessions.proofs.asking.end_find_session.Goals as goal
 
 pub returns-clause-asked : goal.returns-clause-asked
 returns-clause-asked g c = λ waits now target body start opens. record {

@@ -1,0 +1,2 @@
+mod AskingFacts
+mod PassingFacts
