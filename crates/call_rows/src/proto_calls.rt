@@ -3,7 +3,8 @@ use crate::finds::push_find;
 use crate::printing::{push_client, push_fault, push_hex, push_name};
 use hash_messages::read_matches;
 use proto_messages::{
-    NumberedFetch, NumberedFind, ProtoFault, read_fetch, read_find, write_fetch, write_matches,
+    NumberedFetch, NumberedFind, ProtoFault, message_of_query, push_cause, read_fetch, read_find,
+    write_fetch, write_matches,
 };
 use sb_model::{Bytes, OutOfMemory};
 use std::alloc::Global;
@@ -14,6 +15,7 @@ pub fn call(alloc: Global, name: &[u8], text: &[u8], out: &mut Bytes) -> Result<
     match name {
         b"read-proto-fetch" => read_fetch_row(alloc, text, out)?,
         b"read-proto-find" => read_find_row(alloc, text, out)?,
+        b"query-message" => query_row(alloc, text, out)?,
         b"write-proto-matches" => write_matches_row(alloc, text, out)?,
         b"write-proto-response" => write_response_row(alloc, text, out)?,
         _ => return Ok(false),
@@ -29,8 +31,10 @@ fn bytes_of(alloc: Global, text: &[u8]) -> Bytes {
     }
 }
 
+/// Prints the cause of a message's fault, and what is told of it.
 fn push_proto_fault(alloc: Global, out: &mut Bytes, fault: ProtoFault) -> Result<(), OutOfMemory> {
-    let told = format!(in alloc; "{fault}")?;
+    push_cause(out, &fault)?;
+    let told = format!(in alloc; ": {fault}")?;
     out.append(told.as_bytes())
 }
 
@@ -76,6 +80,14 @@ fn push_found(alloc: Global, out: &mut Bytes, found: &NumberedFind) -> Result<()
     push_find(alloc, out, &found.request)?;
     out.append(b" social=")?;
     out.append_decimal(found.social)
+}
+
+/// Prints the message that a text is the base64 text of, as hexadecimal.
+fn query_row(alloc: Global, text: &[u8], out: &mut Bytes) -> Result<(), OutOfMemory> {
+    match message_of_query(alloc, text) {
+        Ok(message) => push_hex(alloc, out, message.as_slice()),
+        Err(fault) => push_proto_fault(alloc, out, fault),
+    }
 }
 
 /// Writes a response that is read from JSON, as hexadecimal, where SOCIAL_ENGINEERING was asked by 5.

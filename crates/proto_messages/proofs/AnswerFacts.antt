@@ -33,13 +33,13 @@ pub record IsReadAgain : Type 0 where
 -- ---- fields that are written
 
 -- the numbers of a value have spellings; its bytes have one if they are few
-abbrev IsLow : WireValue → Type 0
+abbrev pub IsLow : WireValue → Type 0
 IsLow (VarintValue number) = number < 2 ^ 64
 IsLow (Fixed64Value number) = number < 2 ^ 64
 IsLow (BytesValue bytes) = Unit {0}
 IsLow (Fixed32Value number) = number < 2 ^ 32
 
-abbrev AreLow : List WireField → Type 0
+abbrev pub AreLow : List WireField → Type 0
 AreLow fields = AllByRecursion (λ field. IsFieldNumber field.number × IsLow field.value) fields
 
 spelled : (number : ℕ) (value : WireValue) → IsLow value → length (written_field (record { number = number; value = value })) < 2 ^ 64 → HasSpelling value
@@ -48,7 +48,7 @@ spelled number (Fixed64Value n) low few = low
 spelled number (BytesValue bytes) low few = omega (arith, few, length_of_field number bytes)
 spelled number (Fixed32Value n) low few = low
 
-writable : (fields : List WireField) → AreLow fields → length (written_fields fields) < 2 ^ 64 → AreWritable fields
+pub writable : (fields : List WireField) → AreLow fields → length (written_fields fields) < 2 ^ 64 → AreWritable fields
 writable [] low few = tt
 writable (f ∷ fields) low few =
     let all = length-append (written_field f) (written_fields fields) in
@@ -58,24 +58,24 @@ reading_again : IsReadAgain → (fields : List WireField) → AreLow fields → 
     → wire_fields (written_fields fields) ≡ record { items = fields; fault = None }
 reading_again law fields low few = (law.read (written_fields fields) fields).1 (law.written fields (writable fields low few))
 
-fields_again : IsReadAgain → (name : Field) (fields : List WireField) → AreLow fields → length (written_fields fields) < 2 ^ 64
+pub fields_again : IsReadAgain → (name : Field) (fields : List WireField) → AreLow fields → length (written_fields fields) < 2 ^ 64
     → fields_of name (written_fields fields) ≡ Ok fields
 fields_again law name fields low few = ap (λ (r : WireReading WireField). whole name r.items r.fault) (reading_again law fields low few)
 
-writable_left : (xs ys : List WireField) → AreWritable (xs ++ ys) → AreWritable xs
+pub writable_left : (xs ys : List WireField) → AreWritable (xs ++ ys) → AreWritable xs
 writable_left [] ys all = tt
 writable_left (x ∷ xs) ys all = (all.0, writable_left xs ys all.1)
 
-writable_right : (xs ys : List WireField) → AreWritable (xs ++ ys) → AreWritable ys
+pub writable_right : (xs ys : List WireField) → AreWritable (xs ++ ys) → AreWritable ys
 writable_right [] ys all = all
 writable_right (x ∷ xs) ys all = writable_right xs ys all.1
 
-low_both : (xs ys : List WireField) → AreLow xs → AreLow ys → AreLow (xs ++ ys)
+pub low_both : (xs ys : List WireField) → AreLow xs → AreLow ys → AreLow (xs ++ ys)
 low_both [] ys left right = right
 low_both (x ∷ xs) ys left right = (left.0, low_both xs ys left.1 right)
 
 -- ---- rows by the values of a number
-values_both : (number : ℕ) (xs ys : List WireField) → field_values_at number (xs ++ ys) ≡ field_values_at number xs ++ field_values_at number ys
+pub values_both : (number : ℕ) (xs ys : List WireField) → field_values_at number (xs ++ ys) ≡ field_values_at number xs ++ field_values_at number ys
 values_both number [] ys = refl
 values_both number (x ∷ xs) ys = go (nat_eq x.number number) refl (values_both number xs ys) where
   go : (b : Bool) → nat_eq x.number number ≡ b → field_values_at number (xs ++ ys) ≡ field_values_at number xs ++ field_values_at number ys
@@ -83,7 +83,7 @@ values_both number (x ∷ xs) ys = go (nat_eq x.number number) refl (values_both
   go true is later = rw is (ap (λ (l : List WireValue). x.value ∷ l) later)
   go false is later = rw is later
 
-number_is : (name : Field) (number n : ℕ) (fields : List WireField) → field_values_at number fields ≡ VarintValue n ∷ [] → number_row name number fields ≡ Ok n
+pub number_is : (name : Field) (number n : ℕ) (fields : List WireField) → field_values_at number fields ≡ VarintValue n ∷ [] → number_row name number fields ≡ Ok n
 unfolding number_row
 number_is name number n fields is = ap (last_value_of (number_in_field name) 0) is
 
@@ -91,7 +91,7 @@ number_none : (name : Field) (number : ℕ) (fields : List WireField) → field_
 unfolding number_row
 number_none name number fields is = ap (last_value_of (number_in_field name) 0) is
 
-bytes_is : (name : Field) (number : ℕ) (bytes : List ℕ) (fields : List WireField) → field_values_at number fields ≡ BytesValue bytes ∷ [] → bytes_row name number fields ≡ Ok bytes
+pub bytes_is : (name : Field) (number : ℕ) (bytes : List ℕ) (fields : List WireField) → field_values_at number fields ≡ BytesValue bytes ∷ [] → bytes_row name number fields ≡ Ok bytes
 unfolding bytes_row
 bytes_is name number bytes fields is = ap (last_value_of (bytes_in_field name) []) is
 
@@ -99,7 +99,7 @@ message_none : (name : Field) (number : ℕ) (fields : List WireField) → field
 unfolding message_row
 message_none name number fields is = ap (λ (values : List WireValue). each (message_of name) values >>= λ _. Ok (flat_map fields_in values)) is
 
-message_is : IsReadAgain → (name : Field) (number : ℕ) (inner fields : List WireField) → field_values_at number fields ≡ BytesValue (written_fields inner) ∷ []
+pub message_is : IsReadAgain → (name : Field) (number : ℕ) (inner fields : List WireField) → field_values_at number fields ≡ BytesValue (written_fields inner) ∷ []
     → AreLow inner → length (written_fields inner) < 2 ^ 64 → message_row name number fields ≡ Ok inner
 unfolding message_row
 message_is law name number inner fields is low few =
@@ -159,7 +159,7 @@ duration_parts name number fields duration s n is one two =
     ∙ ap (λ (r : Result ℕ PartFault). r >>= λ b. Ok (s * 1000000000 + b)) two
 
 -- a duration is read again, wherever its field stands, if there is no other field of its number
-duration_read : IsReadAgain → (name : Field) (number d : ℕ) (fields : List WireField) → nat_eq number number ≡ true → d ≤ 315576000000000000000
+pub duration_read : IsReadAgain → (name : Field) (number d : ℕ) (fields : List WireField) → nat_eq number number ≡ true → d ≤ 315576000000000000000
     → field_values_at number fields ≡ field_values_at number (duration_field number d) → AreWritable (duration_field number d) → duration_row name number fields ≡ Ok d
 duration_read law name number d fields same bound is fits = go (nat_eq d 0) refl where
   go : (b : Bool) → nat_eq d 0 ≡ b → duration_row name number fields ≡ Ok d
@@ -178,13 +178,13 @@ duration_read law name number d fields same bound is fits = go (nat_eq d 0) refl
       (seconds_read name (d / 1000000000) (d % 1000000000)) (nanos_read name (d / 1000000000) (d % 1000000000))
       ∙ ap (λ (m : ℕ). Ok m) (omega arith)
 
-no_duration : (number other d : ℕ) → nat_eq other number ≡ false → field_values_at number (duration_field other d) ≡ []
+pub no_duration : (number other d : ℕ) → nat_eq other number ≡ false → field_values_at number (duration_field other d) ≡ []
 no_duration number other d differs = go (nat_eq d 0) refl where
   go : (b : Bool) → nat_eq d 0 ≡ b → field_values_at number (duration_field other d) ≡ []
   go true is = rw is refl
   go false is = rw is (rw differs refl)
 
-low_duration : (number d : ℕ) → IsFieldNumber number → AreLow (duration_field number d)
+pub low_duration : (number d : ℕ) → IsFieldNumber number → AreLow (duration_field number d)
 low_duration number d numbered = go (nat_eq d 0) refl where
   go : (b : Bool) → nat_eq d 0 ≡ b → AreLow (duration_field number d)
   go true is = rw is tt
@@ -197,7 +197,7 @@ low_threat social threat.SocialEngineering low = low
 low_threat social threat.UnwantedSoftware low = omega arith
 low_threat social threat.PotentiallyHarmfulApplication low = omega arith
 
-low_platform : (p : PlatformType) → platform_code p < 2 ^ 64
+pub low_platform : (p : PlatformType) → platform_code p < 2 ^ 64
 low_platform platform.Windows = omega arith
 low_platform platform.Linux = omega arith
 low_platform platform.Android = omega arith
@@ -207,7 +207,7 @@ low_platform platform.AnyPlatform = omega arith
 low_platform platform.AllPlatforms = omega arith
 low_platform platform.Chrome = omega arith
 
-low_entry : (e : EntryType) → entry_code e < 2 ^ 64
+pub low_entry : (e : EntryType) → entry_code e < 2 ^ 64
 low_entry entry.Url = omega arith
 low_entry entry.Executable = omega arith
 

@@ -2,6 +2,8 @@ pub mod AnswerFacts
 pub mod FieldFacts
 pub mod ItemFacts
 pub mod LawFacts
+pub mod QueryFacts
 pub mod RowFacts
 pub mod TextFacts
+pub mod UpdateFacts
 pub mod WritingFacts

@@ -1,9 +1,12 @@
 pub mod Answers
 pub mod Fetch
+pub mod FetchAnswers
 pub mod Fields
 pub mod Find
 pub mod Numbers
 pub mod Parts
+pub mod Printed
+pub mod Query
 pub mod Reading
 pub mod Rows
 pub mod Writing

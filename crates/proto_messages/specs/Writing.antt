@@ -40,12 +40,10 @@ duration_field field nanos = if nat_eq nanos 0 then [] else (message_field field
 
 -- ---- the answer to a find request: `FindFullHashesResponse`
 
--- the number of a threat type, if this is that of SOCIAL_ENGINEERING
+-- the number of a threat type, if this is that of SOCIAL_ENGINEERING; the others have their codes
 abbrev pub threat_number : ℕ → ThreatType → ℕ
 threat_number social threat.SocialEngineering = social
-threat_number social threat.Malware = 1
-threat_number social threat.UnwantedSoftware = 3
-threat_number social threat.PotentiallyHarmfulApplication = 4
+threat_number social other = threat_code other
 
 -- `ThreatMatch`: threat 1, platform 2, `threat` 3 with its `hash` 1, `cache_duration` 5, entry 6
 abbrev pub match_fields : ℕ → Match → List WireField

@@ -23,9 +23,11 @@ pub enum PartFault {
     OutOfMemory,
 }
 
-/// Why bytes are no message.
+/// Why bytes, or the text of a query, are no message.
 #[derive(Clone, Copy, Debug, PartialEq, Eq)]
 pub enum ProtoFault {
+    /// The text of a query is no base64. `message_of_query` alone answers this.
+    NotBase64,
     /// A part is not read, in the item with this number. Items count from 1, and 0 is outside them.
     Part(PartFault, u64),
     /// There are this many items, more than there may be.
@@ -37,6 +39,7 @@ pub enum ProtoFault {
 impl fmt::Display for ProtoFault {
     fn fmt<W: fmt::Write>(&self, f: &mut fmt::Formatter<W>) -> fmt::Result {
         match self {
+            ProtoFault::NotBase64 => f.write_str("the text is not base64"),
             ProtoFault::Part(fault, 0) => write!(f, "{fault}"),
             ProtoFault::Part(fault, item) => write!(f, "{fault}, in item {item}"),
             ProtoFault::TooManyItems(count) => write!(f, "{count} items are too many"),

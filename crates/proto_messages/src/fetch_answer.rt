@@ -277,7 +277,11 @@ fn push_updates(
 }
 
 /// Writes the answer to a fetch request (`FetchThreatListUpdatesResponse`). The numbers are those by which the threats of its updates
-/// were asked, in their order; an update beyond them has its threat's own code.
+/// were asked, one for each update, in their order: the caller leaves out those of lists that it does not answer. An update beyond
+/// them has its threat's own code. A full update without additions is written with one raw set of the size 4 without hashes, and the
+/// state that an update was made for is not written.
+///
+/// Its one fault is `OutOfMemory`: memory was refused, or the bytes would be 2 ^ 63 or more, which no memory holds.
 #[tactic(auto, using(crate::proofs::WritingFacts::written_both), unfolding(crate::specs::Writing::fetch_answer_bytes))]
 pub fn write_fetch(
     alloc: Global,

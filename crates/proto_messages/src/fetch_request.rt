@@ -110,7 +110,13 @@ fn items_of(alloc: Global, bytes: &[u8]) -> Result<AskedLists, ProtoFault>
     read_items(alloc, bytes)
 }
 
-/// Reads a fetch request (`FetchThreatListUpdatesRequest`).
+/// Reads a fetch request (`FetchThreatListUpdatesRequest`). The texts of its client are UTF-8. At most 8 of its items have names of
+/// lists; an item of no such name is read like the others and asks for nothing. A state has at most 4,096 bytes, and a limit is at
+/// most 2,147,483,647; one that is absent is empty, or 0.
+///
+/// The first fault is answered, and these are looked for in this order: `Part` with the item 0, if the bytes are not in the wire form,
+/// and then of `client`; `TooManyItems`, with how many items have names; `Part` with the number of an item, from 1, item by item: that it
+/// is no message, and then of its threat, platform and entry, its state and its constraints. `OutOfMemory` may come at any time.
 #[tactic(auto, unfolding(crate::specs::Fetch::fetch_of))]
 pub fn read_fetch(alloc: Global, bytes: &[u8]) -> Result<NumberedFetch, ProtoFault>
     ensures ok { IfOk result (λ found. spec.fetch_of bytes.now ≡ Ok found) }

@@ -14,9 +14,7 @@ fn threat_number(social: u64, threat: ThreatType) -> u64
 {
     match threat {
         ThreatType::SocialEngineering => social,
-        ThreatType::Malware => 1,
-        ThreatType::UnwantedSoftware => 3,
-        ThreatType::PotentiallyHarmfulApplication => 4,
+        _ => u64::from(threat.code()),
     }
 }
 
@@ -59,7 +57,8 @@ fn push_matches(
     Ok(())
 }
 
-/// Writes the answer to a find request (`FindFullHashesResponse`), with the number by which the request asks for SOCIAL_ENGINEERING.
+/// Writes the answer to a find request (`FindFullHashesResponse`), with the number by which the request asks for SOCIAL_ENGINEERING:
+/// that of `NumberedFind`. A threat of another type has its own code. Its one fault is `OutOfMemory`.
 #[tactic(auto, unfolding(crate::specs::Writing::find_answer_bytes))]
 pub fn write_matches(
     alloc: Global,

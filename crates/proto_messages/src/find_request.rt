@@ -184,7 +184,13 @@ fn with_prefixes(outside: Outside, prefixes: Row<Prefix>) -> NumberedFind
     }
 }
 
-/// Reads a find request (`FindFullHashesRequest`).
+/// Reads a find request (`FindFullHashesRequest`). The texts of its client are UTF-8. Numbers that name no type are skipped. It has at
+/// most 1,024 entries, each of 4 to 32 bytes.
+///
+/// The first fault is answered, and these are looked for in this order: `Part` with the item 0, if the bytes are not in the wire form,
+/// and then of `client`, the states, `threat_info` and its threats, platforms and entry types; `TooManyItems`, with how many entries there
+/// are; `Part` with the number of an entry, from 1, entry by entry: that it is no message, and then its hash. `OutOfMemory` may come at any
+/// time.
 #[tactic(auto, unfolding(crate::specs::Find::find_of))]
 pub fn read_find(alloc: Global, bytes: &[u8]) -> Result<NumberedFind, ProtoFault>
     ensures ok { IfOk result (λ found. spec.find_of bytes.now ≡ Ok found) }

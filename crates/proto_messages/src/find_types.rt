@@ -5,18 +5,12 @@ ghost use Rattle.proto_messages.specs.Find as spec;
 ghost use Rattle.proto_messages.specs.Parts.{fields_of_part};
 
 use crate::PartFault;
-use crate::numbers::{entry_numbered, platform_numbered, threat_numbered};
+use crate::numbers::{OTHER_SOCIAL, SOCIAL, entry_numbered, platform_numbered, threat_numbered};
 use crate::part::Part;
 use crate::rows::numbers_row;
 use sb_json::Field;
 use sb_model::{EntryType, OutOfMemory, PlatformType, Row, ThreatType};
 use std::alloc::Global;
-
-/// The code of SOCIAL_ENGINEERING.
-const SOCIAL: u64 = 2;
-
-/// The number by which browsers ask for it too.
-const OTHER_SOCIAL: u64 = 5;
 
 /// The types of the lists that are asked, and the number by which SOCIAL_ENGINEERING is asked.
 #[derive(Drop)]

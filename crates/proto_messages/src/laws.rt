@@ -6,9 +6,11 @@ ghost use Rattle.proto_messages.specs.declared.find_request.NumberedFind.{Number
 ghost use Rattle.proto_messages.specs.Fetch.{fetch_of};
 ghost use Rattle.proto_messages.specs.Find.{find_of};
 ghost use Rattle.proto_messages.specs.Answers.{WrittenFindsAreRead};
+ghost use Rattle.proto_messages.specs.FetchAnswers.{WrittenFetchesAreRead};
+ghost use Rattle.proto_messages.specs.Query.{QueriesReadOneWay};
 ghost use Rattle.proto_messages.specs.Reading.{ReadsFetch, IsFetchFault, ReadsFind, IsFindFault, is_fetch_field, is_find_field};
 
-use proto_wire::{bytes_read_one_way, written_fields_are_read};
+use proto_wire::{bytes_read_one_way, varints_are_shortest, written_fields_are_read};
 
 /// Bytes are one fetch request at most, and one find request at most.
 pub fn requests_read_one_way()
@@ -47,3 +49,18 @@ pub fn written_matches_are_read()
     written_fields_are_read();
     bytes_read_one_way();
 }
+
+/// What is written of an answer to a fetch tells what the answer is to who reads it: its updates in their order, each with the number of
+/// its threat, and its wait. A full update without additions tells one set without hashes, and no update tells its base state.
+pub fn written_fetches_are_read()
+    ensures { WrittenFetchesAreRead }
+{
+    written_fields_are_read();
+    varints_are_shortest();
+    bytes_read_one_way();
+}
+
+/// The text of a query is that of one message at most.
+pub fn queries_read_one_way()
+    ensures { QueriesReadOneWay }
+{}

@@ -2,8 +2,9 @@
 //! answers are written in one way.
 //!
 //! `specs/Fields.antt` has how the fields of a message are found among those of its bytes, `Numbers` the numbers of names, `Fetch`
-//! and `Find` which request bytes are, `Reading` their relations, `Writing` the one spelling of answers, and `Answers` what the bytes of
-//! an answer to a find tell.
+//! and `Find` which request bytes are, `Reading` their relations, `Writing` the one spelling of answers, and `Answers` and
+//! `FetchAnswers` what the bytes of an answer tell. `Query` has the message that stands in a query, and `Printed` the printed causes of
+//! faults.
 #![tactic(auto)]
 
 pub use fault::{PartFault, ProtoFault};
@@ -12,9 +13,11 @@ pub use fetch_request::{NumberedFetch, read_fetch};
 pub use find_answer::write_matches;
 pub use find_request::{NumberedFind, read_find};
 pub use laws::{
-    other_fields_change_nothing, requests_are_read_or_refused, requests_read_one_way,
-    written_matches_are_read,
+    other_fields_change_nothing, queries_read_one_way, requests_are_read_or_refused,
+    requests_read_one_way, written_fetches_are_read, written_matches_are_read,
 };
+pub use printing::push_cause;
+pub use query::message_of_query;
 
 mod client;
 mod fault;
@@ -27,6 +30,8 @@ mod find_types;
 mod laws;
 mod numbers;
 mod part;
+mod printing;
+mod query;
 mod rows;
 mod sizes;
 mod writing;

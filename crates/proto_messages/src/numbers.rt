@@ -4,8 +4,11 @@ ghost use Rattle.proto_messages.specs.Numbers as spec;
 
 use sb_model::{EntryType, ListName, PlatformType, ThreatType};
 
-/// The number by which browsers ask for SOCIAL_ENGINEERING too.
-const OTHER_SOCIAL: u64 = 5;
+/// The code of SOCIAL_ENGINEERING.
+pub(crate) const SOCIAL: u64 = 2;
+
+/// The number by which browsers ask for it too.
+pub(crate) const OTHER_SOCIAL: u64 = 5;
 
 /// The greatest code of a name.
 const MOST_CODE: u64 = 8;
