@@ -1,0 +1,4 @@
+pub mod Places
+pub mod Tokens
+pub mod Answer
+pub mod Replica
