@@ -27,7 +27,7 @@ FRONTS := nginx-server.conf nginx-client.conf
 PLACES := -e 's|/usr/bin/|$(BINDIR)/|g' -e 's|/usr/share/kestrelplumb/|$(DATADIR)/|g' -e 's|/etc/default/|$(SYSCONFDIR)/default/|g'
 
 .PHONY: all test check gate wrong-bodies install uninstall demo compare try-http try-run try-feeds try-slow try-memory try-faults try-readme bench
-.PHONY: try-front try-units try-deb deb release clean
+.PHONY: try-front try-units try-deb try-browser deb release clean
 
 all:
 	python3 tools/build.py $(PROGRAMS)
@@ -126,6 +126,10 @@ try-feeds: all
 try-front: all
 	bash try/front.sh
 	bash try/host.sh
+
+# Points an installed Firefox at sblistd by settings alone, in a network namespace that has lo alone. Up to two minutes.
+try-browser: all
+	python3 try/browser.py
 
 # Holds the units to systemd-analyze, and if systemd runs and one is root starts them. Up to three minutes.
 try-units: all

@@ -37,10 +37,10 @@ def request(server, key, kind, body):
     return "\r\n".join(lines).encode("ascii") + body
 
 
-def response(body, status=b"200 OK"):
-    """What a server gives with a status."""
+def response(body, kind="application/json", status=b"200 OK"):
+    """What a server gives of a type, with a status."""
     digest = base64.b64encode(hashlib.sha256(body).digest())
-    head = b"HTTP/1.1 %s\r\nContent-Type: application/json\r\nContent-Length: %d\r\n" % (status, len(body))
+    head = b"HTTP/1.1 %s\r\nContent-Type: %s\r\nContent-Length: %d\r\n" % (status, kind.encode("ascii"), len(body))
     return head + b"Content-Digest: sha-256=:" + digest + b":\r\nConnection: close\r\n\r\n" + body
 
 

@@ -12,6 +12,7 @@ import random
 import subprocess
 import sys
 
+import browsers
 import cases
 import exchanges
 import judged
@@ -22,7 +23,9 @@ import serving
 import urls
 from changing import change_bytes
 from compare import STORED_CASES
+from messages import ENTRIES, PLATFORMS, THREATS
 
+PER_RUN = 50
 PATHS = {kind: path for path, (_, kind) in serving.PATHS.items()}
 USAGES = {"sbupdate": "sbupdate", "sbcheck": "sbcheck", "sblistd": "the-server", "sbjournal": "sbjournal"}
 WORDS = [
@@ -138,6 +141,24 @@ def any_served(rand):
     return fields
 
 
+def any_browsed(rand):
+    """A run of a list server that browsers ask."""
+    journal, _, _, times = server.any_question(rand, "fetch")
+    try:
+        history = server.read_journal(journal)
+    except server.BadJournal:
+        history = server.Journal()
+    names = rand.sample(["/".join((t, p, e)) for t in THREATS for p in PLATFORMS for e in ENTRIES], 9)
+    words = f"--connections={PER_RUN} --wait={times['wait']} --find-wait={times['find-wait']}"
+    fields = [(f"server sblistd serve --journal=j --listen=h:1 {words}", None), ("journal", journal)]
+    for _ in range(PER_RUN):
+        kind = rand.choice(["fetch", "fetch", "find"])
+        message = noisy(rand, browsers.MESSAGES[kind](rand, history, names), 0.1)
+        first, lines, body = browsers.request_of(rand, PATHS[kind], message)
+        fields.append(("connection", noisy(rand, head_of(rand, first, lines) + body, 0.03)))
+    return fields
+
+
 def any_updated(rand):
     """A run of updates."""
     lists = judged.any_lists(rand)
@@ -171,7 +192,7 @@ def any_words(rand):
     return [(f"{field} " + " ".join(word or '""' for word in words), None), ("journal", b"sblist 2 0000000000000001\n"), ("clock 1000000", None)]
 
 
-KINDS = {"runs of a server": any_served, "runs of updates": any_updated, "command lines": any_words}
+KINDS = {"runs of a server": any_served, "runs of a server for browsers": any_browsed, "runs of updates": any_updated, "command lines": any_words}
 
 
 # ---- the comparison

@@ -257,11 +257,27 @@ def answer_item(journal, asked):
     return item | ({"additions": additions} if additions else {}) | ({"removals": removals} if removals else {})
 
 
-def fetch_body(journal, text, times):
-    """The body of the answer to a fetch request. Lists that are not declared have no item."""
-    items = [answer_item(journal, asked) for asked in read_request(text) if asked["name"] in journal.declared]
+def answering(journal, name):
+    """The declared list that answers for a name, which is that of the name itself, or None."""
+    return name if name in journal.declared else None
+
+
+def named_item(journal, asked):
+    """The item of an asked list, under the name that was asked, or None if no list answers for it."""
+    name = answering(journal, asked["name"])
+    return None if name is None else answer_item(journal, asked | {"name": name}) | types_of(asked["name"])
+
+
+def fetch_answer(journal, items, times):
+    """The answer to a fetch request whose items these are, in order."""
     body = {"listUpdateResponses": items} if items else {}
     return body | some_seconds("minimumWaitDuration", times["wait"])
+
+
+def fetch_body(journal, text, times):
+    """The body of the answer to a fetch request. Names for which no list answers have no item."""
+    items = [named_item(journal, asked) for asked in read_request(text)]
+    return fetch_answer(journal, [item for item in items if item is not None], times)
 
 
 def some_seconds(name, seconds):
@@ -273,24 +289,29 @@ def types_of(name):
 
 
 def asked_names(journal, words):
-    """The declared lists whose three types are among three lists of words, in the order of names."""
-    every = ((t, p, e) for t in THREATS for p in PLATFORMS for e in ENTRIES)
-    return ["/".join(name) for name in every if "/".join(name) in journal.declared and all(map(list.__contains__, words, name))]
+    """The names whose three types are among three lists of words and for which a list answers, in their order."""
+    every = ("/".join((t, p, e)) for t in THREATS for p in PLATFORMS for e in ENTRIES)
+    return [name for name in every if answering(journal, name) and all(map(list.__contains__, words, name.split("/")))]
 
 
 def matches_of(journal, name, prefixes, cache):
-    """The matches of a list: each of its newest full hashes that begins with one of the prefixes."""
+    """The matches under a name: each of the newest full hashes of the list that answers that begins with one of the prefixes."""
     of_list = types_of(name) | some_seconds("cacheDuration", cache)
-    found = [full for full in sorted(journal.newest[name]) if any(full.startswith(prefix) for prefix in prefixes)]
+    newest = sorted(journal.newest[answering(journal, name)])
+    found = [full for full in newest if any(full.startswith(prefix) for prefix in prefixes)]
     return [of_list | {"threat": {"hash": base64.b64encode(full).decode("ascii")}} for full in found]
+
+
+def find_answer(journal, words, prefixes, times):
+    """The answer to a find request of three lists of words and some prefixes."""
+    matches = [one for name in asked_names(journal, words) for one in matches_of(journal, name, prefixes, times["cache"])]
+    body = {"matches": matches} if matches else {}
+    return body | some_seconds("minimumWaitDuration", times["find-wait"]) | some_seconds("negativeCacheDuration", times["negative"])
 
 
 def find_body(journal, text, times):
     """The body of the answer to a find request."""
-    words, prefixes = read_find(text)
-    matches = [one for name in asked_names(journal, words) for one in matches_of(journal, name, prefixes, times["cache"])]
-    body = {"matches": matches} if matches else {}
-    return body | some_seconds("minimumWaitDuration", times["find-wait"]) | some_seconds("negativeCacheDuration", times["negative"])
+    return find_answer(journal, *read_find(text), times)
 
 
 @functools.lru_cache(maxsize=4_096)
@@ -309,14 +330,15 @@ def lookup_body(journal, text, times):
     names, matches = asked_names(journal, words), []
     for url in asked:
         hashes = hashes_of(url)
-        listed = [name for name in names if not hashes.isdisjoint(journal.newest[name])]
+        listed = [name for name in names if not hashes.isdisjoint(journal.newest[answering(journal, name)])]
         matches += [types_of(name) | some_seconds("cacheDuration", times["cache"]) | {"threat": {"url": url}} for name in listed]
     return {"matches": matches} if matches else {}
 
 
 def lists_body(journal):
     """The body of the answer to one who asks which lists there are."""
-    names = asked_names(journal, (THREATS, PLATFORMS, ENTRIES))
+    every = asked_names(journal, (THREATS, PLATFORMS, ENTRIES))
+    names = [name for name in every if name in journal.declared]
     return {"threatLists": list(map(types_of, names))} if names else {}
 
 

@@ -10,6 +10,7 @@ import hashlib
 import re
 
 import exchanges
+import protos
 import server
 from messages import Unreadable
 
@@ -38,11 +39,16 @@ BEGUN_LINE = re.compile(rb"%s(?: (?:[!-~\x80-\xff]+(?: (?:H(?:T(?:T(?:P(?:/(?:1(
 BEGUN_FIELD = exchanges.BEGUN_FIELD
 ABSOLUTE = re.compile(rb"[A-Za-z][A-Za-z0-9+.\-]*://[^/?]*")
 
+# the kinds of requests that are taken in Protocol Buffers too: what reads each
+FORMS = ("fetch", "find")
+
+JSON, PROTOBUF = "application/json", "application/x-protobuf"
+
 Served = collections.namedtuple("Served", "printed status written")
 
 
 class Refused(Exception):
-    """A request is refused with the status that stands first. What stands behind it is the cause in the line."""
+    """A request is refused with the status that stands first. Behind it stand the cause in the line, and the type of the response."""
 
 
 # ---- a request
@@ -86,7 +92,7 @@ def head_of(given):
 
 
 def heard(given):
-    """The method, the path and the body of the request that some bytes are."""
+    """The method, the path and the body of the request that some bytes are, and its form."""
     method, target, fields, at = head_of(given)
     lengths = [int(value) for name, value in fields if name == b"content-length"]
     if any(name == b"transfer-encoding" for name, _ in fields) or not lengths and method not in WITHOUT_BODIES:
@@ -98,29 +104,46 @@ def heard(given):
         raise Refused(400)
     absolute = ABSOLUTE.match(target)
     path = (target[absolute.end() :] if absolute else target).partition(b"?")[0]
-    return method, path, given[at : at + length]
+    types = [value for name, value in fields if name == b"content-type"]
+    form = protos.form_of(method, target, types[0] if len(types) == 1 else b"")
+    return method, path, target, given[at : at + length], form
+
+
+def answered_in_protobuf(journal, kind, message, times):
+    """The body of the answer to a message in Protocol Buffers."""
+    if message is None:
+        raise Refused(400, protos.NO_MESSAGE, PROTOBUF)
+    try:
+        return protos.BODIES[kind](journal, message, times)
+    except Unreadable as fault:
+        raise Refused(400, fault, PROTOBUF) from fault
 
 
 def answered(journal, given, times):
-    """The body of the answer to the request that some bytes are."""
-    method, path, body = heard(given)
+    """The body of the answer to the request that some bytes are, and its type."""
+    method, path, target, body, form = heard(given)
     if path not in PATHS:
         raise Refused(404)
     wanted, kind = PATHS[path]
+    if kind in FORMS and form == "query":
+        message = protos.message_of(protos.first_of(protos.query_of(target), b"$req"))
+        return answered_in_protobuf(journal, kind, message, times), PROTOBUF
     if method != wanted:
         raise Refused(405, wanted)
+    if kind in FORMS and form == "protobuf":
+        return answered_in_protobuf(journal, kind, body, times), PROTOBUF
     if kind == "lists":
-        return server.written_body(server.lists_body(journal))
+        return server.written_body(server.lists_body(journal)), JSON
     try:
-        return server.written_body(server.BODIES[kind](journal, body, times))
+        return server.written_body(server.BODIES[kind](journal, body, times)), JSON
     except Unreadable as fault:
         raise Refused(400, fault) from fault
 
 
-def refusal(status, allowed):
+def refusal(status, allowed, kind=JSON):
     """The response with a status and without a body."""
     digest = base64.b64encode(hashlib.sha256(b"").digest()).decode("ascii")
-    lines = [f"HTTP/1.1 {status} {REASONS[status]}", "Content-Type: application/json", "Content-Length: 0"]
+    lines = [f"HTTP/1.1 {status} {REASONS[status]}", f"Content-Type: {kind}", "Content-Length: 0"]
     lines += [f"Content-Digest: sha-256=:{digest}:"]
     lines += [f"Allow: {allowed}"] if allowed else []
     return "\r\n".join([*lines, "Connection: close", "", ""]).encode("ascii")
@@ -129,11 +152,11 @@ def refusal(status, allowed):
 def turn(journal, given, times):
     """The response to what came over a connection, and how its line ends."""
     try:
-        return exchanges.response(answered(journal, given, times)), "200"
+        return exchanges.response(*answered(journal, given, times)), "200"
     except Refused as fault:
-        status, said = fault.args[0], fault.args[1] if len(fault.args) > 1 else None
+        status, said, kind = (*fault.args, None, None)[:3]
         allowed = said.decode("ascii") if status == 405 else None
-        return refusal(status, allowed), f"{status} {said}" if status == 400 and said else str(status)
+        return refusal(status, allowed, kind or JSON), f"{status} {said}" if status == 400 and said else str(status)
 
 
 # ---- a run

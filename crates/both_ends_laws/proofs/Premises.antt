@@ -13,6 +13,7 @@ use Rattle.http_edge.specs.Law.{PassesAsWritten}
 use Rattle.http_edge.specs.Outcomes.{BytesOutcome}
 use Rattle.http_edge.specs.declared.faults.ExchangeFault.TheVariants.{Link}
 use Rattle.http_edge.specs.declared.messages.Allow.TheVariants.{Post}
+use Rattle.http_edge.specs.declared.messages.MediaType.TheVariants.{Json}
 use Rattle.http_edge.specs.declared.messages.Target.{Target}
 use Rattle.update_messages.specs.Messages.{UpdatedList}
 use Rattle.update_messages.specs.Reading.{IsTextOf, ReadsResponse}
@@ -34,7 +35,7 @@ use Rattle.both_ends_laws.proofs.Message.{body_is_short}
 passed : ((body : List ℕ) → PassesAsWritten body) → BytesOutcome true answered_session.received true (Ok example_body)
 passed passes =
     subst (λ (received : List ℕ). BytesOutcome true received true (Ok example_body)) (append-nil answered_session.received)
-    (passes example_body body_is_short Post [] true true)
+    (passes example_body body_is_short (record { allow = Post; media = Json }) [] true true)
 
 answered : ((body : List ℕ) → PassesAsWritten body) → IsTextOf ReadsResponse example_body example_message → IsBodyOf true answered_session (example_whole_update ∷ [])
 answered passes reads = record { outcome = Ok example_body; decides = passed passes; answer = Ok example_message; answers = reads; is = refl }

@@ -11,7 +11,7 @@ use Rattle.sb_json.specs.declared.faults.MessageFault.{MessageFault}
 use Rattle.http_edge.specs.Outcomes.{BytesOutcome, SessionOutcome}
 use Rattle.http_edge.specs.Responses.{response_text}
 use Rattle.http_edge.specs.declared.faults.ExchangeFault.{ExchangeFault}
-use Rattle.http_edge.specs.declared.messages.Allow.{Allow}
+use Rattle.http_edge.specs.declared.messages.ResponseFields.{ResponseFields}
 use Rattle.http_edge.specs.declared.messages.Status.TheVariants.{Success}
 use Rattle.http_edge.specs.declared.messages.Target.{Target}
 use Rattle.update_messages.specs.Answer.{fetch_answer}
@@ -37,7 +37,7 @@ use Rattle.both_ends_laws.proofs.Sent.{one_asked}
 
 -- A whole response passes, whatever follows it.
 abbrev pub Passes : Type 0
-Passes = (body : List ℕ) → length body ≤ 201326592 → (allow : Allow) (rest : List ℕ) (need ended : Bool) → BytesOutcome need (response_text Success allow body ++ rest) ended (Ok body)
+Passes = (body : List ℕ) → length body ≤ 201326592 → (fields : ResponseFields) (rest : List ℕ) (need ended : Bool) → BytesOutcome need (response_text Success fields body ++ rest) ended (Ok body)
 
 -- A session that brings a body comes to nothing else.
 abbrev pub HasOneBody : Type 0
@@ -100,7 +100,7 @@ brings : Below → (need : Bool) (history : History) (token_at : Naming) (target
 brings under need history token_at target session version answered =
     unfailed session.failed _ _ answered.whole
     (subst (λ (bytes : List ℕ). BytesOutcome need bytes session.ended (Ok answered.body)) (sym answered.received)
-    (under.passes answered.body answered.short answered.allow answered.rest need session.ended))
+    (under.passes answered.body answered.short answered.fields answered.rest need session.ended))
 
 -- ---- rounds
 

@@ -10,7 +10,7 @@ use Rattle.http_edge.specs.Exchanges.{request_text}
 use Rattle.http_edge.specs.Outcomes.{SessionOutcome}
 use Rattle.http_edge.specs.Responses.{response_text}
 use Rattle.http_edge.specs.declared.faults.ExchangeFault.{ExchangeFault}
-use Rattle.http_edge.specs.declared.messages.Allow.{Allow}
+use Rattle.http_edge.specs.declared.messages.ResponseFields.{ResponseFields}
 use Rattle.http_edge.specs.declared.messages.Status.TheVariants.{Success}
 use Rattle.http_edge.specs.declared.messages.Target.{Target}
 use Rattle.update_messages.specs.Answer.{fetch_answer}
@@ -41,9 +41,9 @@ pub record IsAnsweredAt (history : History) (token_at : Naming) (target : Target
   pub body : List ℕ
   pub answers : IsTextOf ReadsResponse body (fetch_answer (up_to_version version history) token_at wait request)
   pub short : length body ≤ 201326592
-  pub allow : Allow
+  pub fields : ResponseFields
   pub rest : List ℕ
-  pub received : session.received ≡ response_text Success allow body ++ rest
+  pub received : session.received ≡ response_text Success fields body ++ rest
   pub whole : IsFalse session.failed
 
 -- at some version

@@ -6,6 +6,7 @@ use Rattle.sb_outside.specs.declared.links.Kind.TheVariants.{Update}
 use Rattle.sb_outside.specs.declared.links.Session.{Session}
 use Rattle.http_edge.specs.Responses.{response_text}
 use Rattle.http_edge.specs.declared.messages.Allow.TheVariants.{Post}
+use Rattle.http_edge.specs.declared.messages.MediaType.TheVariants.{Json}
 use Rattle.http_edge.specs.declared.messages.Status.TheVariants.{Success}
 use Rattle.http_edge.specs.declared.messages.Target.{Target}
 use Rattle.update_messages.specs.Messages.{UpdatedList}
@@ -46,7 +47,7 @@ answered_session = record {
   begun = example_moment;
   began = true;
   sent = [];
-  received = response_text Success Post example_body;
+  received = response_text Success (record { allow = Post; media = Json }) example_body;
   ended = true;
   failed = false;
   closed = Some example_moment;

@@ -4,6 +4,7 @@ use Rattle.std.specs.Prelude.{Result, Ok, Err}
 use Rattle.std.proofs.lemmas.Bool.{cases_lt}
 use Rattle.std.proofs.lemmas.List.{take-append-le, take_all, append-nil, length-drop}
 use Rattle.httparse.specs.Grammar.{RequestHead, NeverHasRequest, HasNoRequest, MayBecomeRequest}
+use Rattle.http_edge.specs.Fields.{content_type_said}
 use Rattle.http_edge.specs.Heads.{IsRefusedRequest, IsOpenRequest}
 use Rattle.http_edge.specs.Requests.{HasRequest, ReadsAsRequest, NeedsMore, RequestOutcome}
 use Rattle.http_edge.specs.Deciding.{IsDecided, LacksSome, HasHead, IsStage, KeepsHead, StandsFor, Watching}
@@ -55,6 +56,7 @@ whole_append bytes more request reads = record {
   whole = omega (arith, reads.whole, length-append reads.rest more);
   method = reads.method;
   target = reads.target;
+  content_type = reads.content_type;
   body = reads.body ∙ sym (take-append-le reads.body_length reads.rest more reads.whole);
 }
 
@@ -103,7 +105,7 @@ past_decides text size n start known past has = record {
 
 body_decides : (text : List ℕ) (head : RequestHead) (rest : List ℕ) (n : ℕ) → HasRequest text head rest (Some n) → n ≤ 1048576 → n ≤ length rest → IsDecided text
 body_decides text head rest n has allowed whole =
-    let request : HttpRequest = record { method = head.method; target = head.target; body = take n rest } in record {
+    let request : HttpRequest = record { method = head.method; target = head.target; content_type = content_type_said head.fields; body = take n rest } in record {
       outcome = Ok request;
       read = λ same. cc;
       memory = λ same. cc;
@@ -116,6 +118,7 @@ body_decides text head rest n has allowed whole =
         whole = whole;
         method = refl;
         target = refl;
+        content_type = refl;
         body = refl;
       };
     }

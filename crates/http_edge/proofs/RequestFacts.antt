@@ -35,6 +35,7 @@ parts_append text more parts is = record {
   within = omega (arith, is.within, length-append text more);
   method = is.method;
   target = is.target;
+  content_type = is.content_type;
 }
 
 refused_append : (text more : List ℕ) → head_bytes text ≡ text → head_bytes (text ++ more) ≡ text → IsRefusedRequest text → IsRefusedRequest (text ++ more)
@@ -61,9 +62,9 @@ result_of_front text front (Err refused) is some says = tt
 
 -- the body is whole
 pub request_whole : (text given : List ℕ) (parts : RequestParts) (n : ℕ) (request : HttpRequest) → IsPartsOf text parts → parts.length ≡ Some n → n ≤ 1048576
-    → n ≤ length (drop parts.start text ++ given) → request.method ≡ parts.method → request.target ≡ parts.target
+    → n ≤ length (drop parts.start text ++ given) → request.method ≡ parts.method → request.target ≡ parts.target → request.content_type ≡ parts.content_type
     → request.body ≡ take n (drop parts.start text ++ given) → ReadsAsRequest (text ++ given) request
-request_whole text given parts n request is known allowed whole method target body = record {
+request_whole text given parts n request is known allowed whole method target type body = record {
   head = is.head;
   rest = drop parts.start text ++ given;
   body_length = n;
@@ -72,6 +73,7 @@ request_whole text given parts n request is known allowed whole method target bo
   whole = whole;
   method = method ∙ is.method;
   target = target ∙ is.target;
+  content_type = type ∙ is.content_type;
   body = body;
 }
 

@@ -25,13 +25,15 @@ use Rattle.httparse.specs.Grammar.{crlf, is_token_byte, is_value_byte, is_ows, s
 use Rattle.httparse.proofs.GrammarLemmas.{print_response-append}
 use Rattle.http_edge.specs.Fields.{capped, is_number, number_said, length_in, length_said, encodings_said, field_values_of}
 use Rattle.http_edge.specs.Digests.{members_in, digest_members, IsNoDigest, IsDigestGiven}
-use Rattle.http_edge.specs.Responses.{line, digest_text, response_text}
+use Rattle.http_edge.specs.Responses.{line, digest_text, media_text, response_text}
 use Rattle.http_edge.specs.Outcomes.{framing_in, framing_of, HasBody, BytesOutcome}
 use Rattle.http_edge.specs.declared.fields.BodyLength.TheVariants.{Said, Malformed}
 use Rattle.http_edge.specs.declared.fields.Framing.{Framing}
 use Rattle.http_edge.specs.declared.fields.Framing.TheVariants.{ByLength}
 use Rattle.http_edge.specs.declared.messages.Status.TheVariants.{Success}
-use Rattle.http_edge.specs.declared.messages.Allow.{Allow}
+use Rattle.http_edge.specs.declared.messages.MediaType.{MediaType}
+use Rattle.http_edge.specs.declared.messages.MediaType.TheVariants.{Json, Protobuf}
+use Rattle.http_edge.specs.declared.messages.ResponseFields.{ResponseFields}
 
 -- ---- plain values: bytes that are visible, and no comma
 
@@ -197,14 +199,14 @@ is_bytes bytes all = λ i.
 abbrev a_field : List ℕ → List ℕ → Field
 a_field name value = record { name = name; raw = 32 ∷ value; end = crlf }
 
-abbrev fields_of : List ℕ → List ℕ → List Field
-fields_of number digest =
-    a_field (codes "Content-Type") (codes "application/json") ∷ a_field (codes "Content-Length") number ∷ a_field (codes "Content-Digest") digest
+abbrev fields_of : List ℕ → List ℕ → List ℕ → List Field
+fields_of type number digest =
+    a_field (codes "Content-Type") type ∷ a_field (codes "Content-Length") number ∷ a_field (codes "Content-Digest") digest
     ∷ a_field (codes "Connection") (codes "close") ∷ []
 
-abbrev head_of : List ℕ → List ℕ → ResponseHead
-head_of number digest =
-    record { blank = []; minor = 1; digits = codes "200"; reason = Some (codes "OK"); line_end = crlf; fields = fields_of number digest; last = crlf }
+abbrev head_of : List ℕ → List ℕ → List ℕ → ResponseHead
+head_of type number digest =
+    record { blank = []; minor = 1; digits = codes "200"; reason = Some (codes "OK"); line_end = crlf; fields = fields_of type number digest; last = crlf }
 
 field_is : (name value : List ℕ) → 0 < length name → list_all is_token_byte name ≡ true → All IsPlain value → IsField (a_field name value)
 field_is name value some token plain = record {
@@ -212,19 +214,19 @@ field_is name value some token plain = record {
   raw = All-cons (λ (b : ℕ). IsTrue (is_value_byte b)) 32 value refl (All-weaker IsPlain (λ (b : ℕ). IsTrue (is_value_byte b)) plain_value value plain);
 }
 
-head_is : (number digest : List ℕ) → All IsPlain number → All IsPlain digest → IsResponseHead (head_of number digest)
+head_is : (type number digest : List ℕ) → All IsPlain type → All IsPlain number → All IsPlain digest → IsResponseHead (head_of type number digest)
 unfolding is_token_byte
-head_is number digest plain_number plain_digest = record {
+head_is type number digest plain_type plain_number plain_digest = record {
   minor = omega arith;
   digits = (refl, AllPass-from_list_all is_ascii_digit (codes "200") refl);
   reason = AllPass-from_list_all is_value_byte (codes "OK") refl;
   fields =
-      let type = a_field (codes "Content-Type") (codes "application/json") in
+      let media = a_field (codes "Content-Type") type in
       let size = a_field (codes "Content-Length") number in
       let sum = a_field (codes "Content-Digest") digest in
       let close = a_field (codes "Connection") (codes "close") in
-      All-cons IsField type (size ∷ sum ∷ close ∷ [])
-      (field_is (codes "Content-Type") (codes "application/json") (lit< tt) refl (AllPass-from_list_all is_plain (codes "application/json") refl))
+      All-cons IsField media (size ∷ sum ∷ close ∷ [])
+      (field_is (codes "Content-Type") type (lit< tt) refl plain_type)
       (All-cons IsField size (sum ∷ close ∷ []) (field_is (codes "Content-Length") number (lit< tt) refl plain_number)
       (All-cons IsField sum (close ∷ []) (field_is (codes "Content-Digest") digest (lit< tt) refl plain_digest)
       (All-cons IsField close [] (field_is (codes "Connection") (codes "close") (lit< tt) refl (AllPass-from_list_all is_plain (codes "close") refl)) (All-nil IsField))));
@@ -239,26 +241,26 @@ section : (p q r s e more : List ℕ) → ((p ++ (q ++ (r ++ (s ++ [])))) ++ e) 
 section p q r s e more = simp (append_assoc, append-nil)
 
 -- the bytes of a head, and what follows
-printed : (number digest more : List ℕ) → print_response (head_of number digest) ++ more
-    ≡ codes "HTTP/1.1 200 OK\r\n" ++ (print_field (a_field (codes "Content-Type") (codes "application/json")) ++ (print_field (a_field (codes "Content-Length") number)
+printed : (type number digest more : List ℕ) → print_response (head_of type number digest) ++ more
+    ≡ codes "HTTP/1.1 200 OK\r\n" ++ (print_field (a_field (codes "Content-Type") type) ++ (print_field (a_field (codes "Content-Length") number)
     ++ (print_field (a_field (codes "Content-Digest") digest) ++ (print_field (a_field (codes "Connection") (codes "close")) ++ (crlf_bytes ++ more)))))
-printed number digest more =
-    print_response-append (head_of number digest) more
+printed type number digest more =
+    print_response-append (head_of type number digest) more
     ∙ ap (λ (t : List ℕ). codes "HTTP/1.1 200 OK\r\n" ++ t)
-    (section (print_field (a_field (codes "Content-Type") (codes "application/json"))) (print_field (a_field (codes "Content-Length") number))
+    (section (print_field (a_field (codes "Content-Type") type)) (print_field (a_field (codes "Content-Length") number))
     (print_field (a_field (codes "Content-Digest") digest)) (print_field (a_field (codes "Connection") (codes "close"))) crlf_bytes more)
 
-abbrev written : List ℕ → List ℕ → List ℕ → List ℕ
-written number digest body =
-    ((((((line (codes "HTTP/1.1 " ++ codes "200 OK") ++ line (codes "Content-Type: application/json")) ++ line (codes "Content-Length: " ++ number))
+abbrev written : List ℕ → List ℕ → List ℕ → List ℕ → List ℕ
+written type number digest body =
+    ((((((line (codes "HTTP/1.1 " ++ codes "200 OK") ++ line (codes "Content-Type: " ++ type)) ++ line (codes "Content-Length: " ++ number))
     ++ line (codes "Content-Digest: " ++ digest)) ++ []) ++ line (codes "Connection: close")) ++ line []) ++ body
 
-written_reads : (number digest body rest : List ℕ) → written number digest body ++ rest ≡ print_response (head_of number digest) ++ (body ++ rest)
+written_reads : (type number digest body rest : List ℕ) → written type number digest body ++ rest ≡ print_response (head_of type number digest) ++ (body ++ rest)
 unfolding line
-written_reads number digest body rest =
-    lines (line (codes "HTTP/1.1 " ++ codes "200 OK")) (line (codes "Content-Type: application/json")) (line (codes "Content-Length: " ++ number))
+written_reads type number digest body rest =
+    lines (line (codes "HTTP/1.1 " ++ codes "200 OK")) (line (codes "Content-Type: " ++ type)) (line (codes "Content-Length: " ++ number))
     (line (codes "Content-Digest: " ++ digest)) (line (codes "Connection: close")) (line []) body rest
-    ∙ sym (printed number digest (body ++ rest))
+    ∙ sym (printed type number digest (body ++ rest))
 
 field_long : (name value : List ℕ) → length (print_field (a_field name value)) ≡ length name + length value + 4
 field_long name value =
@@ -279,83 +281,95 @@ six_long a b c d e f =
       length-append e (f ++ []),
     )
 
-head_long : (number digest : List ℕ) → length number ≤ 20 → length digest ≤ 54 → length (print_response (head_of number digest)) ≤ 16384
-head_long number digest few short =
-    let head = print_response (head_of number digest) in
-    let a = print_field (a_field (codes "Content-Type") (codes "application/json")) in
+head_long : (type number digest : List ℕ) → length type ≤ 22 → length number ≤ 20 → length digest ≤ 54 → length (print_response (head_of type number digest)) ≤ 16384
+head_long type number digest brief few short =
+    let head = print_response (head_of type number digest) in
+    let a = print_field (a_field (codes "Content-Type") type) in
     let b = print_field (a_field (codes "Content-Length") number) in
     let c = print_field (a_field (codes "Content-Digest") digest) in
     let d = print_field (a_field (codes "Connection") (codes "close")) in
     let parts : length head ≡ length (codes "HTTP/1.1 200 OK\r\n") + length a + length b + length c + length d + length crlf_bytes =
-    sym (ap length (append-nil head)) ∙ ap length (printed number digest []) ∙ six_long (codes "HTTP/1.1 200 OK\r\n") a b c d crlf_bytes in
+    sym (ap length (append-nil head)) ∙ ap length (printed type number digest []) ∙ six_long (codes "HTTP/1.1 200 OK\r\n") a b c d crlf_bytes in
     let first : length (codes "HTTP/1.1 200 OK\r\n") ≡ 17 = refl in
     let two : length crlf_bytes ≡ 2 = refl in
-    let a-long : length a ≡ 32 = refl in
+    let a-name : length (codes "Content-Type") ≡ 12 = refl in
+    let a-long : length a ≡ length (codes "Content-Type") + length type + 4 = field_long (codes "Content-Type") type in
     let d-long : length d ≡ 19 = refl in
     let b-name : length (codes "Content-Length") ≡ 14 = refl in
     let c-name : length (codes "Content-Digest") ≡ 14 = refl in
     let b-long : length b ≡ length (codes "Content-Length") + length number + 4 = field_long (codes "Content-Length") number in
     let c-long : length c ≡ length (codes "Content-Digest") + length digest + 4 = field_long (codes "Content-Digest") digest in
-    omega (arith, few, short, parts, first, two, a-long, d-long, b-name, c-name, b-long, c-long)
+    omega (arith, brief, few, short, parts, first, two, a-name, a-long, d-long, b-name, c-name, b-long, c-long)
 
 -- ---- what its fields say
 
-said_length : (n : ℕ) (digest : List ℕ) → n < 2 ^ 64 → length_said (fields_of (decimal n) digest) ≡ Said n
-said_length n digest small =
-    let values : field_values_of (codes "content-length") (fields_of (decimal n) digest) ≡ trim_ows (32 ∷ decimal n) ∷ [] = refl in
+said_length : (type : List ℕ) (n : ℕ) (digest : List ℕ) → n < 2 ^ 64 → length_said (fields_of type (decimal n) digest) ≡ Said n
+said_length type n digest small =
+    let values : field_values_of (codes "content-length") (fields_of type (decimal n) digest) ≡ trim_ows (32 ∷ decimal n) ∷ [] = refl in
     ap length_in (values ∙ ap (λ (t : List ℕ). t ∷ []) (trim_spaced (decimal n) (decimal_plain n small))) ∙ number_said_decimal n small
 
-framed : (n : ℕ) (digest : List ℕ) → n < 2 ^ 64 → framing_of (fields_of (decimal n) digest) ≡ ByLength n
-framed n digest small =
-    let encodings : encodings_said (fields_of (decimal n) digest) ≡ [] = refl in
-    ap (λ (e : List (List ℕ)). framing_in e (length_said (fields_of (decimal n) digest))) encodings ∙ ap (framing_in []) (said_length n digest small)
+framed : (type : List ℕ) (n : ℕ) (digest : List ℕ) → n < 2 ^ 64 → framing_of (fields_of type (decimal n) digest) ≡ ByLength n
+framed type n digest small =
+    let encodings : encodings_said (fields_of type (decimal n) digest) ≡ [] = refl in
+    ap (λ (e : List (List ℕ)). framing_in e (length_said (fields_of type (decimal n) digest))) encodings ∙ ap (framing_in []) (said_length type n digest small)
 
-members_are : (number digest : List ℕ) → All IsPlain digest → digest_members (fields_of number digest) ≡ digest ∷ []
-members_are number digest plain =
-    let values : field_values_of (codes "content-digest") (fields_of number digest) ≡ trim_ows (32 ∷ digest) ∷ [] = refl in
+members_are : (type number digest : List ℕ) → All IsPlain digest → digest_members (fields_of type number digest) ≡ digest ∷ []
+members_are type number digest plain =
+    let values : field_values_of (codes "content-digest") (fields_of type number digest) ≡ trim_ows (32 ∷ digest) ∷ [] = refl in
     ap (flat_map members_in) (values ∙ ap (λ (t : List ℕ). t ∷ []) (trim_spaced digest plain))
     ∙ append-nil (members_in digest) ∙ members_plain digest plain
 
-gives_digest : (number body : List ℕ) → IsDigestGiven (fields_of number (digest_text (sha256 body))) (Some (sha256 body))
-gives_digest number body = record {
+gives_digest : (type number body : List ℕ) → IsDigestGiven (fields_of type number (digest_text (sha256 body))) (Some (sha256 body))
+gives_digest type number body = record {
   before = [];
   member = digest_text (sha256 body);
   after = [];
-  parts = members_are number (digest_text (sha256 body)) (digest_plain (sha256 body) (sha_bytes body));
+  parts = members_are type number (digest_text (sha256 body)) (digest_plain (sha256 body) (sha_bytes body));
   others = All-nil IsNoDigest;
   is = record { text = refl; size = length-sha256 body; bytes = is_bytes (sha256 body) (sha_bytes body) };
 }
+
+-- ---- its media type
+
+media_plain : (media : MediaType) → All IsPlain (media_text media)
+media_plain Json = AllPass-from_list_all is_plain (codes "application/json") refl
+media_plain Protobuf = AllPass-from_list_all is_plain (codes "application/x-protobuf") refl
+
+media_brief : (media : MediaType) → length (media_text media) ≤ 22
+media_brief Json = omega arith
+media_brief Protobuf = omega arith
 
 -- ---- it passes
 
 is_front : (body rest : List ℕ) → body ≡ take (length body) (body ++ rest)
 is_front body rest = sym (take_all (length body) body (omega arith)) ∙ sym (take-append-le (length body) body rest (omega arith))
 
-pub passes_as_written : (body : List ℕ) → length body ≤ 201326592 → (allow : Allow) (rest : List ℕ) (need ended : Bool)
-    → BytesOutcome need (response_text Success allow body ++ rest) ended (Ok body)
-passes_as_written body allowed allow rest need ended =
+pub passes_as_written : (body : List ℕ) → length body ≤ 201326592 → (fields : ResponseFields) (rest : List ℕ) (need ended : Bool)
+    → BytesOutcome need (response_text Success fields body ++ rest) ended (Ok body)
+passes_as_written body allowed fields rest need ended =
     let n = length body in
+    let type = media_text fields.media in
     let small : n < 2 ^ 64 = omega (arith, allowed) in
     let digest = digest_text (sha256 body) in
     let plain : All IsPlain digest = digest_plain (sha256 body) (sha_bytes body) in
     let short : length (decimal n) ≤ 20 = length-decimal-le 20 n (omega arith) (omega (arith, allowed)) small in
-    let framing = framed n digest small in (
+    let framing = framed type n digest small in (
       Some (sha256 body),
       record {
-        head = head_of (decimal n) digest;
+        head = head_of type (decimal n) digest;
         rest = body ++ rest;
         success = record {
           response = record {
             begins = record {
-              reads = (head_is (decimal n) digest (decimal_plain n small) plain, written_reads (decimal n) digest body rest);
-              within = head_long (decimal n) digest short (digest_long (sha256 body) (length-sha256 body));
+              reads = (head_is type (decimal n) digest (media_plain fields.media) (decimal_plain n small) plain, written_reads type (decimal n) digest body rest);
+              within = head_long type (decimal n) digest (media_brief fields.media) short (digest_long (sha256 body) (length-sha256 body));
             };
-            good = record { few = omega arith; length = λ bad. not_malformed n (sym (said_length n digest small) ∙ bad) };
+            good = record { few = omega arith; length = λ bad. not_malformed n (sym (said_length type n digest small) ∙ bad) };
           };
           success = refl;
         };
         has = subst (λ (f : Framing). HasBody f (body ++ rest) body) (sym framing) (allowed, omega (arith, length-append body rest), is_front body rest);
-        gives = gives_digest (decimal n) body;
+        gives = gives_digest type (decimal n) body;
       },
       refl,
     )

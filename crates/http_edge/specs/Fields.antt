@@ -1,5 +1,5 @@
--- The fields of a head: the values that stand under a name, and what they say of the length of the body
--- (RFC 9110, sections 5 and 8.6).
+-- The fields of a head: the values that stand under a name, and what they say of the length of the body and of its type
+-- (RFC 9110, sections 5, 8.3 and 8.6).
 use Rattle.std.specs.Prelude.{ℕ, ◌-◌, ◌^◌, ◌&&◌, nat_lt, min, List, [], ◌∷◌, length, map, codes, Bool, if◌then◌else◌, Option, Some, None}
 use Rattle.std.specs.List.{list_all, filter_map}
 use Rattle.std.specs.Char.{is_ascii_digit}
@@ -42,6 +42,15 @@ length_in (value ∷ next ∷ values) = Malformed
 
 abbrev pub length_said : List Field → BodyLength
 length_said fields = length_in (field_values_of (codes "content-length") fields)
+
+-- the one value of `Content-Type` (RFC 9110, section 8.3); no bytes if there is none, or several
+abbrev pub content_type_in : List (List ℕ) → List ℕ
+content_type_in [] = []
+content_type_in (value ∷ []) = value
+content_type_in (value ∷ next ∷ values) = []
+
+abbrev pub content_type_said : List Field → List ℕ
+content_type_said fields = content_type_in (field_values_of (codes "content-type") fields)
 
 abbrev pub encodings_said : List Field → List (List ℕ)
 encodings_said fields = field_values_of (codes "transfer-encoding") fields

@@ -4,7 +4,7 @@ use Rattle.sb_outside.specs.declared.links.Session.{Session}
 use Rattle.http_edge.specs.Responses.{response_text}
 use Rattle.http_edge.specs.Outcomes.{BytesOutcome, SessionOutcome}
 use Rattle.http_edge.specs.declared.faults.ExchangeFault.{ExchangeFault}
-use Rattle.http_edge.specs.declared.messages.Allow.{Allow}
+use Rattle.http_edge.specs.declared.messages.ResponseFields.{ResponseFields}
 use Rattle.http_edge.specs.declared.messages.Status.TheVariants.{Success}
 
 -- Where received bytes pass with a body, they come to nothing else. Which of two refusals is told need not be one.
@@ -24,4 +24,4 @@ SessionHasOneBody need session =
 abbrev pub PassesAsWritten : List ℕ → Type 0
 PassesAsWritten body =
     length body ≤ 201326592
-    → (allow : Allow) (rest : List ℕ) (need ended : Bool) → BytesOutcome need (response_text Success allow body ++ rest) ended (Ok body)
+    → (fields : ResponseFields) (rest : List ℕ) (need ended : Bool) → BytesOutcome need (response_text Success fields body ++ rest) ended (Ok body)

@@ -1,4 +1,5 @@
 pub mod Fields
+pub mod MediaTypes
 pub mod Heads
 pub mod Requests
 pub mod Responses

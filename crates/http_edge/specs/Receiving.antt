@@ -6,6 +6,7 @@ use Rattle.httparse.specs.declared.spans.HeaderSpan.{HeaderSpan}
 use Rattle.httparse.specs.declared.spans.RequestSpans.{RequestSpans}
 use Rattle.httparse.specs.Grammar.{RequestHead, print_request, ReadsRequest}
 use Rattle.httparse.specs.Spans.{IsWithin, IsHeaderWithin, span_bytes, header_bytes, name_and_value}
+use Rattle.http_edge.specs.Fields.{content_type_said}
 use Rattle.http_edge.specs.Heads.{IsRefusedRequest, IsOpenRequest}
 use Rattle.http_edge.specs.Requests.{HasRequest}
 use Rattle.http_edge.specs.SessionBytes.{ReadsWhile, IsShort}
@@ -34,6 +35,7 @@ pub record IsPartsOf (text : List ℕ) (parts : RequestParts) : Type 0 where
   pub within : parts.start ≤ length text
   pub method : parts.method ≡ head.method
   pub target : parts.target ≡ head.target
+  pub content_type : parts.content_type ≡ content_type_said head.fields
 
 -- what a text so far says of the head
 abbrev pub IsRequestStep : List ℕ → RequestStep → Type 0

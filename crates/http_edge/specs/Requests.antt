@@ -5,7 +5,7 @@ use Rattle.std.specs.Str.{bytes_eq}
 use Rattle.sb_outside.specs.Outside.{GivesFront}
 use Rattle.sb_outside.specs.Reading.{ReadsToEnd}
 use Rattle.httparse.specs.Grammar.{RequestHead}
-use Rattle.http_edge.specs.Fields.{length_said, encodings_said}
+use Rattle.http_edge.specs.Fields.{length_said, content_type_said, encodings_said}
 use Rattle.http_edge.specs.Heads.{HasGoodFields, BeginsRequest, IsRefusedRequest, IsOpenRequest}
 use Rattle.http_edge.specs.declared.fields.BodyLength.{BodyLength}
 use Rattle.http_edge.specs.declared.fields.BodyLength.TheVariants.{Unsaid, Malformed, Said}
@@ -51,6 +51,7 @@ pub record ReadsAsRequest (bytes : List ℕ) (request : HttpRequest) : Type 0 wh
   pub whole : body_length ≤ length rest
   pub method : request.method ≡ head.method
   pub target : request.target ≡ head.target
+  pub content_type : request.content_type ≡ content_type_said head.fields
   pub body : request.body ≡ take body_length rest
 
 -- The body is not whole.

@@ -7,6 +7,9 @@ use Rattle.http_edge.specs.declared.messages.Status.{Status}
 use Rattle.http_edge.specs.declared.messages.Status.TheVariants.{Success, BadRequest, NotFound, MethodNotAllowed, LengthRequired, ContentTooLarge, FieldsTooLarge, BadGateway, ServiceUnavailable}
 use Rattle.http_edge.specs.declared.messages.Allow.{Allow}
 use Rattle.http_edge.specs.declared.messages.Allow.TheVariants.{Get, Post}
+use Rattle.http_edge.specs.declared.messages.MediaType.{MediaType}
+use Rattle.http_edge.specs.declared.messages.MediaType.TheVariants.{Json, Protobuf}
+use Rattle.http_edge.specs.declared.messages.ResponseFields.{ResponseFields}
 
 -- a line, which CR LF ends
 unfoldable pub line : List ℕ → List ℕ
@@ -44,19 +47,24 @@ abbrev pub allow_line : Status → Allow → List ℕ
 allow_line MethodNotAllowed allow = line (codes "Allow: " ++ method_text allow)
 allow_line status allow = []
 
+-- the media type of a body, as `Content-Type` names it (RFC 9110, section 8.3)
+abbrev pub media_text : MediaType → List ℕ
+media_text Json = codes "application/json"
+media_text Protobuf = codes "application/x-protobuf"
+
 -- the digest of a body as a member of `Content-Digest` (RFC 9530, section 2)
 unfoldable pub digest_text : List ℕ → List ℕ
 digest_text digest = codes "sha-256=:" ++ encode_of standard digest ++ codes ":"
 
-abbrev pub response_head : Status → Allow → List ℕ → List ℕ
-response_head status allow body =
+abbrev pub response_head : Status → ResponseFields → List ℕ → List ℕ
+response_head status fields body =
     line (codes "HTTP/1.1 " ++ status_text status)
-    ++ line (codes "Content-Type: application/json")
+    ++ line (codes "Content-Type: " ++ media_text fields.media)
     ++ line (codes "Content-Length: " ++ decimal (length body))
     ++ line (codes "Content-Digest: " ++ digest_text (sha256 body))
-    ++ allow_line status allow
+    ++ allow_line status fields.allow
     ++ line (codes "Connection: close")
     ++ line []
 
-abbrev pub response_text : Status → Allow → List ℕ → List ℕ
-response_text status allow body = response_head status allow body ++ body
+abbrev pub response_text : Status → ResponseFields → List ℕ → List ℕ
+response_text status fields body = response_head status fields body ++ body

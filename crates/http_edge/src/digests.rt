@@ -42,8 +42,9 @@ fn trim_end(text: &[u8]) -> &[u8]
     &text[..end]
 }
 
+/// A text without the spaces and tabs around.
 #[tactic(auto, unfolding(httparse::specs::Grammar::trim_ows))]
-fn trim(text: &[u8]) -> &[u8]
+pub(crate) fn trim(text: &[u8]) -> &[u8]
     ensures { result.now ≡ trim_ows text.now }
 {
     trim_end(trim_start(text))

@@ -4,7 +4,7 @@ ghost use Rattle.std.specs.List.{list_all};
 ghost use Rattle.std.specs.Char.{is_ascii_digit};
 ghost use Rattle.std.specs.Str.Parse.{digits_value};
 ghost use Rattle.httparse.specs.Spans.{IsHeaderWithin, header_bytes};
-ghost use Rattle.http_edge.specs.Fields.{value_if_named, values_at, capped, is_number, number_said, length_in};
+ghost use Rattle.http_edge.specs.Fields.{value_if_named, values_at, capped, is_number, number_said, length_in, content_type_in};
 ghost use Rattle.http_edge.specs.Outcomes.{framing_by_length, framing_by_encoding, framing_in};
 
 use httparse::spans::HeaderSpan;
@@ -117,6 +117,20 @@ pub(crate) fn length_said(buffer: &[u8], fields: &[HeaderSpan]) -> BodyLength
         return BodyLength::Malformed;
     }
     number_said(value)
+}
+
+/// The one value of `Content-Type`, and nothing if there is none, or several.
+pub(crate) fn content_type_said<'b>(buffer: &'b [u8], fields: &[HeaderSpan]) -> &'b [u8]
+    requires { All (IsHeaderWithin (length buffer.now)) fields.now }
+    ensures { result.now ≡ content_type_in (values_at buffer.now fields.now (codes "content-type")) }
+{
+    let Some(value) = first_value(buffer, fields, b"content-type") else {
+        return b"";
+    };
+    if value_count(buffer, fields, b"content-type") != 1 {
+        return b"";
+    }
+    value
 }
 
 fn framing_by_length(said: BodyLength) -> Framing

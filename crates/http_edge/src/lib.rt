@@ -7,7 +7,8 @@ pub use exchanging::{Exchanged, begin_exchange, end_exchange, exchange, receive_
 pub use faults::{ExchangeFault, RequestFault, ResponseFault};
 pub use fields::{BodyLength, Framing};
 pub use laws::{one_body, passes};
-pub use messages::{Allow, HttpRequest, Status, Target};
+pub use media_types::media_type_in;
+pub use messages::{Allow, HttpRequest, MediaType, ResponseFields, Status, Target};
 pub use paths::{kind_of, path_of};
 pub use printing::push_exchange_cause;
 pub use requests::read_request;
@@ -22,6 +23,7 @@ mod fields;
 mod head_places;
 mod heads;
 mod laws;
+mod media_types;
 mod messages;
 mod paths;
 mod printing;

@@ -9,6 +9,8 @@ use sb_model::{Bytes, Text};
 pub struct HttpRequest {
     pub method: Bytes,
     pub target: Bytes,
+    /// The value of its one field `Content-Type` (RFC 9110, section 8.3). It is empty if none stands there, or several.
+    pub content_type: Bytes,
     pub body: Bytes,
 }
 
@@ -92,4 +94,22 @@ impl Status {
 pub enum Allow {
     Get,
     Post,
+}
+
+/// The media type of a body.
+#[derive(Clone, Copy, Debug, PartialEq, Eq, Hash)]
+pub enum MediaType {
+    /// application/json
+    Json,
+    /// application/x-protobuf
+    Protobuf,
+}
+
+/// What of a response's head its server chooses beside the status.
+#[derive(Clone, Copy, Debug, PartialEq, Eq)]
+pub struct ResponseFields {
+    /// The method that `Allow` names where the status is 405. With another status it has no meaning.
+    pub allow: Allow,
+    /// The media type that `Content-Type` names.
+    pub media: MediaType,
 }

@@ -8,7 +8,7 @@ ghost use Rattle.http_edge.specs.Requests.{Gives, NeedsMore, IsRefusal, RequestO
 ghost use Rattle.http_edge.specs.SessionBytes.{ReadsWhile};
 ghost use Rattle.http_edge.specs.Receiving.{IsFound, HasSpansWithin, IsPartsOf, IsRequestStep};
 
-use crate::fields::{BodyLength, first_value, length_said};
+use crate::fields::{BodyLength, content_type_said, first_value, length_said};
 use crate::heads::{FIELD_LIMIT, HEAD_LIMIT, PIECE, buffer_of, front_of, room_for_head};
 use crate::receiving::{Stop, receive, receive_body};
 use crate::{HttpRequest, RequestFault};
@@ -25,6 +25,8 @@ pub(crate) const BODY_LIMIT: u64 = 1_048_576;
 pub(crate) struct RequestParts {
     pub method: Bytes,
     pub target: Bytes,
+    /// The value of its one field `Content-Type`.
+    pub content_type: Bytes,
     /// How many bytes the body has, where that is known.
     pub length: Option<u64>,
     /// Where the body begins.
@@ -96,6 +98,7 @@ fn take_parts(
     Ok(RequestStep::Whole(RequestParts {
         method: Bytes::from_slice(alloc, method)?,
         target: Bytes::from_slice(alloc, spans.path.of(buffer))?,
+        content_type: Bytes::from_slice(alloc, content_type_said(buffer, fields))?,
         length: request_length(method, buffer, fields, said),
         start: spans.len,
     }))
@@ -189,6 +192,7 @@ fn receive_rest<S: Source>(
     let RequestParts {
         method,
         target,
+        content_type,
         length,
         start,
     } = parts;
@@ -205,6 +209,7 @@ fn receive_rest<S: Source>(
         Ok(()) => Ok(HttpRequest {
             method,
             target,
+            content_type,
             body,
         }),
         Err(Stop::Ended) => Err(RequestFault::Cut),

@@ -2,9 +2,9 @@ ghost use Rattle.std.specs.Prelude.{◌≡◌, ◌≤◌, ◌≢◌, ◌++◌, l
 ghost use Rattle.sb_outside.specs.Outside.{Rose, appended};
 ghost use Rattle.sb_outside.specs.Writing.{HasFront};
 ghost use Rattle.sha2.specs.Sha256.{sha256};
-ghost use Rattle.http_edge.specs.Responses.{status_text, method_text, allow_line, digest_text, response_head, response_text, line};
+ghost use Rattle.http_edge.specs.Responses.{status_text, media_text, method_text, allow_line, digest_text, response_head, response_text, line};
 
-use crate::{Allow, ResponseFault, Status};
+use crate::{Allow, MediaType, ResponseFault, ResponseFields, Status};
 use base64::engine::general_purpose::STANDARD;
 use hash_prefixes::full_hash;
 use sb_model::{Bytes, OutOfMemory};
@@ -24,6 +24,15 @@ fn status_text(status: Status) -> &'static str
         Status::FieldsTooLarge => "431 Request Header Fields Too Large",
         Status::BadGateway => "502 Bad Gateway",
         Status::ServiceUnavailable => "503 Service Unavailable",
+    }
+}
+
+fn media_text(media: MediaType) -> &'static str
+    ensures { result.now ≡ media_text media }
+{
+    match media {
+        MediaType::Json => "application/json",
+        MediaType::Protobuf => "application/x-protobuf",
     }
 }
 
@@ -81,15 +90,24 @@ fn push_allow(page: &mut Bytes, status: Status, allow: Allow) -> Result<(), OutO
 }
 
 // The head of a response.
-fn head_of(alloc: Global, status: Status, allow: Allow, body: &[u8]) -> Result<Bytes, OutOfMemory>
-    ensures { IfOk result (λ head. head ≡ response_head status allow body.now) }
+fn head_of(
+    alloc: Global,
+    status: Status,
+    fields: ResponseFields,
+    body: &[u8],
+) -> Result<Bytes, OutOfMemory>
+    ensures { IfOk result (λ head. head ≡ response_head status fields body.now) }
 {
     let mut page = Bytes::new(alloc);
     push_line(&mut page, b"HTTP/1.1 ", status_text(status).as_bytes())?;
-    push_line(&mut page, b"Content-Type: ", b"application/json")?;
+    push_line(
+        &mut page,
+        b"Content-Type: ",
+        media_text(fields.media).as_bytes(),
+    )?;
     push_length(&mut page, body.len())?;
     push_digest(alloc, &mut page, body)?;
-    push_allow(&mut page, status, allow)?;
+    push_allow(&mut page, status, fields.allow)?;
     push_line(&mut page, b"Connection: ", b"close")?;
     push_line(&mut page, b"", b"")?;
     Ok(page)
@@ -108,21 +126,21 @@ fn write_both<O: Sink>(sink: &mut O, first: &[u8], second: &[u8]) -> Result<(), 
     write_all(sink, second)
 }
 
-/// Writes a whole response: status line, fields and body. The allowed method is named where the status is 405,
-/// and nowhere else.
+/// Writes a whole response: status line, fields and body. `Content-Type` names the media type of the body. The allowed
+/// method is named where the status is 405, and nowhere else.
 pub fn write_response<O: Sink>(
     alloc: Global,
     sink: &mut O,
     status: Status,
-    allow: Allow,
+    fields: ResponseFields,
     body: &[u8],
 ) -> Result<(), ResponseFault>
     ensures ok { OnOk result (O.contents sink.new
-        ≡ appended (O.contents sink.old) (response_text status allow body.now)) }
+        ≡ appended (O.contents sink.old) (response_text status fields body.now)) }
 
     // The sink took a front of the response, and not the whole.
     ensures write_fault { IsErrOf result ResponseFault.WriteFault →
-        HasFront (O.contents sink.old) (O.contents sink.new) (response_text status allow body.now) }
+        HasFront (O.contents sink.old) (O.contents sink.new) (response_text status fields body.now) }
     ensures refused { IsErrOf result ResponseFault.OutOfMemory → O.contents sink.new ≡ O.contents sink.old }
 
     // A fault is counted, and nothing else is.
@@ -131,7 +149,7 @@ pub fn write_response<O: Sink>(
     ensures counted { O.faults sink.old ≤ O.faults sink.new }
     ensures other { O.front sink.new ≡ O.front sink.old }
 {
-    let Ok(head) = head_of(alloc, status, allow, body) else {
+    let Ok(head) = head_of(alloc, status, fields, body) else {
         return Err(ResponseFault::OutOfMemory);
     };
     match write_both(sink, head.as_slice(), body) {

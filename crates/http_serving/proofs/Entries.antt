@@ -9,7 +9,7 @@ use Rattle.sb_outside.specs.declared.doors.Connection.{Connection}
 use Rattle.http_edge.specs.Requests.{Gives}
 use Rattle.http_edge.specs.declared.faults.RequestFault.{RequestFault}
 use Rattle.http_edge.specs.declared.faults.RequestFault.TheVariants as fault
-use Rattle.http_edge.specs.declared.messages.Allow.{Allow}
+use Rattle.http_edge.specs.declared.messages.ResponseFields.{ResponseFields}
 use Rattle.http_edge.specs.declared.messages.HttpRequest.{HttpRequest}
 use Rattle.http_edge.specs.declared.messages.Status.{Status}
 use Rattle.http_serving.specs.Hearing.{Hears, IsHeard}
@@ -74,7 +74,7 @@ has_ended bytes false pieces rest some gives is = absurd (cc)
 
 -- ---- what was written
 
-before_told : (Right : HttpRequest → Status → Allow → (body cause : List ℕ) → Type 0) (received : Result HttpRequest RequestFault) (how : ConnectionEnd) (before : Option (List ℕ)) (text : List ℕ)
+before_told : (Right : HttpRequest → Status → ResponseFields → (body cause : List ℕ) → Type 0) (received : Result HttpRequest RequestFault) (how : ConnectionEnd) (before : Option (List ℕ)) (text : List ℕ)
     → HasWritten Right received how before (Some text) → before ≢ None
 before_told Right received (end.Answered status cause) before text written none = let e = written.written in absurd (cc)
 before_told Right received end.WriteFault before text written none = let e = written.written.has in absurd (cc)
@@ -127,7 +127,7 @@ whole_text text written contents contents' faults faults' none held is (inr rose
 -- ---- an entry
 
 -- what the entry says of a connection whose pieces and contents before are known
-entry_of : (Right : HttpRequest → Status → Allow → (body cause : List ℕ) → Type 0) (how : ConnectionEnd) (entry : Connection) (pieces : List (List ℕ))
+entry_of : (Right : HttpRequest → Status → ResponseFields → (body cause : List ℕ) → Type 0) (how : ConnectionEnd) (entry : Connection) (pieces : List (List ℕ))
     → (start' left' : Option (List (List ℕ))) (contents contents' : Option (List ℕ)) (reads' writes writes' : ℕ)
     → 0 < length pieces → IfTold start' (Some pieces) → IfTold contents (Some []) → writes ≡ 0
     → Serves Right how (Some pieces) left' contents contents' → IsComplete Right pieces how contents contents'
@@ -166,7 +166,7 @@ entry_of Right how entry pieces start' left' contents contents' reads' writes wr
     }
 
 -- of one that was served at once
-pub entry_served : (Right : HttpRequest → Status → Allow → (body cause : List ℕ) → Type 0) (how : ConnectionEnd) (entry : Connection) (pieces : List (List ℕ))
+pub entry_served : (Right : HttpRequest → Status → ResponseFields → (body cause : List ℕ) → Type 0) (how : ConnectionEnd) (entry : Connection) (pieces : List (List ℕ))
     → (start start' left left' : Option (List (List ℕ))) (contents contents' : Option (List ℕ)) (reads reads' writes writes' : ℕ)
     → IsFresh pieces start left contents reads writes → (serves : Serves Right how left left' contents contents')
     → IfSome left (λ given. IsComplete Right given how contents contents') → start' ≡ start
@@ -183,7 +183,7 @@ entry_served Right how entry pieces start start' left left' contents contents' r
     (counted_read how reads reads' fresh.no_reads read_failed read_kept) write_failed write_kept unavailable is
 
 -- of one that was heard before and answered now
-pub entry_answered : (Right : HttpRequest → Status → Allow → (body cause : List ℕ) → Type 0) (received : Result HttpRequest RequestFault) (how : ConnectionEnd) (entry : Connection) (pieces : List (List ℕ))
+pub entry_answered : (Right : HttpRequest → Status → ResponseFields → (body cause : List ℕ) → Type 0) (received : Result HttpRequest RequestFault) (how : ConnectionEnd) (entry : Connection) (pieces : List (List ℕ))
     → (start start' left left' : Option (List (List ℕ))) (contents contents' : Option (List ℕ)) (reads reads' writes writes' : ℕ)
     → IsHeard received pieces start left contents reads writes
     → ((first : Option (List (List ℕ))) → Hears received first left → Serves Right how first left' contents contents')

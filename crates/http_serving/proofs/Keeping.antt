@@ -119,12 +119,12 @@ module _ {K : Type 0} (P : KeptAnswer K → Type 0) where
   }
 
   more_kept : (first : K → Bool) (asked : List ℕ) (meaning : Option K) (response : Response) (sent : Answer) (before after : KeptLists K) → HoldsOfAnswers P before
-      → P (record { asked = asked; meaning = meaning; text = response_text response.status response.allow response.body })
+      → P (record { asked = asked; meaning = meaning; text = response_text response.status response.fields response.body })
       → KeepsSent first asked meaning response sent before after → HoldsOfAnswers P after
   more_kept first asked meaning response (answer.Made made) before after are is same = subst (HoldsOfAnswers P) (sym same) are
   more_kept first asked meaning response (answer.Written written) before after are is same = subst (HoldsOfAnswers P) (sym same) are
   more_kept first asked meaning response (answer.Shared shared) before after are is has =
-      one_more_kept (record { asked = asked; meaning = meaning; text = response_text response.status response.allow response.body }) (is_for_first first meaning) before after are is has
+      one_more_kept (record { asked = asked; meaning = meaning; text = response_text response.status response.fields response.body }) (is_for_first first meaning) before after are is has
 
   pub stays_kept : (first : K → Bool) → StaysKept first P
   stays_kept first = record {
@@ -136,11 +136,11 @@ module _ {K : Type 0} (P : KeptAnswer K → Type 0) where
 
 -- a written text that was shared and kept
 pub kept_written : {K : Type 0} (first : K → Bool) (asked : List ℕ) (meaning : Option K) (response : Response) (text shared : List ℕ) (before between after : KeptLists K)
-    → text ≡ response_text response.status response.allow response.body → shared ≡ text → between ≡ before
+    → text ≡ response_text response.status response.fields response.body → shared ≡ text → between ≡ before
     → HasKeptIn (record { asked = asked; meaning = meaning; text = shared }) (is_for_first first meaning) between after
-    → HasKeptIn (record { asked = asked; meaning = meaning; text = response_text response.status response.allow response.body }) (is_for_first first meaning) before after
+    → HasKeptIn (record { asked = asked; meaning = meaning; text = response_text response.status response.fields response.body }) (is_for_first first meaning) before after
 kept_written {K} first asked meaning response text shared before between after whole is same has =
     let made : List ℕ → KeptAnswer K = λ t. record { asked = asked; meaning = meaning; text = t } in
-    let written : List ℕ = response_text response.status response.allow response.body in
+    let written : List ℕ = response_text response.status response.fields response.body in
     subst (λ (b : KeptLists K). HasKeptIn (made written) (is_for_first first meaning) b after) same
     (subst (λ (t : List ℕ). HasKeptIn (made t) (is_for_first first meaning) between after) (is ∙ whole) has)

@@ -1,6 +1,7 @@
 mod Fronts
 mod OpenEntries
 mod Unavailable
+mod Parts
 mod RoutedAnswers
 mod Requests
 mod Answering

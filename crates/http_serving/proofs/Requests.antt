@@ -4,6 +4,7 @@ use Rattle.std.proofs.lemmas.List.{append-nil, take-append-drop, take-take, take
 use Rattle.httparse.specs.Grammar.{Field, RequestHead, print_request, ReadsRequest}
 use Rattle.httparse.proofs.GrammarLemmas.{request_prefix_free}
 use Rattle.sb_outside.specs.Outside.{next_piece, bytes_left, prepended}
+use Rattle.http_edge.specs.Fields.{content_type_said}
 use Rattle.http_edge.specs.Heads.{BeginsRequest, HasGoodFields, HasBadFields, IsRefusedRequest, IsOpenRequest}
 use Rattle.http_edge.specs.Requests.{Gives, request_length, HasRequest, ReadsAsRequest, LacksBody, IsRefusal}
 use Rattle.http_edge.specs.declared.faults.RequestFault.{RequestFault}
@@ -123,6 +124,8 @@ same_request bytes whole ended received request first second front =
     some_size _ _ (same_size bytes whole ended request second front first.head first.rest (Some first.body_length) first.has) in
     let method : received.method ≡ request.method = first.method ∙ ap (λ h. h.method) same.0 ∙ sym second.method in
     let target : received.target ≡ request.target = first.target ∙ ap (λ h. h.target) same.0 ∙ sym second.target in
+    let type : received.content_type ≡ request.content_type =
+    first.content_type ∙ ap (λ h. content_type_said h.fields) same.0 ∙ sym second.content_type in
     let body : received.body ≡ request.body =
     first.body ∙ same_body first.rest front.lost second.rest first.body_length second.body_length same.1 size first.whole ∙ sym second.body in
-    λ i. record { method = method i; target = target i; body = body i }
+    λ i. record { method = method i; target = target i; content_type = type i; body = body i }

@@ -154,15 +154,15 @@ HasKeptIn answer false before after = HasKept answer before.others after.others 
 abbrev pub IsSentAs : Response → Answer → Type 0
 IsSentAs response (answer.Made made) = made ≡ response
 IsSentAs response (answer.Written written) =
-    (written.status ≡ response.status) × (response.cause ≡ []) × (written.text ≡ response_text response.status response.allow response.body)
+    (written.status ≡ response.status) × (response.cause ≡ []) × (written.text ≡ response_text response.status response.fields response.body)
 IsSentAs response (answer.Shared shared) =
-    (shared.status ≡ response.status) × (response.cause ≡ []) × (shared.text ≡ response_text response.status response.allow response.body)
+    (shared.status ≡ response.status) × (response.cause ≡ []) × (shared.text ≡ response_text response.status response.fields response.body)
 
 -- What comes of a response to a body, with this meaning, that is sent as this answer: one whose text is shared was kept as its part
 -- keeps answers, and with any other all is as it was.
 abbrev pub KeepsSent : {K : Type 0} → (K → Bool) → List ℕ → Option K → Response → Answer → (before after : KeptLists K) → Type 0
 KeepsSent first asked meaning response (answer.Shared shared) before after =
-    HasKeptIn (record { asked = asked; meaning = meaning; text = response_text response.status response.allow response.body })
+    HasKeptIn (record { asked = asked; meaning = meaning; text = response_text response.status response.fields response.body })
     (is_for_first first meaning) before after
 KeepsSent first asked meaning response (answer.Made made) before after = after ≡ before
 KeepsSent first asked meaning response (answer.Written written) before after = after ≡ before
@@ -189,6 +189,6 @@ pub record StaysAsked {K : Type 0} (same : K → K → Bool) (first : K → Bool
 -- So does what is kept with one answer more that is such, and what is kept of nothing.
 pub record StaysKept {K : Type 0} (first : K → Bool) (P : KeptAnswer K → Type 0) : Type 0 where
   pub more : (asked : List ℕ) (meaning : Option K) (response : Response) (sent : Answer) (before after : KeptLists K) → HoldsOfAnswers P before
-      → P (record { asked = asked; meaning = meaning; text = response_text response.status response.allow response.body })
+      → P (record { asked = asked; meaning = meaning; text = response_text response.status response.fields response.body })
       → KeepsSent first asked meaning response sent before after → HoldsOfAnswers P after
   pub none : (kept : KeptLists K) → HoldsOfAnswers P (emptied kept)

@@ -1,4 +1,6 @@
 pub mod Targets
+pub mod Queries
+pub mod Forms
 pub mod Routes
 pub mod Written
 pub mod Serving

@@ -25,7 +25,7 @@ answer_status (Written written) = written.status
 answer_status (Shared shared) = shared.status
 
 abbrev pub answer_text : Answer → List ℕ
-answer_text (Made response) = response_text response.status response.allow response.body
+answer_text (Made response) = response_text response.status response.fields response.body
 answer_text (Written written) = written.text
 answer_text (Shared shared) = shared.text
 

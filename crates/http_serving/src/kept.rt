@@ -359,7 +359,7 @@ impl<M: Meaning + Drop> KeptAnswers<M> {
         response: Response,
         text: Bytes,
     ) -> Answer
-        requires text { text ≡ response_text response.status response.allow response.body }
+        requires text { text ≡ response_text response.status response.fields response.body }
         requires cause { response.cause ≡ [] }
         ensures answer { IsSentAs response result }
         ensures kept { KeepsSent M.first asked.now meaning response result self.old self.new }

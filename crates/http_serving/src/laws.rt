@@ -3,9 +3,9 @@ ghost use Rattle.http_edge.specs.declared.messages.HttpRequest.{HttpRequest};
 ghost use Rattle.sb_outside.specs.declared.doors.Connection.{Connection};
 ghost use Rattle.http_serving.specs.Kept.{FindsByBody, FindsByMeaning, StaysAsked, StaysKept};
 ghost use Rattle.http_serving.specs.declared.kept.KeptAnswer.{KeptAnswer};
-ghost use Rattle.http_serving.specs.Law.{HasOneAnswer, IsAnsweredAsRead};
+ghost use Rattle.http_serving.specs.Law.{AsksForOneThing, HasOneAnswer, IsAnsweredAsRead};
 ghost use Rattle.http_serving.specs.OpenEntries.{ClosesOne, OpensOne, SaysAll};
-ghost use Rattle.http_serving.specs.Routes.{RoutedAnswer};
+ghost use Rattle.http_serving.specs.Routes.{Route, RoutedAnswer};
 
 use crate::kept::Meaning;
 use crate::serving::Answers;
@@ -16,6 +16,11 @@ pub fn requests_have_one_answer<A: Answers>()
 {
     A::have_one_answer();
 }
+
+/// A request that asks for a route of a table asks for no other, is taken by it, and has its path.
+pub fn requests_ask_for_one_thing()
+    ensures { (routes : List Route) (request : HttpRequest) → AsksForOneThing routes request }
+{}
 
 /// Bytes that begin with a whole request are answered as that request is, and never as a refusal.
 pub fn answers_follow_requests<A: Answers>()

@@ -6,7 +6,7 @@ ghost use Rattle.http_serving.specs.Steps.{answer_cause, answer_status, answer_t
 
 use crate::ends::ConnectionEnd;
 use crate::text_sink::TextSink;
-use http_edge::{Allow, RequestFault, ResponseFault, Status, write_response};
+use http_edge::{RequestFault, ResponseFault, ResponseFields, Status, write_response};
 use sb_model::{Bytes, OutOfMemory};
 use sb_outside::{Failed, SharedText, Sink, Wire, write_all};
 use std::alloc::Global;
@@ -15,13 +15,13 @@ use std::alloc::Global;
 const UNAVAILABLE: &[u8] =
     b"HTTP/1.1 503 Service Unavailable\r\nContent-Type: application/json\r\nContent-Length: 0\r\nContent-Digest: sha-256=:47DEQpj8HBSa+/TImW+5JCeuQeRkm5NMpJWZG3hSuFU=:\r\nConnection: close\r\n\r\n";
 
-/// A response: a status, the method that a 405 allows, and the body that goes with it. Beside it stands its cause, which is not
-/// sent.
+/// A response: a status, the fields that the server chooses, and the body that goes with it. Beside it stands its cause, which is
+/// not sent.
 #[derive(Debug, Drop)]
 pub struct Response {
     pub status: Status,
-    /// The method that `Allow` names where the status is 405. With another status it has no meaning.
-    pub allow: Allow,
+    /// The method that a 405 allows, and the media type of the body.
+    pub fields: ResponseFields,
     pub body: Bytes,
     /// What the server tells of it whoever runs it, empty for nothing.
     pub cause: Bytes,
@@ -53,15 +53,15 @@ pub enum Answer {
 }
 
 /// A response without a body and without a cause. The method is named where the status is 405, and nowhere else.
-pub fn bare(alloc: Global, status: Status, allow: Allow) -> Response
+pub fn bare(alloc: Global, status: Status, fields: ResponseFields) -> Response
     ensures status { result.status ≡ status }
-    ensures allow { result.allow ≡ allow }
+    ensures fields { result.fields ≡ fields }
     ensures body { result.body ≡ [] }
     ensures cause { result.cause ≡ [] }
 {
     Response {
         status,
-        allow,
+        fields,
         body: Bytes::new(alloc),
         cause: Bytes::new(alloc),
     }
@@ -83,16 +83,16 @@ pub(crate) fn refusal_status(fault: RequestFault) -> Option<Status>
 /// Writes a response out, as it is sent. Its cause is no part of it.
 pub fn write_out(alloc: Global, response: &Response) -> Result<WrittenResponse, OutOfMemory>
     ensures status { IfOk result (λ written. written.status ≡ response.now.status) }
-    ensures text { IfOk result (λ written. written.text ≡ response_text response.now.status response.now.allow response.now.body) }
+    ensures text { IfOk result (λ written. written.text ≡ response_text response.now.status response.now.fields response.now.body) }
 {
     let Response {
         status,
-        allow,
+        fields,
         body,
         cause: _,
     } = response;
     let mut sink = TextSink::new(alloc);
-    match write_response(alloc, &mut sink, *status, *allow, body.as_slice()) {
+    match write_response(alloc, &mut sink, *status, *fields, body.as_slice()) {
         Ok(()) => Ok(WrittenResponse {
             status: *status,
             text: sink.into_text(),
@@ -103,7 +103,7 @@ pub fn write_out(alloc: Global, response: &Response) -> Result<WrittenResponse, 
 
 /// Writes a response.
 fn send_made<O: Sink>(alloc: Global, sink: &mut O, response: Response) -> ConnectionEnd
-    ensures sent { IsSent response.status (response_text response.status response.allow response.body) response.cause result
+    ensures sent { IsSent response.status (response_text response.status response.fields response.body) response.cause result
         (O.contents sink.old) (O.contents sink.new) }
     ensures failed { result ≡ ConnectionEnd.WriteFault → Rose (O.faults sink.old) (O.faults sink.new) }
     ensures kept { result ≢ ConnectionEnd.WriteFault → O.faults sink.new ≡ O.faults sink.old }
@@ -112,11 +112,11 @@ fn send_made<O: Sink>(alloc: Global, sink: &mut O, response: Response) -> Connec
 {
     let Response {
         status,
-        allow,
+        fields,
         body,
         cause,
     } = response;
-    match write_response(alloc, sink, status, allow, body.as_slice()) {
+    match write_response(alloc, sink, status, fields, body.as_slice()) {
         Ok(()) => ConnectionEnd::Answered(status, cause),
         Err(ResponseFault::WriteFault) => ConnectionEnd::WriteFault,
         Err(ResponseFault::OutOfMemory) => ConnectionEnd::OutOfMemory,

@@ -1,7 +1,7 @@
 ghost use Rattle.std.specs.Prelude.{◌≡◌, ◌≢◌, ◌↔◌, ◌≤◌, ℕ, List, Option, Err, IfOk, IfErr, IfSome, IsErrOf};
 ghost use Rattle.sb_outside.specs.Outside.{Rose};
-ghost use Rattle.http_edge.specs.declared.messages.Allow.{Allow};
 ghost use Rattle.http_edge.specs.declared.messages.HttpRequest.{HttpRequest};
+ghost use Rattle.http_edge.specs.declared.messages.ResponseFields.{ResponseFields};
 ghost use Rattle.http_edge.specs.declared.messages.Status.{Status};
 ghost use Rattle.http_serving.specs.Hearing.{Hears, IsHeard};
 ghost use Rattle.http_serving.specs.Law.{HasOneAnswer};
@@ -14,7 +14,9 @@ ghost use Rattle.http_serving.specs.Written.{IsRightAnswer};
 use crate::ends::ConnectionEnd;
 use crate::responses::{Answer, bare, refusal_status, send, send_unavailable};
 use crate::routes::Routed;
-use http_edge::{Allow, HttpRequest, RequestFault, Status, read_request};
+use http_edge::{
+    Allow, HttpRequest, MediaType, RequestFault, ResponseFields, Status, read_request,
+};
 use sb_model::{Bytes, OutOfMemory};
 use sb_outside::{Door, Wire};
 use std::alloc::Global;
@@ -26,7 +28,7 @@ pub trait Answers {
 
     // what a right answer is to a request that asks for the route at a place, of a server that was so before it and is so after
     // it. It may be any relation, so also one of what a session of the server's own brought.
-    ghost right: { Self → Self → ℕ → HttpRequest → Status → Allow → (body cause : List ℕ) → Type 0 };
+    ghost right: { Self → Self → ℕ → HttpRequest → Status → ResponseFields → (body cause : List ℕ) → Type 0 };
 
     // what an answer leaves of a server, whether it is given or memory was refused
     ghost stays: { Self → Self → Type 0 };
@@ -54,6 +56,16 @@ pub trait Answers {
     ghost stays_itself: { (server : Self) → stays server server };
 }
 
+/// The fields of a response without a body.
+fn plain_fields(allow: Allow) -> ResponseFields
+    ensures { result ≡ record { allow = allow; media = MediaType.Json } }
+{
+    ResponseFields {
+        allow,
+        media: MediaType::Json,
+    }
+}
+
 /// The answer to a request.
 fn answer_routed<A: Answers>(
     alloc: Global,
@@ -66,9 +78,11 @@ fn answer_routed<A: Answers>(
     match answers.find(request) {
         Routed::Asked(place) => answers.answer(alloc, place, request),
         Routed::OtherMethod(allow) => {
-            Ok(Answer::Made(bare(alloc, Status::MethodNotAllowed, allow)))
+            Ok(Answer::Made(bare(alloc, Status::MethodNotAllowed, plain_fields(allow))))
         }
-        Routed::NoPath => Ok(Answer::Made(bare(alloc, Status::NotFound, Allow::Post))),
+        Routed::NoPath => {
+            Ok(Answer::Made(bare(alloc, Status::NotFound, plain_fields(Allow::Post))))
+        }
     }
 }
 
@@ -90,7 +104,7 @@ fn respond<A: Answers>(
         },
         Err(RequestFault::ReadFault) => Err(ConnectionEnd::ReadFault),
         Err(fault) => match refusal_status(fault) {
-            Some(status) => Ok(Answer::Made(bare(alloc, status, Allow::Post))),
+            Some(status) => Ok(Answer::Made(bare(alloc, status, plain_fields(Allow::Post)))),
             None => Err(ConnectionEnd::OutOfMemory),
         },
     }
@@ -210,10 +224,10 @@ pub fn answer_request<A: Answers, T: Wire>(
 /// Reads one request and writes one response (RFC 9112).
 ///
 /// A request that asks for a route is answered as the server says, and its cause is told. Other responses have no body and no
-/// cause: 400 where the request is malformed or cut off; 404 where no route has its path; 405 where the route of its path takes
-/// another method, which `Allow` names; 411 where the length of the body is not given; 413 where it is more than 1,048,576
+/// cause: 400 where the request is malformed or cut off; 404 where no route has its path; 405 where none of its path takes it, with
+/// the method of the first one in `Allow`; 411 where the length of the body is not given; 413 where it is more than 1,048,576
 /// bytes; 431 where the head is too long; 503 if memory is refused, of which a front may be written as with any other. What
-/// follows a `?` in the target is not looked at, nor what follows the request.
+/// follows a `?` in the target is looked at for the form of the request alone, and what follows the request is not looked at.
 pub fn serve_connection<A: Answers, T: Wire>(
     alloc: Global,
     answers: &mut A,

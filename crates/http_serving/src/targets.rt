@@ -3,7 +3,7 @@ ghost use Rattle.std.specs.List.{before_first, prefix_len, starts_with};
 ghost use Rattle.http_serving.specs.Targets.{begins_with_letter, from_slash, is_absolute, is_scheme_byte, path_in, without_authority};
 
 // The place of the first such byte.
-fn place_of(text: &[u8], wanted: u8) -> Option<usize>
+pub(crate) fn place_of(text: &[u8], wanted: u8) -> Option<usize>
     ensures { result ≡ position (λ byte. byte == wanted) text.now }
 {
     text.iter().position(|byte| *byte == wanted)

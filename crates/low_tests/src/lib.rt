@@ -19,6 +19,8 @@ mod read_lines;
 #[cfg(test)]
 mod read_values;
 #[cfg(test)]
+mod request_forms;
+#[cfg(test)]
 mod sound_targets;
 #[cfg(test)]
 mod wire_fields;

@@ -1,5 +1,5 @@
 //! Responses with which this server never answers.
-use http_edge::{Allow, Status, write_response};
+use http_edge::{Allow, MediaType, ResponseFields, Status, write_response};
 use memory_objects::MemorySink;
 use sb_model::Row;
 use std::alloc::Global;
@@ -9,7 +9,11 @@ use std::process::Abort;
 fn begins(rt: &impl Abort, alloc: Global, status: Status, code: u16, front: &[u8]) {
     assert_eq!(rt; status.code(), code);
     let mut sink = MemorySink::new(alloc, 1_000, Row::new(alloc)).expect(rt, "out of memory");
-    let written = write_response(alloc, &mut sink, status, Allow::Get, b"");
+    let fields = ResponseFields {
+        allow: Allow::Get,
+        media: MediaType::Json,
+    };
+    let written = write_response(alloc, &mut sink, status, fields, b"");
     assert_eq!(rt; written, Ok(()));
     assert!(rt; sink.bytes().starts_with(front), "{code}");
 }

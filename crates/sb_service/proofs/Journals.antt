@@ -13,7 +13,6 @@ use Rattle.sb_service.specs.declared.serve.ServePlan.{ServePlan}
 use Rattle.sb_service.specs.Serving.{Turn, GainsByTurns, GrowsByTurns, gained_in, AreOfJournal, HasHeld, HasNoBadLine, HasNotGrown, HasRun, IsLined, IsJournalRefusal, IsServeRun, IsTurn, ServingSeen, ServeView, Stops, HasServedTurns, AfterLoad, serving_with}
 use Rattle.http_serving.specs.declared.ends.ConnectionEnd.{ConnectionEnd}
 use Rattle.sb_service.proofs.Loads.{told_front, IsLoadedAs, loaded_as}
-use Rattle.sb_outside.specs.declared.doors.Connection.{Connection}
 
 -- however a journal is cut after its first line, it comes to the same
 abbrev pub CutsLaw : Type 0

@@ -9,6 +9,7 @@ use Rattle.sb_model.specs.Names.{same_name}
 use Rattle.sb_model.specs.History.{History}
 use Rattle.http_edge.specs.Responses.{response_text}
 use Rattle.http_edge.specs.declared.messages.HttpRequest.{HttpRequest}
+use Rattle.http_edge.specs.declared.messages.MediaType.TheVariants.{Json}
 use Rattle.http_edge.specs.declared.messages.Status.{Status}
 use Rattle.http_edge.specs.declared.messages.Status.TheVariants.{Success}
 use Rattle.http_serving.specs.Written.{IsRightAnswer, IsTextOfRight}
@@ -78,7 +79,7 @@ module _ (law : NamesLaw) where
 
 module _ (history : History) (times : Settings) (request : HttpRequest) where
   abbrev IsRightText : List ℕ → Type 0
-  IsRightText text = IsTextOfRight (IsResponseAt history times 0 request) Success [] text
+  IsRightText text = IsTextOfRight (IsResponseAt history times 1 request) Success [] text
 
   -- the text that is found by the body is that of a right response
   pub said_by_body : (asked text : List ℕ) → asked ≡ request.body
@@ -86,9 +87,9 @@ module _ (history : History) (times : Settings) (request : HttpRequest) where
   said_by_body asked text body (answer, is, same, text_is) =
       let said = is.asked in
       record {
-        allow = said.allow;
+        fields = said.fields;
         body = said.body;
-        right = (subst (λ (a : List ℕ). IsUpdatesText history times a said.body) (same ∙ body) said.right, refl);
+        right = (subst (λ (a : List ℕ). IsUpdatesText history times a said.body) (same ∙ body) said.right.1, said.right.0, refl);
         whole = sym text_is ∙ said.whole;
       }
 
@@ -97,12 +98,12 @@ module _ (history : History) (times : Settings) (request : HttpRequest) where
       → (answer : KeptAnswer (List Wish)) × (other : List Wish) × IsKeptOf history times answer × (answer.meaning ≡ Some other) × (same_wishes other wishes ≡ true) × (answer.text ≡ text) → IsRightText text
   said_by_wishes limits law message wishes text reads wish (answer, other, is, meaning, same, text_is) =
       let own : answer.meaning ≡ Some wishes = meaning ∙ ap Some (ones law other wishes same) in
-      let kept : IsTextOfRight (λ status allow body cause. IsWishedText history times wishes body) Success [] answer.text =
-      subst (λ (w : Option (List Wish)). IfSome w (λ ws. IsTextOfRight (λ status allow body cause. IsWishedText history times ws body) Success [] answer.text)) own is.wished in
+      let kept : IsTextOfRight (λ status fields body cause. (fields.media ≡ Json) × IsWishedText history times wishes body) Success [] answer.text =
+      subst (λ (w : Option (List Wish)). IfSome w (λ ws. IsTextOfRight (λ status fields body cause. (fields.media ≡ Json) × IsWishedText history times ws body) Success [] answer.text)) own is.wished in
       record {
-        allow = kept.allow;
+        fields = kept.fields;
         body = kept.body;
-        right = ((message, reads, kept.right ∙ ap spelling_of_response (sym (answered history limits times.wait message wishes wish))), refl);
+        right = ((message, reads, kept.right.1 ∙ ap spelling_of_response (sym (answered history limits times.wait message wishes wish))), kept.right.0, refl);
         whole = sym text_is ∙ kept.whole;
       }
 
@@ -120,46 +121,46 @@ module _ (history : History) (times : Settings) where
   -- the text of a response with the status 200 to a message may be kept
   pub may_be_kept : WithinLimits history → (request : HttpRequest) (message : Request) (asked : List ℕ) (wishes : Option (List Wish)) (response : Response) → asked ≡ request.body
       → IsTextOf ReadsRequest request.body message → IfSome wishes (AreWishesOf history message.items) → response.status ≡ Success
-      → response.body ≡ updates_text history times message
-      → IsKeptOf history times (record { asked = asked; meaning = wishes; text = response_text response.status response.allow response.body })
-  may_be_kept limits request message asked wishes response same reads wish success right = record {
+      → response.body ≡ updates_text history times message → response.fields.media ≡ Json
+      → IsKeptOf history times (record { asked = asked; meaning = wishes; text = response_text response.status response.fields response.body })
+  may_be_kept limits request message asked wishes response same reads wish success right json = record {
     asked = record {
-      allow = response.allow;
+      fields = response.fields;
       body = response.body;
-      right = (message, subst (λ (a : List ℕ). IsTextOf ReadsRequest a message) (sym same) reads, right);
-      whole = ap (λ (s : Status). response_text s response.allow response.body) success;
+      right = (json, (message, subst (λ (a : List ℕ). IsTextOf ReadsRequest a message) (sym same) reads, right));
+      whole = ap (λ (s : Status). response_text s response.fields response.body) success;
     };
     wished = of wishes wish;
   }
     where
       of : (ws : Option (List Wish)) → IfSome ws (AreWishesOf history message.items)
-          → IfSome ws (λ own. IsTextOfRight (λ status allow body cause. IsWishedText history times own body) Success [] (response_text response.status response.allow response.body))
+          → IfSome ws (λ own. IsTextOfRight (λ status fields body cause. (fields.media ≡ Json) × IsWishedText history times own body) Success [] (response_text response.status response.fields response.body))
       of None are = tt
       of (Some own) are = record {
-        allow = response.allow;
+        fields = response.fields;
         body = response.body;
-        right = right ∙ ap spelling_of_response (answered history limits times.wait message own are);
-        whole = ap (λ (s : Status). response_text s response.allow response.body) success;
+        right = (json, right ∙ ap spelling_of_response (answered history limits times.wait message own are));
+        whole = ap (λ (s : Status). response_text s response.fields response.body) success;
       }
 
   -- ---- what is sent of it
 
-  pub sent_right : (request : HttpRequest) (response : Response) (sent : Answer) → IsSentAs response sent → IsResponseAt history times 0 request response.status response.allow response.body response.cause
-      → IsRightAnswer (IsResponseAt history times 0 request) sent
-  sent_right request response (answer.Made made) is right = subst (λ (r : Response). IsResponseAt history times 0 request r.status r.allow r.body r.cause) (sym is) right
+  pub sent_right : (request : HttpRequest) (response : Response) (sent : Answer) → IsSentAs response sent → IsResponseAt history times 1 request response.status response.fields response.body response.cause
+      → IsRightAnswer (IsResponseAt history times 1 request) sent
+  sent_right request response (answer.Made made) is right = subst (λ (r : Response). IsResponseAt history times 1 request r.status r.fields r.body r.cause) (sym is) right
   sent_right request response (answer.Written written) is right = record {
-    allow = response.allow;
+    fields = response.fields;
     body = response.body;
-    right = subst (λ (s : Status). IsResponseAt history times 0 request s response.allow response.body []) (sym is.0)
-        (subst (IsResponseAt history times 0 request response.status response.allow response.body) is.1 right);
-    whole = is.2 ∙ ap (λ (s : Status). response_text s response.allow response.body) (sym is.0);
+    right = subst (λ (s : Status). IsResponseAt history times 1 request s response.fields response.body []) (sym is.0)
+        (subst (IsResponseAt history times 1 request response.status response.fields response.body) is.1 right);
+    whole = is.2 ∙ ap (λ (s : Status). response_text s response.fields response.body) (sym is.0);
   }
   sent_right request response (answer.Shared shared) is right = record {
-    allow = response.allow;
+    fields = response.fields;
     body = response.body;
-    right = subst (λ (s : Status). IsResponseAt history times 0 request s response.allow response.body []) (sym is.0)
-        (subst (IsResponseAt history times 0 request response.status response.allow response.body) is.1 right);
-    whole = is.2 ∙ ap (λ (s : Status). response_text s response.allow response.body) (sym is.0);
+    right = subst (λ (s : Status). IsResponseAt history times 1 request s response.fields response.body []) (sym is.0)
+        (subst (IsResponseAt history times 1 request response.status response.fields response.body) is.1 right);
+    whole = is.2 ∙ ap (λ (s : Status). response_text s response.fields response.body) (sym is.0);
   }
 
 -- ---- a history that may have grown

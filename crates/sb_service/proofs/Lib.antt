@@ -6,6 +6,7 @@ pub mod Fronts
 pub mod Journals
 pub mod Keeping
 pub mod Loads
+pub mod ProtoFacts
 pub mod Runs
 pub mod Stops
 pub mod Turns

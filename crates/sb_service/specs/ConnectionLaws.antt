@@ -1,8 +1,8 @@
 -- What is right is right alone.
 use Rattle.std.specs.Prelude.{◌≡◌, ℕ, List, []}
 use Rattle.sb_model.specs.History.{History}
-use Rattle.http_edge.specs.declared.messages.Allow.{Allow}
 use Rattle.http_edge.specs.declared.messages.HttpRequest.{HttpRequest}
+use Rattle.http_edge.specs.declared.messages.ResponseFields.{ResponseFields}
 use Rattle.http_edge.specs.declared.messages.Status.{Status}
 use Rattle.http_edge.specs.declared.messages.Status.TheVariants.{Success, BadRequest}
 use Rattle.http_serving.specs.Law as serving
@@ -19,16 +19,16 @@ HasOneResponse history times request = serving.HasOneAnswer (IsResponseTo histor
 abbrev pub IsResponseAsRead : History → Settings → List ℕ → HttpRequest → Type 0
 IsResponseAsRead history times bytes request = serving.IsAnsweredAsRead (IsResponseTo history times) bytes request
 
--- A request for a route whose body has no answer is answered 400 without a body, and its cause is the body's first fault.
+-- A request for a route that has no answer is answered 400 without a body, and its cause is its first fault.
 abbrev pub TellsFirstFault : History → Settings → HttpRequest → Type 0
 TellsFirstFault history times request =
-    (place : ℕ) → AsksAt list_routes request place → ((text : List ℕ) → ¬ IsTextAt history times place request.body text)
-    → (status : Status) (allow : Allow) (body cause : List ℕ) → IsResponseTo history times request status allow body cause
-    → (status ≡ BadRequest) × (body ≡ []) × IsCauseAt place request.body cause
+    (place : ℕ) → AsksAt list_routes request place → ((text : List ℕ) → ¬ IsTextAt history times place request text)
+    → (status : Status) (fields : ResponseFields) (body cause : List ℕ) → IsResponseTo history times request status fields body cause
+    → (status ≡ BadRequest) × (body ≡ []) × IsCauseAt place request cause
 
--- A request for the names of lists is answered 200 with them, whatever its body, and no cause is told of it.
+-- A request for the names of lists is answered 200 with them, whatever it has, and no cause is told of it.
 abbrev pub AlwaysTellsLists : History → Settings → HttpRequest → Type 0
 AlwaysTellsLists history times request =
-    AsksAt list_routes request 3
-    → (status : Status) (allow : Allow) (body cause : List ℕ) → IsResponseTo history times request status allow body cause
+    AsksAt list_routes request 7
+    → (status : Status) (fields : ResponseFields) (body cause : List ℕ) → IsResponseTo history times request status fields body cause
     → (status ≡ Success) × (body ≡ lists_text history) × (cause ≡ [])

@@ -2,6 +2,7 @@ pub mod Command
 pub mod Made
 pub mod Printed
 pub mod Answer
+pub mod ProtoTexts
 pub mod Connection
 pub mod Wish
 pub mod Kept

@@ -10,27 +10,29 @@ ghost use Rattle.http_serving.specs.Serving.{unavailable_text, AnswersAtMost, Is
 ghost use Rattle.http_serving.specs.Written.{IsRightAnswer};
 ghost use Rattle.delta_server.specs.declared.answering.Settings.{Settings as Times};
 ghost use Rattle.sb_lookup.specs.Lookups.{lists_text};
-ghost use Rattle.sb_service.specs.Connection.{list_routes, lists_path, lookups_path, lookups_text, matches_text, route_at, updates_text, HasGoodRequest, IsResponseAt, IsResponseFor, IsResponseTo, ListServed};
+ghost use Rattle.sb_service.specs.Connection.{allow_in, fields_for, list_routes, lists_path, lookups_path, lookups_text, matches_text, route_at, row_of, updates_text, HasGoodRequest, IsResponseAt, IsResponseFor, IsResponseTo, ListServed};
 ghost use Rattle.sb_service.specs.ConnectionLaws.{AlwaysTellsLists, HasOneResponse, IsResponseAsRead, TellsFirstFault};
 ghost use Rattle.sb_service.specs.ConnectionSteps.{IsBareRefusal};
 ghost use Rattle.update_messages.specs.Messages.{Request};
 ghost use Rattle.update_messages.specs.Reading.{ReadsRequest, IsTextOf};
 ghost use Rattle.sb_service.specs.Kept.{AreKeptOf, IsKeptOf};
 
+use crate::in_proto::answer_in_proto;
 use crate::kept::{Wishes, nothing_kept};
 use crate::wish::wishes_of;
 use delta_server::{Settings, answer_fetch, answer_find};
 use hash_messages::{FindRequest, find_values_read_one_way, read_find, write_matches};
-use http_edge::{Allow, HttpRequest, Status, path_of};
+use http_edge::{Allow, HttpRequest, MediaType, ResponseFields, Status, path_of};
 use http_serving::{
-    Answer, Answers, ConnectionEnd, KeepsAnswers, KeptAnswers, Response, Route, Routed,
+    Answer, Answers, ConnectionEnd, Form, KeepsAnswers, KeptAnswers, Response, Route, Routed,
     SharedResponse, answers_follow_requests, find_route, kept_answers_stay_right,
-    requests_have_one_answer,
+    requests_ask_for_one_thing, requests_have_one_answer,
 };
 use list_versions::History;
 use lookup_messages::{
     LookupRequest, lookup_values_read_one_way, read_lookup, write_lookup_matches,
 };
+use proto_messages::queries_read_one_way;
 use sb_json::{MessageFault, push_message_cause};
 use sb_lookup::{answer_lookup, write_lists};
 use sb_model::{Bytes, OutOfMemory, names_go_by_their_codes};
@@ -60,25 +62,71 @@ fn lists_path() -> &'static str
 /// What a list server is asked for.
 #[derive(Clone, Copy, Debug, PartialEq, Eq)]
 pub(crate) enum ListRoute {
-    /// Updates (`threatListUpdates:fetch`).
-    Updates,
-    /// Full hashes (`fullHashes:find`).
-    Hashes,
+    /// Updates (`threatListUpdates:fetch`), by a request of this form.
+    Updates(Form),
+    /// Full hashes (`fullHashes:find`), by a request of this form.
+    Hashes(Form),
     /// Which of some URLs are on its lists (`threatMatches:find`).
     Lookups,
     /// The names of its lists (`threatLists`).
     Lists,
 }
 
+/// The method of a route that takes requests of a form.
+fn allow_in(form: Form) -> Allow
+    ensures { result ≡ allow_in form }
+{
+    match form {
+        Form::Plain | Form::Protobuf => Allow::Post,
+        Form::Query => Allow::Get,
+    }
+}
+
+/// The row of a route in the table.
+fn row_of(route: ListRoute) -> Route<'static>
+    ensures { result ≡ row_of route }
+{
+    let (path, method, form) = match route {
+        ListRoute::Updates(form) => (path_of(Kind::Update), allow_in(form), form),
+        ListRoute::Hashes(form) => (path_of(Kind::Find), allow_in(form), form),
+        ListRoute::Lookups => (lookups_path(), Allow::Post, Form::Plain),
+        ListRoute::Lists => (lists_path(), Allow::Get, Form::Plain),
+    };
+    Route {
+        path: path.as_bytes(),
+        method,
+        form,
+    }
+}
+
 /// The route at a place of the table.
 fn route_at(place: usize) -> ListRoute
     ensures { result ≡ route_at place }
 {
-    match place {
-        0 => ListRoute::Updates,
-        1 => ListRoute::Hashes,
-        2 => ListRoute::Lookups,
-        _ => ListRoute::Lists,
+    let routes = [
+        ListRoute::Updates(Form::Protobuf),
+        ListRoute::Updates(Form::Plain),
+        ListRoute::Updates(Form::Query),
+        ListRoute::Hashes(Form::Protobuf),
+        ListRoute::Hashes(Form::Plain),
+        ListRoute::Hashes(Form::Query),
+        ListRoute::Lookups,
+        ListRoute::Lists,
+    ];
+    match routes.get(place) {
+        Some(route) => *route,
+        None => ListRoute::Lists,
+    }
+}
+
+/// The fields of a response in JSON by a route of this method.
+fn json_fields(allow: Allow) -> ResponseFields
+    ensures allow { result.allow ≡ allow }
+    ensures media { result.media ≡ MediaType.Json }
+{
+    ResponseFields {
+        allow,
+        media: MediaType::Json,
     }
 }
 
@@ -91,12 +139,13 @@ fn answer_message(
 ) -> Result<Response, OutOfMemory>
     ensures status { IfOk result (λ response. response.status ≡ Status.Success) }
     ensures body { IfOk result (λ response. response.body ≡ updates_text history.now.versions settings.now message.now) }
+    ensures media { IfOk result (λ response. response.fields.media ≡ MediaType.Json) }
     ensures cause { IfOk result (λ response. response.cause ≡ []) }
 {
     let answer = answer_fetch(alloc, history, settings, message)?;
     Ok(Response {
         status: Status::Success,
-        allow: Allow::Post,
+        fields: json_fields(Allow::Post),
         body: write_answer(alloc, &answer)?,
         cause: Bytes::new(alloc),
     })
@@ -117,12 +166,12 @@ fn cause_of(alloc: Global, fault: &MessageFault) -> Result<Bytes, OutOfMemory>
 
 /// The response to a body that is no message. Its cause is the fault.
 fn refuse_body(alloc: Global, fault: &MessageFault) -> Result<Response, OutOfMemory>
-    ensures { IfOk result (λ response. IsBareRefusal fault.now response.status response.body response.cause) }
+    ensures { IfOk result (λ response. IsBareRefusal fault.now response.status response.fields response.body response.cause) }
 {
     let cause = cause_of(alloc, fault)?;
     Ok(Response {
         status: Status::BadRequest,
-        allow: Allow::Post,
+        fields: json_fields(Allow::Post),
         body: Bytes::new(alloc),
         cause,
     })
@@ -137,12 +186,13 @@ fn answer_hashes(
 ) -> Result<Response, OutOfMemory>
     ensures status { IfOk result (λ response. response.status ≡ Status.Success) }
     ensures body { IfOk result (λ response. response.body ≡ matches_text history.now.versions settings.now message.now) }
+    ensures media { IfOk result (λ response. response.fields.media ≡ MediaType.Json) }
     ensures cause { IfOk result (λ response. response.cause ≡ []) }
 {
     let answer = answer_find(alloc, history, settings, message)?;
     Ok(Response {
         status: Status::Success,
-        allow: Allow::Post,
+        fields: json_fields(Allow::Post),
         body: write_matches(alloc, &answer)?,
         cause: Bytes::new(alloc),
     })
@@ -155,8 +205,8 @@ fn answer_hashes_body(
     settings: &Settings,
     request: &HttpRequest,
 ) -> Result<Response, OutOfMemory>
-    ensures { IfOk result (λ response. IsResponseFor history.now.versions settings.now ListRoute.Hashes request.now
-        response.status response.allow response.body response.cause) }
+    ensures { IfOk result (λ response. IsResponseFor history.now.versions settings.now (ListRoute.Hashes Form.Plain) request.now
+        response.status response.fields response.body response.cause) }
 {
     match read_find(alloc, request.body.as_slice()) {
         Ok(message) => answer_hashes(alloc, history, settings, &message),
@@ -173,12 +223,13 @@ fn answer_lookups(
 ) -> Result<Response, OutOfMemory>
     ensures status { IfOk result (λ response. response.status ≡ Status.Success) }
     ensures body { IfOk result (λ response. response.body ≡ lookups_text history.now.versions settings.now message.now) }
+    ensures media { IfOk result (λ response. response.fields.media ≡ MediaType.Json) }
     ensures cause { IfOk result (λ response. response.cause ≡ []) }
 {
     let answer = answer_lookup(alloc, history, settings, message)?;
     Ok(Response {
         status: Status::Success,
-        allow: Allow::Post,
+        fields: json_fields(Allow::Post),
         body: write_lookup_matches(alloc, &answer)?,
         cause: Bytes::new(alloc),
     })
@@ -192,7 +243,7 @@ fn answer_lookups_body(
     request: &HttpRequest,
 ) -> Result<Response, OutOfMemory>
     ensures { IfOk result (λ response. IsResponseFor history.now.versions settings.now ListRoute.Lookups request.now
-        response.status response.allow response.body response.cause) }
+        response.status response.fields response.body response.cause) }
 {
     match read_lookup(alloc, request.body.as_slice()) {
         Ok(message) => answer_lookups(alloc, history, settings, &message),
@@ -204,11 +255,12 @@ fn answer_lookups_body(
 fn answer_lists(alloc: Global, history: &History) -> Result<Response, OutOfMemory>
     ensures status { IfOk result (λ response. response.status ≡ Status.Success) }
     ensures body { IfOk result (λ response. response.body ≡ lists_text history.now.versions) }
+    ensures media { IfOk result (λ response. response.fields.media ≡ MediaType.Json) }
     ensures cause { IfOk result (λ response. response.cause ≡ []) }
 {
     Ok(Response {
         status: Status::Success,
-        allow: Allow::Get,
+        fields: json_fields(Allow::Get),
         body: write_lists(alloc, history)?,
         cause: Bytes::new(alloc),
     })
@@ -222,13 +274,19 @@ fn answer_anew(
     route: ListRoute,
     request: &HttpRequest,
 ) -> Result<Response, OutOfMemory>
-    requires { route ≢ ListRoute.Updates }
+    requires { route ≢ ListRoute.Updates Form.Plain }
     ensures { IfOk result (λ response. IsResponseFor history.now.versions settings.now route request.now
-        response.status response.allow response.body response.cause) }
+        response.status response.fields response.body response.cause) }
 {
     match route {
-        ListRoute::Updates => unreachable!(),
-        ListRoute::Hashes => answer_hashes_body(alloc, history, settings, request),
+        ListRoute::Updates(Form::Plain) => unreachable!(),
+        ListRoute::Updates(form) => {
+            answer_in_proto(alloc, history, settings, Kind::Update, form, request)
+        }
+        ListRoute::Hashes(Form::Plain) => answer_hashes_body(alloc, history, settings, request),
+        ListRoute::Hashes(form) => {
+            answer_in_proto(alloc, history, settings, Kind::Find, form, request)
+        }
         ListRoute::Lookups => answer_lookups_body(alloc, history, settings, request),
         ListRoute::Lists => answer_lists(alloc, history),
     }
@@ -246,7 +304,7 @@ fn answer_wishes(
     requires reads { IsTextOf ReadsRequest request.now.body message.now }
     requires only { (other : Request) → IsTextOf ReadsRequest request.now.body other → message.now ≡ other }
     requires kept { AreKeptOf history.now.versions settings.now kept.old }
-    ensures right { IfOk result (λ answer. IsRightAnswer (IsResponseFor history.now.versions settings.now ListRoute.Updates request.now) answer) }
+    ensures right { IfOk result (λ answer. IsRightAnswer (IsResponseFor history.now.versions settings.now (ListRoute.Updates Form.Plain) request.now) answer) }
     ensures kept { AreKeptOf history.now.versions settings.now kept.new }
 {
     names_go_by_their_codes();
@@ -275,7 +333,7 @@ fn answer_updates(
     request: &HttpRequest,
 ) -> Result<Answer, OutOfMemory>
     requires { AreKeptOf history.now.versions settings.now kept.old }
-    ensures right { IfOk result (λ answer. IsRightAnswer (IsResponseFor history.now.versions settings.now ListRoute.Updates request.now) answer) }
+    ensures right { IfOk result (λ answer. IsRightAnswer (IsResponseFor history.now.versions settings.now (ListRoute.Updates Form.Plain) request.now) answer) }
     ensures kept { AreKeptOf history.now.versions settings.now kept.new }
 {
     kept_answers_stay_right::<ListServer<'_>>();
@@ -307,7 +365,7 @@ fn answer_at(
     ensures kept { AreKeptOf history.now.versions settings.now kept.new }
 {
     match route_at(place) {
-        ListRoute::Updates => answer_updates(alloc, history, settings, kept, request),
+        ListRoute::Updates(Form::Plain) => answer_updates(alloc, history, settings, kept, request),
         route => match answer_anew(alloc, history, settings, route, request) {
             Ok(response) => Ok(Answer::Made(response)),
             Err(OutOfMemory) => Err(OutOfMemory),
@@ -363,22 +421,14 @@ impl<'a> Answers for ListServer<'a> {
         find_route(
             request,
             &[
-                Route {
-                    path: path_of(Kind::Update).as_bytes(),
-                    allow: Allow::Post,
-                },
-                Route {
-                    path: path_of(Kind::Find).as_bytes(),
-                    allow: Allow::Post,
-                },
-                Route {
-                    path: lookups_path().as_bytes(),
-                    allow: Allow::Post,
-                },
-                Route {
-                    path: lists_path().as_bytes(),
-                    allow: Allow::Get,
-                },
+                row_of(ListRoute::Updates(Form::Protobuf)),
+                row_of(ListRoute::Updates(Form::Plain)),
+                row_of(ListRoute::Updates(Form::Query)),
+                row_of(ListRoute::Hashes(Form::Protobuf)),
+                row_of(ListRoute::Hashes(Form::Plain)),
+                row_of(ListRoute::Hashes(Form::Query)),
+                row_of(ListRoute::Lookups),
+                row_of(ListRoute::Lists),
             ],
         )
     }
@@ -406,6 +456,7 @@ impl<'a> Answers for ListServer<'a> {
         values_read_one_way();
         find_values_read_one_way();
         lookup_values_read_one_way();
+        queries_read_one_way();
     }
 
     ghost stays_itself = { λ server. refl };
@@ -416,10 +467,13 @@ impl<'a> Answers for ListServer<'a> {
 /// A POST request to `/v4/threatListUpdates:fetch` is answered 200 with the updates of those lists that it asks for and that
 /// are declared, one to `/v4/fullHashes:find` with the full hashes that it asks for, and one to `/v4/threatMatches:find` with
 /// those of its URLs that are on the lists. A GET request for `/v4/threatLists` is answered 200 with the names of the lists.
-/// Other responses have no body: 400 where the request is malformed or cut off, and where its body is no message; 404 for
+/// The first two take and give messages of Protocol Buffers too: as the body of a POST that says so, and in the member `$req`
+/// of the query of a GET, in base64.
+///
+/// Other responses have no body: 400 where the request is malformed or cut off, and where its message is none; 404 for
 /// another path; 405 for another method; 411 where the length of the body is not given; 413 where it is more than 1,048,576
-/// bytes; 431 where the head is too long; 503 if memory is refused, of which a front may be written as with any other. What
-/// follows a `?` in the target is not looked at, nor what follows the request.
+/// bytes; 431 where the head is too long; 503 if memory is refused, of which a front may be written as with any other. The
+/// query of a target is looked at for its members `$req`, `$ct` and `alt` alone, and nothing that follows the request.
 pub fn serve_connection<T: Wire>(
     alloc: Global,
     history: &History,
@@ -430,10 +484,10 @@ pub fn serve_connection<T: Wire>(
     ensures serves { Serves (IsResponseTo history.now.versions settings.now) result
         (T.left wire.old) (T.left wire.new) (T.contents wire.old) (T.contents wire.new) }
 
-    // A whole request whose body has an answer is answered with that or not at all, or memory was refused.
+    // A whole request that has an answer is answered with that or not at all, or memory was refused.
     ensures complete { IfSome (T.left wire.old) (λ pieces.
-        (text : List ℕ) → HasGoodRequest history.now.versions settings.now (next_piece pieces) text
-        → AnswersAtMost Status.Success Allow.Post text [] result (T.contents wire.old) (T.contents wire.new)) }
+        (text : List ℕ) (good : HasGoodRequest history.now.versions settings.now (next_piece pieces) text)
+        → AnswersAtMost Status.Success (fields_for (route_at good.place)) text [] result (T.contents wire.old) (T.contents wire.new)) }
 
     // A fault is counted, and nothing else is.
     ensures read_failed { result ≡ ConnectionEnd.ReadFault → Rose (T.Source.faults wire.old) (T.Source.faults wire.new) }
@@ -460,8 +514,8 @@ pub fn serve_connection<T: Wire>(
     http_serving::serve_connection(alloc, &mut server, wire)
 }
 
-/// A request has one response, bytes that begin with a whole request are answered as that request is, of a body without an
-/// answer the cause of its 400 tells the first fault, and the names of lists are told whatever the body.
+/// A request has one response, bytes that begin with a whole request are answered as that request is, of a request without an
+/// answer the cause of its 400 tells the first fault, and the names of lists are told whatever the request has.
 pub fn requests_have_one_response()
     ensures one { (history : Versions) (times : Times) (request : HttpRequest) → HasOneResponse history times request }
     ensures whole { (history : Versions) (times : Times) (bytes : List ℕ) (request : HttpRequest)
@@ -471,4 +525,5 @@ pub fn requests_have_one_response()
 {
     requests_have_one_answer::<ListServer>();
     answers_follow_requests::<ListServer>();
+    requests_ask_for_one_thing();
 }

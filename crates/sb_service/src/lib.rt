@@ -13,6 +13,7 @@ pub use wish::wishes_have_one_answer;
 mod answer;
 mod command;
 mod connection;
+mod in_proto;
 mod kept;
 mod making;
 mod printing;

@@ -35,7 +35,7 @@ returns-in-Ok-receive_body-clause-outcome g c = λ start gives.
       text ++ filled.given,
       false,
       front_then _ _ _ _ _ gives filled.gives,
-      request_whole text filled.given c.args.parts n _ c.requires.parts c.in-Some.is c.if-length-gt-BODY_LIMIT.false filled.enough refl refl filled.is,
+      request_whole text filled.given c.args.parts n _ c.requires.parts c.in-Some.is c.if-length-gt-BODY_LIMIT.false filled.enough refl refl refl filled.is,
       reads_request (text ++ filled.given) false _ (body_reads text filled.given c.args.parts n c.requires.parts c.in-Some.is c.if-length-gt-BODY_LIMIT.false c.requires.reads filled.reads)
           (λ void. absurd (cc)) (λ void. absurd (cc)),
     )

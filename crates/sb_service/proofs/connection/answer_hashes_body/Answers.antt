@@ -4,7 +4,7 @@ use Rattle.sb_service.proofs.connection.answer_hashes_body.Goals as goal
 pub returns-in-Ok : goal.returns-in-Ok
 returns-in-Ok c =
     hashes_answered c.args.history.now.versions c.args.settings.now c.args.request.now c.as_slice.result.now c.in-Ok.message c.answer_hashes.result
-    c.as_slice.ensures c.in-Ok.ensures.ok c.answer_hashes.ensures.status c.answer_hashes.ensures.body c.answer_hashes.ensures.cause
+    c.as_slice.ensures c.in-Ok.ensures.ok c.answer_hashes.ensures.status c.answer_hashes.ensures.body c.answer_hashes.ensures.media c.answer_hashes.ensures.cause
 
 pub returns-in-Err : goal.returns-in-Err
 returns-in-Err c =

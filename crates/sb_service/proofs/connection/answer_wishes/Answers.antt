@@ -37,8 +37,8 @@ pub returns-clause-right : goal.returns-clause-right
 returns-clause-right c =
     let response = c.in_ok-response.response in
     sent_right c.args.history.now.versions c.args.settings.now c.args.request.now response c.keep_response.result c.keep_response.ensures.answer
-    (response_of_message c.args.history.now.versions c.args.settings.now c.args.request.now c.args.message.now response.status response.allow response.body
-    response.cause c.requires.reads c.in_ok-response.ensures.status c.in_ok-response.ensures.body c.in_ok-response.ensures.cause)
+    (response_of_message c.args.history.now.versions c.args.settings.now c.args.request.now c.args.message.now response.status response.fields response.body
+    response.cause c.requires.reads c.in_ok-response.ensures.status c.in_ok-response.ensures.body c.in_ok-response.ensures.media c.in_ok-response.ensures.cause)
 
 pub returns-clause-kept : goal.returns-clause-kept
 returns-clause-kept c =
@@ -53,5 +53,5 @@ returns-clause-kept c =
     (c.kept_answers_stay_right.ensures.kept served).more asked wishes response c.keep_response.result c.text_by_meaning.new.self c.keep_response.new.self before
     (may_be_kept served.versions served.times c.len.ensures.within c.args.request.now c.args.message.now asked wishes response c.as_slice-asked.ensures c.requires.reads
     (subst (λ (items : List AskedList). IfSome wishes (AreWishesOf served.versions items)) same c.in_ok-wishes.ensures.wishes)
-    c.in_ok-response.ensures.status c.in_ok-response.ensures.body)
+    c.in_ok-response.ensures.status c.in_ok-response.ensures.body c.in_ok-response.ensures.media)
     c.keep_response.ensures.kept
