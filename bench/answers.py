@@ -29,12 +29,17 @@ import shlex
 import socket
 import statistics
 import subprocess
+import sys
 import tempfile
 import time
 
 import started
 
 REPOSITORY = os.path.dirname(os.path.dirname(os.path.abspath(__file__)))
+sys.path.insert(0, os.path.join(REPOSITORY, "compare"))
+
+import protos  # noqa: E402
+
 SBUPDATE = os.path.join(REPOSITORY, "bin", "sbupdate")
 SBLISTD = os.path.join(REPOSITORY, "bin", "sblistd")
 
@@ -43,6 +48,7 @@ OTHER_LIST = "SOCIAL_ENGINEERING/ANY_PLATFORM/URL"
 CODES = {LIST: bytes([1, 6, 1]), OTHER_LIST: bytes([2, 6, 1])}
 EPOCH = 1
 FETCH, FIND = "/v4/threatListUpdates:fetch", "/v4/fullHashes:find"
+AS_PROTOBUF = "?alt=proto"
 NO_LIMIT = 2_147_483_647
 MOST_ITEMS = 8
 MOST_BODY = 1_048_576
@@ -185,6 +191,24 @@ def find(prefixes):
     info = {"threatTypes": ["MALWARE"], "platformTypes": ["ANY_PLATFORM"], "threatEntryTypes": ["URL"]}
     info["threatEntries"] = [{"hash": text_of(prefix)} for prefix in prefixes]
     return json.dumps({"threatInfo": info}, separators=(",", ":")).encode("ascii")
+
+
+def proto_fetch(item):
+    """The message of a fetch request for one item, in Protocol Buffers."""
+    threat, platform, entry = CODES[item.name]
+    limits = [(1, item.update), (2, item.database)] + [(4, ("RAW", "RICE").index(coding) + 1) for coding in item.codings]
+    constraints = b"".join(protos.number_field(place, number) for place, number in limits if number)
+    state = b"" if item.held is None else protos.bytes_field(3, token_of(item.name, item.held))
+    names = protos.number_field(1, threat) + protos.number_field(2, platform)
+    return protos.bytes_field(3, names + state + protos.bytes_field(4, constraints) + protos.number_field(5, entry))
+
+
+def proto_find(prefixes):
+    """The message of a find request, in Protocol Buffers."""
+    entries = b"".join(protos.bytes_field(3, protos.bytes_field(1, prefix)) for prefix in prefixes)
+    threat, platform, entry = CODES[LIST]
+    types = [protos.number_field(1, threat), protos.number_field(2, platform), entries, protos.number_field(4, entry)]
+    return protos.bytes_field(3, b"".join(types))
 
 
 def spelled_anew(body):
@@ -375,6 +399,41 @@ def tell_partial(journal, sizes):
         for body in by_turns:
             server.ask(body)
         cost(server, by_turns, 2, anew=False).tell_rate(f"one to {last} changes behind, asked again by turns")
+
+
+def tell_forms(journal, what, asked, path, written, rounds):
+    """Measures an answer in JSON and the same in Protocol Buffers, both made anew, by turns at servers of their own. The second has
+    to be the first in the other spelling."""
+    paths = (path, path + AS_PROTOBUF)
+    found = {form: [] for form in paths}
+    for turn in range(2 * rounds):
+        with Server(journal) as server:
+            for form in paths if turn % 2 else reversed(paths):
+                found[form].append(cost_of_rounds(server, [lambda: ([asked[form == paths[1]]], form)]))
+    plain, other = (Cost([it.took[0] for it in found[form]], [it.walls[0] for it in found[form]], found[form][-1].answer,
+        max(it.peak for it in found[form]), max(it.rise for it in found[form])) for form in paths)  # fmt: skip
+    if written(json.loads(plain.answer)) != other.answer:
+        raise SystemExit(f"answers: not the same answer in both forms: {what}")
+    plain.tell(what)
+    shares = [b.took[0] / a.took[0] for a, b in zip(*(found[form] for form in paths))]
+    remark = f", {statistics.median(shares):.2f} of the time, {len(other.answer) / len(plain.answer):.2f} of the bytes"
+    other.tell("  in Protocol Buffers", remark)
+
+
+def tell_both_forms(journal, sizes):
+    """Answers in both forms."""
+    codes = list(CODES[LIST])[:1]
+    some = [journal.prefixes_at(LIST, journal.version)[4 * at : 4 * at + 4] for at in range(500)]
+    for what, item in (
+        ("nothing held", Item()),
+        ("the same, not Rice coded", Item(codings=("RAW",))),
+        ("from the middle", Item(sizes.growing // 2)),
+        ("the newest held", Item(journal.version)),
+    ):
+        asked = (fetch(item), proto_fetch(item))
+        tell_forms(journal, what, asked, FETCH, lambda body: protos.written_fetch(body, codes), sizes.rounds)
+    asked = (find(some), proto_find(some))
+    tell_forms(journal, f"full hashes, {len(some)} prefixes", asked, FIND, lambda body: protos.written_find(body, 2), sizes.rounds)
 
 
 def tell_spellings(journal, sizes):
@@ -648,6 +707,8 @@ def measure(folder, sizes, beside=None):
     tell_partial(journal, sizes)
     tell_spellings(journal, sizes)
     tell_crowd(journal, sizes)
+    print("the same answers in JSON and in Protocol Buffers, made anew")
+    tell_both_forms(journal, sizes)
     print("limits")
     tell_limits(journal, sizes)
     print("the dearest requests")
