@@ -1,10 +1,10 @@
 -- The matches of one URL after another, and the text of the names.
-use Rattle.std.proofs.Common.{◌≡◌, ℕ, ◌+◌, ◌<◌, Bool, true, false, List, [], ◌∷◌, ◌++◌, map, filter, length, take, get_or, Option, Some, None, Result, Ok, Err, encode_utf8_all, refl, sym, ap, ◌∙◌, subst}
+use Rattle.std.proofs.Common.{◌≡◌, ℕ, Bool, false, List, [], ◌∷◌, map, filter, Some, Result, Ok, Err, encode_utf8_all, refl, sym, ap, ◌∙◌}
 use Rattle.std.specs.Prelude.{MatchResult}
 use Rattle.std.specs.List.{flat_map}
 use Rattle.std.specs.Str.{chars, IsUtf8}
 use Rattle.std.proofs.lemmas.Str.{encodes-chars}
-use Rattle.serde_json.specs.Data.{Data, Items, Members}
+use Rattle.serde_json.specs.Data.{Data}
 use Rattle.serde_json.specs.View.{items_of}
 use Rattle.serde_json.specs.Written.{has_float, items_have_float}
 use Rattle.sb_json.specs.declared.fields.Field.TheVariants as field
@@ -13,6 +13,7 @@ use Rattle.sb_members.specs.Parts.{HasNoFloat, Parts}
 use Rattle.sb_members.specs.Writing.{list_written}
 use Rattle.sb_model.specs.declared.names.ListName.{ListName}
 use Rattle.hash_messages.specs.Writing.{threat_written, platform_written, entry_written}
+use Rattle.answering_lists.specs.Lists.{answered_names}
 use Rattle.url_canon.specs.Url.{Url}
 use Rattle.url_canon.specs.declared.fault.UrlFault.{UrlFault}
 use Rattle.sb_model.specs.History.{History}
@@ -21,13 +22,13 @@ use Rattle.lookup_messages.specs.Lookups.{canonical_of_asked, lists_looked_up, m
 use Rattle.lookup_messages.specs.Messages.{AskedUrls}
 use Rattle.lookup_messages.specs.declared.response.LookupMatch.{LookupMatch}
 use Rattle.lookup_messages.specs.declared.response.LookupResponse.{LookupResponse}
-use Rattle.sb_lookup.specs.Lookups.{declared_names, has_url, name_written, names_written, served_lookup}
+use Rattle.sb_lookup.specs.Lookups.{name_has_url, name_written, names_written, served_lookup}
 
 -- a response with these matches
 abbrev pub made_of : List LookupMatch → LookupResponse
 made_of matches = record { matches = matches }
 
--- the matches with the lists that have a URL
+-- the matches under the names whose lists have a URL
 pub matches_with : (has : ListName → Url → Bool) (lists found : List ListName) (cache : ℕ) (url : List ℕ) (form : Result Url UrlFault)
     → MatchResult form (λ canonical. found ≡ filter (λ list. has list canonical) lists) (λ fault. found ≡ [])
     → map (match_of cache url) found ≡ matches_of_url has lists cache url form
@@ -39,16 +40,16 @@ pub asked_form : (url text bytes : List ℕ) → IsUtf8 text → chars text ≡ 
 asked_form url text bytes utf8 spelled same =
     ap (λ (cs : List ℕ). canonical_of (encode_utf8_all cs)) (sym spelled) ∙ ap canonical_of (encodes-chars text utf8) ∙ ap canonical_of (sym same)
 
--- the answer over the declared lists whose types are asked
-pub served_by : (history : History) (cache : ℕ) (asked : AskedUrls) (matches : List LookupMatch) (declared lists : List ListName) (urls : List (List ℕ))
-    → declared ≡ declared_names history → lists ≡ lists_looked_up declared asked → urls ≡ asked.urls
-    → matches ≡ flat_map (λ url. matches_of_url (has_url history) lists cache url (canonical_of_asked url)) urls
+-- the answer over the names whose types are asked and for which lists answer
+pub served_by : (history : History) (cache : ℕ) (asked : AskedUrls) (matches : List LookupMatch) (answered names : List ListName) (urls : List (List ℕ))
+    → answered ≡ answered_names history → names ≡ lists_looked_up answered asked → urls ≡ asked.urls
+    → matches ≡ flat_map (λ url. matches_of_url (name_has_url history) names cache url (canonical_of_asked url)) urls
     → made_of matches ≡ served_lookup history cache asked
-served_by history cache asked matches declared lists urls are among of made =
+served_by history cache asked matches answered names urls are among of made =
     ap made_of (
     made
-    ∙ ap (λ (us : List (List ℕ)). flat_map (λ url. matches_of_url (has_url history) lists cache url (canonical_of_asked url)) us) of
-    ∙ ap (λ (ls : List ListName). flat_map (λ url. matches_of_url (has_url history) ls cache url (canonical_of_asked url)) asked.urls)
+    ∙ ap (λ (us : List (List ℕ)). flat_map (λ url. matches_of_url (name_has_url history) names cache url (canonical_of_asked url)) us) of
+    ∙ ap (λ (ns : List ListName). flat_map (λ url. matches_of_url (name_has_url history) ns cache url (canonical_of_asked url)) asked.urls)
     (among ∙ ap (λ (all : List ListName). lists_looked_up all asked) are)
     )
 

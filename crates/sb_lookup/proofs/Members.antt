@@ -1,7 +1,6 @@
 -- Members of lists that are made from others.
-use Rattle.std.proofs.Common.{◌≡◌, ℕ, zero, suc, ◌+◌, ◌<◌, ◌⊎◌, inl, inr, ◌&&◌, ◌||◌, Bool, true, false, cond, List, [], ◌∷◌, ◌++◌, map, filter, flat_map, length, Contains, refl, sym, ap, ◌∙◌, subst, arith}
+use Rattle.std.proofs.Common.{◌≡◌, zero, suc, ◌⊎◌, inl, inr, ◌||◌, Bool, true, false, cond, List, [], ◌∷◌, map, filter, Contains, refl, ap, subst, arith}
 use Rattle.std.specs.List.{list_any}
-use Rattle.std.proofs.lemmas.List.Elements.{Contains-append_left, Contains-append_right}
 
 pub here : {A : Type 0} (x : A) (xs : List A) → Contains (x ∷ xs) x
 here x xs = (0, omega arith, refl)
@@ -15,13 +14,6 @@ cases y x xs (suc k, below, is) = inr (k, omega (arith, below), is)
 
 nothing : {A : Type 0} (x : A) → Contains [] x → ⊥
 nothing x h = omega (arith, h.1)
-
-pub in_flat_map : {A B : Type 0} (f : A → List B) (xs : List A) (x : A) (y : B) → Contains xs x → Contains (f x) y → Contains (flat_map f xs) y
-in_flat_map f [] x y h k = absurd (nothing x h)
-in_flat_map f (z ∷ xs) x y h k = elim (cases z x xs h) [
-  | inl same ↦ Contains-append_left (f z) (flat_map f xs) y (subst (λ w. Contains (f w) y) (sym same) k)
-  | inr later ↦ Contains-append_right (f z) (flat_map f xs) y (in_flat_map f xs x y later k)
-]
 
 pub in_map : {A B : Type 0} (f : A → B) (xs : List A) (x : A) → Contains xs x → Contains (map f xs) (f x)
 in_map f [] x h = absurd (nothing x h)
@@ -75,16 +67,7 @@ any_found {A = A} p (z ∷ xs) h = go (p z) refl h (any_found p xs)
     go true e k more = (z, here z xs, e)
     go false e k more = let found = more k in (found.0, there z found.0 xs found.1, found.2)
 
--- ---- one filter after another
-
-pub both_filters : {A : Type 0} (p q : A → Bool) (xs : List A) → filter q (filter p xs) ≡ filter (λ x. p x && q x) xs
-both_filters p q [] = refl
-both_filters {A = A} p q (z ∷ xs) = go (p z) (q z) refl refl (both_filters p q xs)
-  where
-    go : (b c : Bool) → p z ≡ b → q z ≡ c → filter q (filter p xs) ≡ filter (λ x. p x && q x) xs → filter q (cond b (z ∷ filter p xs) (filter p xs)) ≡ cond (b && c) (z ∷ filter (λ x. p x && q x) xs) (filter (λ x. p x && q x) xs)
-    go true true e f rest = rw f (ap (λ (ys : List A). z ∷ ys) rest)
-    go true false e f rest = rw f rest
-    go false c e f rest = rest
+-- ---- one filter twice
 
 -- a filter that was applied changes nothing when it is applied again
 pub filter_again : {A : Type 0} (p : A → Bool) (xs : List A) → filter p (filter p xs) ≡ filter p xs

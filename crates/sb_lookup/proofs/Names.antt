@@ -1,53 +1,13 @@
--- Each name is among all names, and names that rise are distinct.
-use Rattle.std.proofs.Common.{◌≡◌, ◌≢◌, ℕ, zero, suc, ◌<◌, List, [], ◌∷◌, length, map, flat_map, Contains, refl, sym, subst, arith}
+-- Names that rise are distinct.
+use Rattle.std.proofs.Common.{◌≡◌, ◌≢◌, ℕ, zero, suc, ◌<◌, List, [], ◌∷◌, length, sym, subst, arith}
 use Rattle.std.specs.Prelude.{AllPairs, slice_index_or}
 use Rattle.std.specs.List.{AllByRecursion}
 use Rattle.std.specs.List.Sorted.{IsStrictlySortedBy}
 use Rattle.std.specs.Cmp.{IsTotalOrder}
 use Rattle.std.specs.declared.cmp.Ordering.TheVariants.{Less, Equal}
 use Rattle.std.proofs.lemmas.Cmp.{nat_cmp_total, on_total, then_total, tied_itself}
-use Rattle.sb_model.specs.declared.names.ThreatType.{ThreatType}
-use Rattle.sb_model.specs.declared.names.ThreatType.TheVariants as threat
-use Rattle.sb_model.specs.declared.names.PlatformType.{PlatformType}
-use Rattle.sb_model.specs.declared.names.PlatformType.TheVariants as platform
-use Rattle.sb_model.specs.declared.names.EntryType.{EntryType}
-use Rattle.sb_model.specs.declared.names.EntryType.TheVariants as entry
 use Rattle.sb_model.specs.declared.names.ListName.{ListName}
-use Rattle.sb_model.specs.Names.{threats, threat_code, platforms, platform_code, entries, entry_code, name_cmp}
-use Rattle.hash_messages.specs.Matches.{all_names}
-use Rattle.sb_lookup.proofs.Members.{in_flat_map, in_map}
-
-in_threats : (t : ThreatType) → Contains threats t
-in_threats threat.Malware = (0, omega arith, refl)
-in_threats threat.SocialEngineering = (1, omega arith, refl)
-in_threats threat.UnwantedSoftware = (2, omega arith, refl)
-in_threats threat.PotentiallyHarmfulApplication = (3, omega arith, refl)
-
-in_platforms : (p : PlatformType) → Contains platforms p
-in_platforms platform.Windows = (0, omega arith, refl)
-in_platforms platform.Linux = (1, omega arith, refl)
-in_platforms platform.Android = (2, omega arith, refl)
-in_platforms platform.Osx = (3, omega arith, refl)
-in_platforms platform.Ios = (4, omega arith, refl)
-in_platforms platform.AnyPlatform = (5, omega arith, refl)
-in_platforms platform.AllPlatforms = (6, omega arith, refl)
-in_platforms platform.Chrome = (7, omega arith, refl)
-
-in_entries : (e : EntryType) → Contains entries e
-in_entries entry.Url = (0, omega arith, refl)
-in_entries entry.Executable = (1, omega arith, refl)
-
-names_for : ThreatType → PlatformType → List ListName
-names_for t p = map (λ e. record { threat = t; platform = p; entry = e }) entries
-
-pub every_name : (name : ListName) → Contains all_names name
-unfolding names_for
-every_name name =
-    in_flat_map (λ t. flat_map (names_for t) platforms) threats name.threat name (in_threats name.threat)
-    (in_flat_map (names_for name.threat) platforms name.platform name (in_platforms name.platform)
-    (in_map (λ e. record { threat = name.threat; platform = name.platform; entry = e }) entries name.entry (in_entries name.entry)))
-
--- ---- no name stands twice
+use Rattle.sb_model.specs.Names.{threat_code, platform_code, entry_code, name_cmp}
 
 name_total : IsTotalOrder name_cmp
 name_total =

@@ -1,28 +1,28 @@
 -- What matches the answer to a look-up has.
-use Rattle.std.proofs.Common.{◌≡◌, ◌≢◌, ℕ, Bool, true, List, [], Contains, sym, ap, subst}
-use Rattle.std.specs.Prelude.{AllPairs}
+use Rattle.std.proofs.Common.{◌≡◌, ◌≢◌, ◌∙◌, ℕ, Bool, true, false, List, Contains, Option, Some, None, refl, sym, ap, subst}
+use Rattle.std.specs.Prelude.{◌↔◌, is_some, AllPairs}
+use Rattle.std.specs.Option.{option_map_or}
 use Rattle.std.specs.List.{flat_map}
-use Rattle.std.specs.Str.{bytes_eq}
 use Rattle.std.specs.List.Sorted.{IsStrictlySortedBy}
 use Rattle.std.specs.Cmp.Lexicographic.{nat_list_eq_equiv}
+use Rattle.std.proofs.lemmas.List.Kept.{IsStrictlySortedBy-filter}
 use Rattle.std.proofs.lemmas.Map.Views.{Contains-from_any, list_any-from_Contains}
 use Rattle.std.proofs.lemmas.Slice.Eq.{bytes_eq-Decides}
 use Rattle.sha2.specs.Sha256.{sha256}
 use Rattle.sb_model.specs.declared.names.ListName.{ListName}
-use Rattle.sb_model.specs.History.{History, declares}
+use Rattle.sb_model.specs.History.{History}
+use Rattle.answering_lists.specs.Lists.{answered_names, answering, is_answered}
 use Rattle.sb_model.specs.Names.{name_cmp}
 use Rattle.hash_prefixes.specs.declared.hashes.FullHash.{FullHash}
-use Rattle.hash_messages.specs.Matches.{all_names, lists_asked as find_lists}
-use Rattle.hash_messages.specs.Messages.{AskedHashes}
 use Rattle.url_canon.specs.Url.{Url}
 use Rattle.url_expressions.specs.Expressions.{expressions_of}
 use Rattle.url_hashes.specs.Hashes.{full_hash_of, hashes_of}
 use Rattle.lookup_messages.specs.Lookups.{looks_up_list, canonical_of_asked, lists_looked_up, lookup_matches, matches_of_url, IsLookupMatch}
 use Rattle.lookup_messages.specs.Messages.{AskedUrls}
 use Rattle.lookup_messages.specs.declared.response.LookupMatch.{LookupMatch}
-use Rattle.sb_lookup.specs.Lookups.{newest_full_hashes, is_listed, has_url, declared_names, IsServedMatch}
-use Rattle.sb_lookup.proofs.Members.{any_found, any_there, both_filters, filter_again, from_filter, from_map, in_filter, in_map}
-use Rattle.sb_lookup.proofs.Names.{every_name, rising_distinct}
+use Rattle.sb_lookup.specs.Lookups.{newest_full_hashes, is_listed, has_url, name_has_url, IsServedMatch}
+use Rattle.sb_lookup.proofs.Members.{any_found, any_there, filter_again, from_map, in_filter, in_map}
+use Rattle.sb_lookup.proofs.Names.{rising_distinct}
 
 -- ---- a URL that a list has
 
@@ -46,66 +46,69 @@ lists_it history list url expression of has =
 
 -- ---- a match
 
-pub served : (history : History) (cache : ℕ) (asked : AskedUrls) (found : LookupMatch) → IsLookupMatch (has_url history) (declared_names history) cache asked found
-    → IsServedMatch history cache asked found
-served history cache asked found is =
-    let by = listed_by history found.name is.canonical is.has_url in
-    record {
-      url_asked = is.url_asked;
-      canonical = is.canonical;
-      canonical_form = is.canonical_form;
-      declared = (from_filter (declares history) all_names found.name is.list_given).1;
-      list_asked = is.list_asked;
-      expression = by.0;
-      of_url = by.1;
-      listed = by.2;
-      cache_told = is.cache_told;
-    }
+-- what the law of names says: the names for which lists answer rise, and are these
+abbrev pub NamesRise : Type 0
+NamesRise = (history : History) → IsStrictlySortedBy name_cmp (answered_names history)
 
-pub matched : (history : History) (cache : ℕ) (asked : AskedUrls) (found : LookupMatch) → IsServedMatch history cache asked found
-    → IsLookupMatch (has_url history) (declared_names history) cache asked found
-matched history cache asked found is = record {
+abbrev pub NamesAnswered : Type 0
+NamesAnswered = (history : History) (name : ListName) → Contains (answered_names history) name ↔ (is_answered history name ≡ true)
+
+pub served : (history : History) (cache : ℕ) (asked : AskedUrls) (found : LookupMatch) → IsLookupMatch (name_has_url history) (answered_names history) cache asked found
+    → IsServedMatch history cache asked found
+served history cache asked found is = go (answering history found.name) refl is.has_url
+  where
+    go : (o : Option ListName) → answering history found.name ≡ o → option_map_or (λ list. has_url history list is.canonical) o false ≡ true → IsServedMatch history cache asked found
+    go None answers has = absurd (cc)
+    go (Some list) answers has =
+        let by = listed_by history list is.canonical has in
+        record {
+          url_asked = is.url_asked;
+          canonical = is.canonical;
+          canonical_form = is.canonical_form;
+          list = list;
+          answers = answers;
+          list_asked = is.list_asked;
+          expression = by.0;
+          of_url = by.1;
+          listed = by.2;
+          cache_told = is.cache_told;
+        }
+
+pub matched : NamesAnswered → (history : History) (cache : ℕ) (asked : AskedUrls) (found : LookupMatch) → IsServedMatch history cache asked found
+    → IsLookupMatch (name_has_url history) (answered_names history) cache asked found
+matched answered history cache asked found is = record {
   url_asked = is.url_asked;
   canonical = is.canonical;
   canonical_form = is.canonical_form;
-  list_given = in_filter (declares history) all_names found.name (every_name found.name) is.declared;
+  list_given = (answered history found.name).1 (ap is_some is.answers);
   list_asked = is.list_asked;
-  has_url = lists_it history found.name is.canonical is.expression is.of_url is.listed;
+  has_url = ap (λ (o : Option ListName). option_map_or (λ list. has_url history list is.canonical) o false) is.answers
+      ∙ lists_it history is.list is.canonical is.expression is.of_url is.listed;
   cache_told = is.cache_told;
 }
 
 -- ---- how often it stands
 
--- a request to find full hashes in the lists of the same types
-types_of : AskedUrls → AskedHashes
-types_of asked = record { client = asked.client; states = []; threats = asked.threats; platforms = asked.platforms; entries = asked.entries; prefixes = [] }
-
-asked_twice : (history : History) (asked : AskedUrls) → lists_looked_up (declared_names history) asked ≡ find_lists history (types_of asked)
-unfolding types_of
-asked_twice history asked = both_filters (declares history) (looks_up_list asked) all_names
-
--- the asked lists are distinct, where lists that are asked rise
-pub asked_distinct : ((history : History) (asked : AskedHashes) → IsStrictlySortedBy name_cmp (find_lists history asked))
-    → (history : History) (asked : AskedUrls) → AllPairs (λ a b. a ≢ b) (lists_looked_up (declared_names history) asked)
+-- the asked names are distinct
+pub asked_distinct : NamesRise → (history : History) (asked : AskedUrls) → AllPairs (λ a b. a ≢ b) (lists_looked_up (answered_names history) asked)
 asked_distinct rise history asked =
-    rising_distinct (lists_looked_up (declared_names history) asked)
-    (subst (IsStrictlySortedBy name_cmp) (sym (asked_twice history asked)) (rise history (types_of asked)))
+    rising_distinct (lists_looked_up (answered_names history) asked) (IsStrictlySortedBy-filter name_cmp (looks_up_list asked) (answered_names history) (rise history))
 
--- lists that are asked can stand in place of all
-pub asked_alone : (has : ListName → Url → Bool) (lists : List ListName) (cache : ℕ) (asked : AskedUrls)
-    → lookup_matches has (lists_looked_up lists asked) cache asked ≡ lookup_matches has lists cache asked
-asked_alone has lists cache asked =
-    ap (λ (ls : List ListName). flat_map (λ url. matches_of_url has ls cache url (canonical_of_asked url)) asked.urls) (filter_again (looks_up_list asked) lists)
+-- names that are asked can stand in place of all
+pub asked_alone : (has : ListName → Url → Bool) (names : List ListName) (cache : ℕ) (asked : AskedUrls)
+    → lookup_matches has (lists_looked_up names asked) cache asked ≡ lookup_matches has names cache asked
+asked_alone has names cache asked =
+    ap (λ (ns : List ListName). flat_map (λ url. matches_of_url has ns cache url (canonical_of_asked url)) asked.urls) (filter_again (looks_up_list asked) names)
 
-pub matched_alone : (history : History) (cache : ℕ) (asked : AskedUrls) (found : LookupMatch) → IsServedMatch history cache asked found
-    → IsLookupMatch (has_url history) (lists_looked_up (declared_names history) asked) cache asked found
-matched_alone history cache asked found is =
-    let whole = matched history cache asked found is in
+pub matched_alone : NamesAnswered → (history : History) (cache : ℕ) (asked : AskedUrls) (found : LookupMatch) → IsServedMatch history cache asked found
+    → IsLookupMatch (name_has_url history) (lists_looked_up (answered_names history) asked) cache asked found
+matched_alone answered history cache asked found is =
+    let whole = matched answered history cache asked found is in
     record {
       url_asked = whole.url_asked;
       canonical = whole.canonical;
       canonical_form = whole.canonical_form;
-      list_given = in_filter (looks_up_list asked) (declared_names history) found.name whole.list_given whole.list_asked;
+      list_given = in_filter (looks_up_list asked) (answered_names history) found.name whole.list_given whole.list_asked;
       list_asked = whole.list_asked;
       has_url = whole.has_url;
       cache_told = whole.cache_told;

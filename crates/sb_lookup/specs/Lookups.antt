@@ -1,7 +1,8 @@
 -- What a list server answers to a look-up (`threatMatches.find` of the Safe Browsing Lookup API, version 4), and to a request for
 -- the names of its lists (`threatLists.list`).
-use Rattle.std.specs.Prelude.{◌≡◌, ℕ, ◌*◌, Bool, true, List, filter, Contains, Some, Ok}
+use Rattle.std.specs.Prelude.{◌≡◌, ℕ, ◌*◌, Bool, true, false, List, filter, Contains, Some, Ok}
 use Rattle.std.specs.List.{list_any}
+use Rattle.std.specs.Option.{option_map_or}
 use Rattle.std.specs.Str.{bytes_eq}
 use Rattle.sha2.specs.Sha256.{sha256}
 use Rattle.serde_json.specs.Data.{Data, object, no_members}
@@ -10,6 +11,7 @@ use Rattle.sb_json.specs.declared.fields.Field.TheVariants as field
 use Rattle.sb_members.specs.Writing.{with_member_if_any, list_written}
 use Rattle.sb_model.specs.declared.names.ListName.{ListName}
 use Rattle.sb_model.specs.History.{History, declares, full_hashes_at, version_count}
+use Rattle.answering_lists.specs.Lists.{answered_names, answering}
 use Rattle.hash_prefixes.specs.declared.hashes.FullHash.{FullHash}
 use Rattle.hash_messages.specs.Matches.{all_names}
 use Rattle.hash_messages.specs.Writing.{threat_written, platform_written, entry_written}
@@ -33,28 +35,34 @@ is_listed history list hash = list_any (bytes_eq hash.bytes) (newest_full_hashes
 abbrev pub has_url : History → ListName → Url → Bool
 has_url history list url = list_any (is_listed history list) (hashes_of url)
 
--- the declared lists, in the order of names
-abbrev pub declared_names : History → List ListName
-declared_names history = filter (declares history) all_names
+-- whether the list that answers for a name has a URL
+abbrev pub name_has_url : History → ListName → Url → Bool
+name_has_url history name url = option_map_or (λ list. has_url history list url) (answering history name) false
 
--- the answer to a request, each match of which may be kept for so many seconds
+-- The answer to a request, each match of which may be kept for so many seconds: under each name for which a list answers, by that
+-- list.
 abbrev pub served_lookup : History → ℕ → AskedUrls → LookupResponse
-served_lookup history cache asked = lookup_answer (has_url history) (declared_names history) cache asked
+served_lookup history cache asked = lookup_answer (name_has_url history) (answered_names history) cache asked
 
 -- A match that the answer has: its URL is asked and has a canonical form, of which the SHA-256 of some expression is among the
--- newest full hashes of its list, and the list is declared and its three types are asked.
+-- newest full hashes of the list that answers for its name, and the three types of that name are asked.
 pub record IsServedMatch (history : History) (cache : ℕ) (asked : AskedUrls) (found : LookupMatch) : Type 0 where
   pub url_asked : Contains asked.urls found.url
   pub canonical : Url
   pub canonical_form : canonical_of_asked found.url ≡ Ok canonical
-  pub declared : declares history found.name ≡ true
+  pub list : ListName
+  pub answers : answering history found.name ≡ Some list
   pub list_asked : looks_up_list asked found.name ≡ true
   pub expression : List ℕ
   pub of_url : Contains (expressions_of canonical) expression
-  pub listed : Contains (newest_full_hashes history found.name) (sha256 expression)
+  pub listed : Contains (newest_full_hashes history list) (sha256 expression)
   pub cache_told : found.cache ≡ cache * 1000000000
 
 -- ---- the names of lists
+
+-- the declared lists, in the order of names
+abbrev pub declared_names : History → List ListName
+declared_names history = filter (declares history) all_names
 
 abbrev pub name_written : ListName → Data
 name_written name = object (

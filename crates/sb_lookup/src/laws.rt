@@ -5,12 +5,12 @@ ghost use Rattle.lookup_messages.specs.Messages.{AskedUrls};
 ghost use Rattle.lookup_messages.specs.declared.response.LookupMatch.{LookupMatch};
 ghost use Rattle.sb_lookup.specs.Lookups.{served_lookup, IsServedMatch};
 
-use hash_messages::answers_match_what_is_asked;
+use answering_lists::answered_names_are_those_of_lists;
 use lookup_messages::lookups_match_what_is_asked;
 
-/// An answer has a match for each asked URL that has a canonical form and each declared list whose three types are asked, if the
-/// SHA-256 of an expression of the URL is among the list's newest full hashes, and no other. It has each as often as its URL is
-/// asked.
+/// An answer has a match for each asked URL that has a canonical form and each name whose three types are asked and for which a list
+/// answers, if the SHA-256 of an expression of the URL is among the newest full hashes of that list, and no other. It has each as
+/// often as its URL is asked.
 pub fn served_lookups_match_full_hashes()
     ensures matches { (history : History) (cache : ℕ) (asked : AskedUrls) (found : LookupMatch)
         → Contains (served_lookup history cache asked).matches found ↔ IsServedMatch history cache asked found }
@@ -18,6 +18,6 @@ pub fn served_lookups_match_full_hashes()
         → IsServedMatch history cache asked found
         → count_by (is_match found) (served_lookup history cache asked).matches ≡ count_by (is_url found.url) asked.urls }
 {
-    answers_match_what_is_asked();
+    answered_names_are_those_of_lists();
     lookups_match_what_is_asked();
 }

@@ -2,5 +2,5 @@ use Rattle.std.proofs.Common.{◌≡◌, ◌++◌, map, take}
 use Rattle.lookup_messages.specs.Lookups.{match_of}
 use Rattle.sb_lookup.proofs.answering.push_matches.Given as goal
 
-abbrev pub invariant-loop-list : goal.invariant-loop-list
-invariant-loop-list l = l.matches ≡ l.initial.matches ++ map (match_of l.cache l.url) (take l.list-index l.lists)
+abbrev pub invariant-loop-name : goal.invariant-loop-name
+invariant-loop-name l = l.matches ≡ l.initial.matches ++ map (match_of l.cache l.url) (take l.name-index l.names)
