@@ -32,8 +32,8 @@ fn place_among(mirror: &Mirror, asked: &ListRequest, first: u64, end: u64) -> Op
     (first..end).find(|place| names_place(mirror, asked, *place))
 }
 
-// The kept place that the state of an asked list names.
-fn place_named(mirror: &Mirror, asked: &ListRequest) -> Option<u64>
+/// The kept place that the state of an asked list names; `None` if the state is the token of no kept place of the list.
+pub fn place_named(mirror: &Mirror, asked: &ListRequest) -> Option<u64>
     ensures { result ≡ place_named mirror.now asked.now.name asked.now.state }
 {
     place_among(mirror, asked, mirror.gone(), mirror.newest() + 1)

@@ -5,7 +5,7 @@
 //! answered, and `Replica` when a client holds a mirror's lists.
 #![tactic(auto)]
 
-pub use answering::answer_mirror;
+pub use answering::{answer_mirror, place_named};
 pub use following::follow;
 pub use laws::{
     mirror_tokens_name_places, mirrors_answer_from_their_places, mirrors_are_followed,

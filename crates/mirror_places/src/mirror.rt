@@ -211,6 +211,13 @@ impl Mirror {
         served_in(newest.lists.lists(), &self.digests, name)
     }
 
+    /// Whether it answers for a list: it holds the list at its newest place, under a token.
+    pub fn serves(&self, name: ListName) -> bool
+        ensures { result ≡ is_served self.now name }
+    {
+        self.served(name).is_some()
+    }
+
     /// The newest place, counted from 0.
     pub fn newest(&self) -> u64
         ensures value { result ≡ newest_place self.now }
