@@ -1,0 +1,3 @@
+pub mod KeptFacts
+pub mod ResponseFacts
+pub mod WishFacts

@@ -1,0 +1,5 @@
+pub mod Response
+pub mod ResponseLaws
+pub mod PlaceWish
+pub mod KeptFetches
+pub mod HeardFind
