@@ -14,6 +14,7 @@ mod finds;
 mod kept_calls;
 mod lists;
 mod low_calls;
+mod mirror_calls;
 mod printing;
 mod proto_calls;
 mod steps;
@@ -31,7 +32,8 @@ fn call(alloc: Global, name: &[u8], text: &[u8], out: &mut Bytes) -> Result<bool
             || update_calls::call(alloc, name, text, out)?
             || kept_calls::call(alloc, name, text, out)?
             || low_calls::call(alloc, name, text, out)?
-            || proto_calls::call(alloc, name, text, out)?,
+            || proto_calls::call(alloc, name, text, out)?
+            || mirror_calls::call(alloc, name, text, out)?,
     )
 }
 
