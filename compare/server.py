@@ -258,8 +258,9 @@ def answer_item(journal, asked):
 
 
 def answering(journal, name):
-    """The declared list that answers for a name, which is that of the name itself, or None."""
-    return name if name in journal.declared else None
+    """The declared list that answers for a name: that of the name itself, else that for any platform, or None."""
+    threat, _, entry = name.split("/")
+    return next((one for one in (name, f"{threat}/ANY_PLATFORM/{entry}") if one in journal.declared), None)
 
 
 def named_item(journal, asked):

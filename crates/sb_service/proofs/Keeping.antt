@@ -47,11 +47,12 @@ one_choice true false is = absurd (cc)
 one_choice false true is = absurd (cc)
 one_choice false false is = refl
 
-all_three : (a b c : Bool) → (a && b && c) ≡ true → (a ≡ true) × (b ≡ true) × (c ≡ true)
-all_three true true true is = (refl, refl, refl)
-all_three true true false is = absurd (cc)
-all_three true false c is = absurd (cc)
-all_three false b c is = absurd (cc)
+all_four : (a b c d : Bool) → (a && b && c && d) ≡ true → (a ≡ true) × (b ≡ true) × (c ≡ true) × (d ≡ true)
+all_four true true true true is = (refl, refl, refl, refl)
+all_four true true true false is = absurd (cc)
+all_four true true false d is = absurd (cc)
+all_four true false c d is = absurd (cc)
+all_four false b c d is = absurd (cc)
 
 both_are : (a b : Bool) → (a && b) ≡ true → (a ≡ true) × (b ≡ true)
 both_are true true is = (refl, refl)
@@ -61,11 +62,12 @@ both_are false b is = absurd (cc)
 module _ (law : NamesLaw) where
   one_wish : (a b : Wish) → same_wish a b ≡ true → a ≡ b
   one_wish a b is =
-      let made : ListName → Option ℕ → Bool → Wish = λ list held rice. record { list = list; held = held; rice = rice } in
-      let all = all_three (same_name a.list b.list) (same_version a.held b.held) (same_choice a.rice b.rice) is in
-      ap (λ (l : ListName). made l a.held a.rice) ((law a.list b.list).0 all.0)
-      ∙ ap (λ (h : Option ℕ). made b.list h a.rice) (one_version a.held b.held all.1)
-      ∙ ap (λ (r : Bool). made b.list b.held r) (one_choice a.rice b.rice all.2)
+      let made : ListName → ListName → Option ℕ → Bool → Wish = λ name list held rice. record { name = name; list = list; held = held; rice = rice } in
+      let all = all_four (same_name a.name b.name) (same_name a.list b.list) (same_version a.held b.held) (same_choice a.rice b.rice) is in
+      ap (λ (n : ListName). made n a.list a.held a.rice) ((law a.name b.name).0 all.0)
+      ∙ ap (λ (l : ListName). made b.name l a.held a.rice) ((law a.list b.list).0 all.1)
+      ∙ ap (λ (h : Option ℕ). made b.name b.list h a.rice) (one_version a.held b.held all.2)
+      ∙ ap (λ (r : Bool). made b.name b.list b.held r) (one_choice a.rice b.rice all.3)
 
   ones : (xs ys : List Wish) → pointwise same_wish xs ys ≡ true → xs ≡ ys
   ones [] [] is = refl

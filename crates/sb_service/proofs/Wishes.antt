@@ -1,28 +1,29 @@
 -- Requests that wish the same have one answer.
-use Rattle.std.proofs.Common.{◌≡◌, ◌+◌, ◌<◌, ◌≤◌, ℕ, zero, suc, Bool, true, false, not, cond, List, [], ◌∷◌, ◌++◌, append-nil, get_or, length, map, take, Option, Some, None, refl, sym, ap, ◌∙◌, arith}
-use Rattle.std.specs.Prelude.{◌==◌, ◌&&◌, ◌||◌, nat_le, filter, find, if◌then◌else◌, IfSome}
-use Rattle.std.specs.List.{Any, enumerate_from, range_with_len}
+use Rattle.std.proofs.Common.{◌≡◌, ◌+◌, ◌<◌, ◌≤◌, ℕ, zero, suc, Bool, true, false, not, cond, List, [], ◌∷◌, get_or, length, map, Option, Some, None, refl, sym, ap, ◌∙◌, arith}
+use Rattle.std.specs.Prelude.{◌==◌, ◌&&◌, ◌||◌, nat_le, filter, find, if◌then◌else◌, is_some, option_and_then, option_map, IfSome}
+use Rattle.std.specs.List.{Any, cons_option, enumerate_from, filter_map, range_with_len}
 use Rattle.std.specs.Str.{bytes_eq}
 use Rattle.std.specs.declared.cmp.Ordering.{Ordering}
 use Rattle.std.specs.declared.cmp.Ordering.TheVariants.{Less, Equal, Greater}
 use Rattle.std.specs.Ordering.{match_ordering}
 use Rattle.std.proofs.lemmas.Bool.{leb-true, le-leb}
-use Rattle.std.proofs.lemmas.List.{length-map, map-append, take_more}
-use Rattle.std.proofs.lemmas.List.Elements.{filter-append}
+use Rattle.std.proofs.lemmas.List.{length-map}
 use Rattle.std.proofs.lemmas.List.FromFn.{length-enumerate_from}
 use Rattle.std.proofs.lemmas.Slice.Eq.{bytes_eq-Decides}
 use Rattle.sb_model.specs.declared.names.ListName.{ListName}
 use Rattle.sb_model.specs.Difference.{difference_count, has_member, removed_places}
-use Rattle.sb_model.specs.History.{History, declares, prefix_of, prefixes_at, sizes_at, version_count}
+use Rattle.sb_model.specs.History.{History, prefix_of, prefixes_at, sizes_at, version_count}
 use Rattle.sb_model.specs.Prefixes.{bytes_cmp, set_of, with_member}
 use Rattle.sb_model.specs.Target.{can_reach, greatest_up_to, is_within, target_version}
 use Rattle.list_versions.specs.Limits.{most_hashes, WithinLimits}
-use Rattle.update_messages.specs.Answer.{declared_items, fetch_answer, update_for, update_to, version_named}
+use Rattle.answering_lists.specs.Lists.{answering, is_answered}
+use Rattle.update_messages.specs.Answer.{update_for, update_to, version_named}
+use Rattle.named_answers.specs.Answers.{asked_of_list, named_fetch_answer, named_update, named_update_for, under_name}
 use Rattle.update_messages.specs.Messages.{AskedList, Request, UpdatedList}
 use Rattle.update_messages.specs.declared.response.FetchResponse.{FetchResponse}
 use Rattle.delta_server.specs.Tokens.{server_naming}
 use Rattle.sb_service.specs.declared.wish.Wish.{Wish}
-use Rattle.sb_service.specs.Wish.{is_free, newest_size, wish_of, wish_with, wished_answer, wished_update, AreWishesOf}
+use Rattle.sb_service.specs.Wish.{answered_items, is_free, newest_size, wish_of, wish_of_list, wish_with, wished_answer, wished_update, AreWishesOf}
 
 -- ---- tests
 
@@ -136,41 +137,39 @@ named history asked held is =
 
 -- ---- one item
 
-when_both : (a b : Bool) (made wish : Wish) → (if a && b then Some made else None) ≡ Some wish → (b ≡ true) × (made ≡ wish)
-when_both true true made wish is = (refl, cc)
-when_both true false made wish is = absurd (cc)
-when_both false b made wish is = absurd (cc)
+when_so : (b : Bool) (made wish : Wish) → (if b then Some made else None) ≡ Some wish → (b ≡ true) × (made ≡ wish)
+when_so true made wish is = (refl, cc)
+when_so false made wish is = absurd (cc)
 
--- what an item is sent follows from its wish
-module _ (history : History) (limits : WithinLimits history) (asked : AskedList) where
+-- What an item is sent under a name follows from its wish. It asks for the list that answers for that name.
+module _ (history : History) (limits : WithinLimits history) (name : ListName) (asked : AskedList) where
   abbrev made : Option ℕ → Wish
-  made held = record { list = asked.name; held = held; rice = asked.rice }
+  made held = record { name = name; list = asked.name; held = held; rice = asked.rice }
 
   abbrev target : Option ℕ → ℕ
   target held = target_version history asked.name held asked.max_update asked.max_database
-
-  names : Option ℕ → Type 0
-  names held = version_named history (server_naming history) asked.name asked.state ≡ held
 
   within : (held : Option ℕ) → version_named history (server_naming history) asked.name asked.state ≡ held → IfSome held (λ version. version ≤ version_count history)
   within None is = tt
   within (Some held) is = (named history asked held is).within
 
   same_update : (held : Option ℕ) → version_named history (server_naming history) asked.name asked.state ≡ held
-      → update_to history (server_naming history) asked held (version_count history) ≡ wished_update history (made held)
+      → under_name name (update_to history (server_naming history) asked held (version_count history)) ≡ wished_update history (made held)
   same_update None is = refl
   same_update (Some held) is =
-      ap (λ (state : List ℕ). update_to history (server_naming history) (record asked { state = state }) (Some held) (version_count history)) (sym (named history asked held is).token)
+      ap (λ (state : List ℕ). under_name name (update_to history (server_naming history) (record asked { state = state }) (Some held) (version_count history)))
+      (sym (named history asked held is).token)
 
-  by_version : (held : Option ℕ) (wish : Wish) → version_named history (server_naming history) asked.name asked.state ≡ held → wish_with history asked held ≡ Some wish
-      → update_to history (server_naming history) asked held (target held) ≡ wished_update history wish
+  by_version : (held : Option ℕ) (wish : Wish) → version_named history (server_naming history) asked.name asked.state ≡ held → wish_with history name asked held ≡ Some wish
+      → under_name name (update_to history (server_naming history) asked held (target held)) ≡ wished_update history wish
   by_version held wish is has =
-      let both = when_both (declares history asked.name) (is_free history asked held) (made held) wish has in
+      let both = when_so (is_free history asked held) (made held) wish has in
       let newest : target held ≡ version_count history =
       reaches_all (can_reach history asked.name held asked.max_update asked.max_database) (version_count history) (free_reaches history asked held limits (within held is) both.0) in
-      ap (update_to history (server_naming history) asked held) newest ∙ same_update held is ∙ ap (wished_update history) both.1
+      ap (λ (version : ℕ). under_name name (update_to history (server_naming history) asked held version)) newest ∙ same_update held is ∙ ap (wished_update history) both.1
 
-  pub wished : (wish : Wish) → wish_of history asked ≡ Some wish → update_for history (server_naming history) asked ≡ wished_update history wish
+  pub wished : (wish : Wish) → wish_with history name asked (version_named history (server_naming history) asked.name asked.state) ≡ Some wish
+      → under_name name (update_for history (server_naming history) asked) ≡ wished_update history wish
   wished wish has = by_version (version_named history (server_naming history) asked.name asked.state) wish refl has
 
 -- ---- all items
@@ -179,49 +178,39 @@ one_less : {X : Type 0} (x y : X) (xs ys : List X) → ◌≡◌ {A = List X} (x
 one_less x y xs ys same = (cc, cc)
 
 module _ (history : History) (limits : WithinLimits history) where
-  each_wished : (items : List AskedList) (wishes : List Wish) → map (wish_of history) items ≡ map Some wishes → map (update_for history (server_naming history)) items ≡ map (wished_update history) wishes
+  -- what an item of a list is sent
+  one_wished : (asked : AskedList) (list : ListName) (wish : Wish) → answering history asked.name ≡ Some list → wish_of history asked ≡ Some wish
+      → named_update history (server_naming history) asked list ≡ wished_update history wish
+  one_wished asked list wish is has =
+      wished history limits asked.name (asked_of_list list asked) wish (sym (ap (option_and_then (wish_of_list history asked)) is) ∙ has)
+
+  each_wished : (items : List AskedList) (wishes : List Wish) → AreWishesOf history items wishes
+      → filter_map (named_update_for history (server_naming history)) items ≡ map (wished_update history) wishes
   each_wished [] [] are = refl
   each_wished [] (wish ∷ wishes) are = absurd (cc)
-  each_wished (asked ∷ items) [] are = absurd (cc)
-  each_wished (asked ∷ items) (wish ∷ wishes) are =
-      let both = one_less (wish_of history asked) (Some wish) (map (wish_of history) items) (map Some wishes) are in
-      ap (λ (update : UpdatedList). update ∷ map (update_for history (server_naming history)) items) (wished history limits asked wish both.0)
-      ∙ ap (λ (updates : List UpdatedList). wished_update history wish ∷ updates) (each_wished items wishes both.1)
+  each_wished (asked ∷ items) wishes are = go (answering history asked.name) refl wishes (λ others. each_wished items others) are
+    where
+      go : (o : Option ListName) → answering history asked.name ≡ o → (all : List Wish)
+          → ((others : List Wish) → AreWishesOf history items others → filter_map (named_update_for history (server_naming history)) items ≡ map (wished_update history) others)
+          → map (wish_of history) (cond (is_some o) (asked ∷ answered_items history items) (answered_items history items)) ≡ map Some all
+          → cons_option (option_map (named_update history (server_naming history) asked) o) (filter_map (named_update_for history (server_naming history)) items)
+          ≡ map (wished_update history) all
+      go None is all rest so = rest all so
+      go (Some list) is [] rest so = absurd (cc)
+      go (Some list) is (wish ∷ others) rest so =
+          let both = one_less (wish_of history asked) (Some wish) (map (wish_of history) (answered_items history items)) (map Some others) so in
+          ap (λ (update : UpdatedList). update ∷ filter_map (named_update_for history (server_naming history)) items) (one_wished asked list wish is both.0)
+          ∙ ap (λ (updates : List UpdatedList). wished_update history wish ∷ updates) (rest others both.1)
 
   pub answered : (wait : ℕ) (request : Request) (wishes : List Wish) → AreWishesOf history request.items wishes
-      → fetch_answer history (server_naming history) wait request ≡ wished_answer history wait wishes
+      → named_fetch_answer history (server_naming history) wait request ≡ wished_answer history wait wishes
   answered wait request wishes are =
       ap (λ (updates : List UpdatedList). let response : FetchResponse = record { items = updates; wait = (wished_answer history wait wishes).wait } in response)
-      (each_wished (declared_items history request.items) wishes are)
+      (each_wished request.items wishes are)
 
   pub one_answer : (wait : ℕ) (first second : Request) (wishes : List Wish) → AreWishesOf history first.items wishes → AreWishesOf history second.items wishes
-      → fetch_answer history (server_naming history) wait first ≡ fetch_answer history (server_naming history) wait second
+      → named_fetch_answer history (server_naming history) wait first ≡ named_fetch_answer history (server_naming history) wait second
   one_answer wait first second wishes are also = answered wait first wishes are ∙ sym (answered wait second wishes also)
-
--- ---- declared items, one by one
-
-module _ (history : History) (items : List AskedList) (i : ℕ) (asked : AskedList) (below : i < length items) (is : asked ≡ get_or items i asked) where
-  one_further : declared_items history (take (i + 1) items) ≡ declared_items history (take i items) ++ declared_items history (asked ∷ [])
-  one_further =
-      ap (declared_items history) (take_more items i asked below)
-      ∙ filter-append (λ (a : AskedList). declares history a.name) (take i items) (get_or items i asked ∷ [])
-      ∙ ap (λ (a : AskedList). declared_items history (take i items) ++ declared_items history (a ∷ [])) (sym is)
-
-  with_end : (b : Bool) → declares history asked.name ≡ b → declared_items history (take (i + 1) items) ≡ declared_items history (take i items) ++ cond b (asked ∷ []) []
-  with_end b known = one_further ∙ ap (λ (d : Bool). declared_items history (take i items) ++ cond d (asked ∷ []) []) known
-
-  -- one whose list is not declared has no wish
-  pub not_wished : (wishes : List Wish) → declares history asked.name ≡ false → AreWishesOf history (take i items) wishes → AreWishesOf history (take (i + 1) items) wishes
-  not_wished wishes known are =
-      ap (map (wish_of history)) (with_end false known ∙ append-nil (declared_items history (take i items))) ∙ are
-
-  -- one wish more
-  pub wished_more : (wishes more : List Wish) (wish : Wish) → declares history asked.name ≡ true → wish_of history asked ≡ Some wish → more ≡ wishes ++ wish ∷ []
-      → AreWishesOf history (take i items) wishes → AreWishesOf history (take (i + 1) items) more
-  wished_more wishes more wish known has pushed are =
-      ap (map (wish_of history)) (with_end true known) ∙ map-append (wish_of history) (declared_items history (take i items)) (asked ∷ [])
-      ∙ ap (λ (ws : List (Option Wish)). ws ++ wish_of history asked ∷ []) are ∙ ap (λ (w : Option Wish). map Some wishes ++ w ∷ []) has
-      ∙ sym (ap (map Some) pushed ∙ map-append Some wishes (wish ∷ []))
 
 -- ---- an item that has no wish
 
@@ -239,7 +228,8 @@ among p P [] i x below here passes holds = absurd (omega (arith, below))
 among p P (y ∷ ys) zero x below here passes holds = is_first P y x (filter p ys) (p y) (ap p here ∙ passes) here holds
 among p P (y ∷ ys) (suc i) x below here passes holds = in_rest P y (filter p ys) (p y) (among p P ys i x (omega (arith, below)) here passes holds)
 
-pub unwished : (history : History) (items : List AskedList) (i : ℕ) (asked : AskedList) → i < length items → asked ≡ get_or items i asked → declares history asked.name ≡ true
-    → wish_of history asked ≡ None → Any (λ (a : AskedList). wish_of history a ≡ None) (declared_items history items)
-unwished history items i asked below is known none =
-    among (λ (a : AskedList). declares history a.name) (λ (a : AskedList). wish_of history a ≡ None) items i asked below (sym is) known none
+pub unwished : (history : History) (items : List AskedList) (i : ℕ) (asked : AskedList) (list : ListName) → i < length items → asked ≡ get_or items i asked
+    → answering history asked.name ≡ Some list → wish_of_list history asked list ≡ None → Any (λ (a : AskedList). wish_of history a ≡ None) (answered_items history items)
+unwished history items i asked list below is known none =
+    among (λ (a : AskedList). is_answered history a.name) (λ (a : AskedList). wish_of history a ≡ None) items i asked below (sym is)
+    (ap is_some known) (ap (option_and_then (wish_of_list history asked)) known ∙ none)

@@ -20,13 +20,12 @@ use Rattle.http_edge.specs.declared.messages.Status.TheVariants.{Success, BadReq
 use Rattle.http_serving.specs.Routes.{AsksAt, Route, RoutedAnswer}
 use Rattle.http_serving.specs.declared.forms.Form.{Form}
 use Rattle.http_serving.specs.declared.forms.Form.TheVariants.{Plain, Protobuf, Query}
-use Rattle.update_messages.specs.Answer.{fetch_answer}
+use Rattle.named_answers.specs.Answers.{named_fetch_answer, named_find_answer}
 use Rattle.update_messages.specs.Faults.{fault_of_request, fault_of_text}
 use Rattle.update_messages.specs.Messages.{Request}
 use Rattle.update_messages.specs.Reading.{ReadsRequest, IsTextOf}
 use Rattle.update_messages.specs.Writing.{spelling_of_response}
 use Rattle.hash_messages.specs.Faults.{fault_of_find_request}
-use Rattle.hash_messages.specs.Matches.{find_answer}
 use Rattle.hash_messages.specs.Messages.{AskedHashes}
 use Rattle.hash_messages.specs.Reading.{ReadsFindRequest}
 use Rattle.hash_messages.specs.Writing.{spelling_of_find_response}
@@ -45,14 +44,14 @@ use Rattle.sb_service.specs.ProtoTexts.{media_in, IsProtoFault, IsProtoMessage, 
 
 -- ---- what a request is answered
 
--- the updates that a message asks for, of those lists that are declared
+-- the updates that a message asks for, of those items for which a list answers
 abbrev pub updates_text : History → Settings → Request → List ℕ
-updates_text history times message = spelling_of_response (fetch_answer history (server_naming history) times.wait message)
+updates_text history times message = spelling_of_response (named_fetch_answer history (server_naming history) times.wait message)
 
 -- the full hashes that a message asks for
 abbrev pub matches_text : History → Settings → AskedHashes → List ℕ
 matches_text history times message =
-    spelling_of_find_response (find_answer history times.find_wait times.cache times.negative message)
+    spelling_of_find_response (named_find_answer history times.find_wait times.cache times.negative message)
 
 -- the matches of the URLs that a message asks for
 abbrev pub lookups_text : History → Settings → AskedUrls → List ℕ

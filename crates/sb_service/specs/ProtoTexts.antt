@@ -2,7 +2,7 @@
 use Rattle.std.specs.Prelude.{◌≡◌, ◌⊎◌, ℕ, List, [], map, filter, codes}
 use Rattle.std.specs.List.{zip}
 use Rattle.std.specs.Option.{unwrap_or}
-use Rattle.sb_model.specs.History.{History, declares}
+use Rattle.sb_model.specs.History.{History}
 use Rattle.sb_outside.specs.declared.links.Kind.{Kind}
 use Rattle.sb_outside.specs.declared.links.Kind.TheVariants.{Update, Find}
 use Rattle.http_edge.specs.declared.messages.HttpRequest.{HttpRequest}
@@ -11,9 +11,9 @@ use Rattle.http_edge.specs.declared.messages.MediaType.TheVariants as media
 use Rattle.http_serving.specs.Queries.{query_value}
 use Rattle.http_serving.specs.declared.forms.Form.{Form}
 use Rattle.http_serving.specs.declared.forms.Form.TheVariants.{Plain, Protobuf, Query}
-use Rattle.update_messages.specs.Answer.{fetch_answer}
 use Rattle.update_messages.specs.Messages.{AskedList}
-use Rattle.hash_messages.specs.Matches.{find_answer}
+use Rattle.answering_lists.specs.Lists.{is_answered}
+use Rattle.named_answers.specs.Answers.{named_fetch_answer, named_find_answer}
 use Rattle.proto_messages.specs.Query.{IsBase64Of}
 use Rattle.proto_messages.specs.Reading.{ReadsFetch, ReadsFind, IsFetchFault, IsFindFault}
 use Rattle.proto_messages.specs.Writing.{fetch_answer_bytes, find_answer_bytes}
@@ -48,21 +48,21 @@ media_in Query = media.Protobuf
 
 -- ---- its answer
 
--- the numbers of the threats of those asked lists that are declared, in order
+-- the numbers of the threats of those items for which a list answers, in order
 abbrev pub answered_threats : History → List AskedList → List ℕ → List ℕ
 answered_threats history items threats =
-    map (λ (asked : AskedList × ℕ). asked.1) (filter (λ (asked : AskedList × ℕ). declares history asked.0.name) (zip items threats))
+    map (λ (asked : AskedList × ℕ). asked.1) (filter (λ (asked : AskedList × ℕ). is_answered history asked.0.name) (zip items threats))
 
--- the updates that a message asks for, of those lists that are declared
+-- the updates that a message asks for, of those items for which a list answers
 abbrev pub updates_bytes : History → Settings → NumberedFetch → List ℕ
 updates_bytes history times asked =
     fetch_answer_bytes (answered_threats history asked.request.items asked.threats)
-    (fetch_answer history (server_naming history) times.wait asked.request)
+    (named_fetch_answer history (server_naming history) times.wait asked.request)
 
 -- the full hashes that a message asks for
 abbrev pub matches_bytes : History → Settings → NumberedFind → List ℕ
 matches_bytes history times asked =
-    find_answer_bytes asked.social (find_answer history times.find_wait times.cache times.negative asked.request)
+    find_answer_bytes asked.social (named_find_answer history times.find_wait times.cache times.negative asked.request)
 
 -- The answer to a message that asks for updates, or for full hashes. Other bytes have none.
 abbrev pub IsProtoText : History → Settings → Kind → (message text : List ℕ) → Type 0

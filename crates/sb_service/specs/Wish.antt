@@ -1,15 +1,17 @@
--- What a request for updates comes to: for each item whose list is declared its list, the version that it holds, and whether it takes Rice
--- coded sets. Requests that wish the same have one answer, however they are spelled.
-use Rattle.std.specs.Prelude.{◌≡◌, ◌+◌, ◌*◌, ◌==◌, ◌&&◌, ◌||◌, ℕ, Bool, true, false, not, if◌then◌else◌, List, [], length, map, Option, Some, None, is_some}
+-- What a request for updates comes to: for each item for which a list answers the name that it asks for, that list, the version of it that
+-- the item holds, and whether it takes Rice coded sets. Requests that wish the same have one answer, however they are spelled.
+use Rattle.std.specs.Prelude.{◌≡◌, ◌+◌, ◌*◌, ◌==◌, ◌&&◌, ◌||◌, ℕ, Bool, true, false, not, if◌then◌else◌, List, [], length, map, filter, Option, Some, None, is_some, option_and_then}
 use Rattle.sb_model.specs.declared.names.ListName.{ListName}
 use Rattle.sb_model.specs.Names.{same_name}
-use Rattle.sb_model.specs.History.{History, declares, version_count, prefixes_at}
+use Rattle.sb_model.specs.History.{History, version_count, prefixes_at}
 use Rattle.sb_model.specs.Target.{is_within}
 use Rattle.list_versions.specs.Limits.{most_hashes}
-use Rattle.update_messages.specs.Answer.{declared_items, update_to, version_named}
+use Rattle.answering_lists.specs.Lists.{answering, is_answered}
+use Rattle.update_messages.specs.Answer.{update_to, version_named}
 use Rattle.update_messages.specs.Messages.{AskedList, UpdatedList}
 use Rattle.update_messages.specs.Writing.{spelling_of_response}
 use Rattle.update_messages.specs.declared.response.FetchResponse.{FetchResponse}
+use Rattle.named_answers.specs.Answers.{asked_of_list, under_name}
 use Rattle.delta_server.specs.Tokens.{server_naming}
 use Rattle.delta_server.specs.declared.answering.Settings.{Settings}
 use Rattle.sb_service.specs.declared.wish.Wish.{Wish}
@@ -31,20 +33,30 @@ is_free history asked (Some held) =
     || (is_within asked.max_update (newest_size history asked.name + most_hashes)
     && is_within asked.max_database (newest_size history asked.name))
 
-abbrev pub wish_with : History → AskedList → Option ℕ → Option Wish
-wish_with history asked held =
-    if declares history asked.name && is_free history asked held
-    then Some (record { list = asked.name; held = held; rice = asked.rice })
+-- the wish of an item under the name for which it asks, as it asks for the list that answers, where it holds this version of it or none
+abbrev pub wish_with : History → ListName → AskedList → Option ℕ → Option Wish
+wish_with history name asked held =
+    if is_free history asked held
+    then Some (record { name = name; list = asked.name; held = held; rice = asked.rice })
     else None
 
--- The wish of an item: its list, the version that its state names or none, and whether it takes Rice coded sets. It has one if its list is
--- declared and its limits surely do not bind.
-abbrev pub wish_of : History → AskedList → Option Wish
-wish_of history asked = wish_with history asked (version_named history (server_naming history) asked.name asked.state)
+-- the same where its state tells what it holds
+abbrev pub wish_of_list : History → AskedList → ListName → Option Wish
+wish_of_list history asked list =
+    wish_with history asked.name (asked_of_list list asked) (version_named history (server_naming history) list asked.state)
 
--- Each item whose list is declared has a wish, and in order they are these. Other items are not answered.
+-- The wish of an item: the name for which it asks, the list that answers, the version of that list that its state names or none, and
+-- whether it takes Rice coded sets. It has one if a list answers and its limits surely do not bind.
+abbrev pub wish_of : History → AskedList → Option Wish
+wish_of history asked = option_and_then (wish_of_list history asked) (answering history asked.name)
+
+-- the items for which a list answers, in order
+abbrev pub answered_items : History → List AskedList → List AskedList
+answered_items history items = filter (λ asked. is_answered history asked.name) items
+
+-- Each item for which a list answers has a wish, and in order they are these. Other items are not answered.
 abbrev pub AreWishesOf : History → List AskedList → List Wish → Type 0
-AreWishesOf history items wishes = map (wish_of history) (declared_items history items) ≡ map Some wishes
+AreWishesOf history items wishes = map (wish_of history) (answered_items history items) ≡ map Some wishes
 
 -- ---- the answer to wishes
 
@@ -53,7 +65,7 @@ abbrev pub state_for : History → ListName → Option ℕ → List ℕ
 state_for history list None = []
 state_for history list (Some held) = server_naming history list held
 
--- an item without limits that wishes so
+-- an item of the list that answers, without limits, that wishes so
 abbrev pub asked_by_wish : History → Wish → AskedList
 asked_by_wish history wish = record {
   name = wish.list;
@@ -64,9 +76,10 @@ asked_by_wish history wish = record {
   rice = wish.rice;
 }
 
--- the update that brings it to the newest version
+-- the update that brings it to the newest version, under the name that was asked
 abbrev pub wished_update : History → Wish → UpdatedList
-wished_update history wish = update_to history (server_naming history) (asked_by_wish history wish) wish.held (version_count history)
+wished_update history wish =
+    under_name wish.name (update_to history (server_naming history) (asked_by_wish history wish) wish.held (version_count history))
 
 -- the answer to a request that wishes so
 abbrev pub wished_answer : History → ℕ → List Wish → FetchResponse
@@ -89,7 +102,7 @@ same_choice false other = not other
 
 abbrev pub same_wish : Wish → Wish → Bool
 same_wish wish other =
-    same_name wish.list other.list && same_version wish.held other.held && same_choice wish.rice other.rice
+    same_name wish.name other.name && same_name wish.list other.list && same_version wish.held other.held && same_choice wish.rice other.rice
 
 -- whether an item wishes a whole list
 abbrev pub is_whole : Wish → Bool

@@ -20,7 +20,7 @@ ghost use Rattle.sb_service.specs.Kept.{AreKeptOf, IsKeptOf};
 use crate::in_proto::answer_in_proto;
 use crate::kept::{Wishes, nothing_kept};
 use crate::wish::wishes_of;
-use delta_server::{Settings, answer_fetch, answer_find};
+use delta_server::Settings;
 use hash_messages::{FindRequest, find_values_read_one_way, read_find, write_matches};
 use http_edge::{Allow, HttpRequest, MediaType, ResponseFields, Status, path_of};
 use http_serving::{
@@ -32,6 +32,7 @@ use list_versions::History;
 use lookup_messages::{
     LookupRequest, lookup_values_read_one_way, read_lookup, write_lookup_matches,
 };
+use named_answers::{answer_named_fetch, answer_named_find};
 use proto_messages::queries_read_one_way;
 use sb_json::{MessageFault, push_message_cause};
 use sb_lookup::{answer_lookup, write_lists};
@@ -142,7 +143,7 @@ fn answer_message(
     ensures media { IfOk result (λ response. response.fields.media ≡ MediaType.Json) }
     ensures cause { IfOk result (λ response. response.cause ≡ []) }
 {
-    let answer = answer_fetch(alloc, history, settings, message)?;
+    let answer = answer_named_fetch(alloc, history, settings, message)?;
     Ok(Response {
         status: Status::Success,
         fields: json_fields(Allow::Post),
@@ -189,7 +190,7 @@ fn answer_hashes(
     ensures media { IfOk result (λ response. response.fields.media ≡ MediaType.Json) }
     ensures cause { IfOk result (λ response. response.cause ≡ []) }
 {
-    let answer = answer_find(alloc, history, settings, message)?;
+    let answer = answer_named_find(alloc, history, settings, message)?;
     Ok(Response {
         status: Status::Success,
         fields: json_fields(Allow::Post),
@@ -464,8 +465,8 @@ impl<'a> Answers for ListServer<'a> {
 
 /// Reads one request and writes one response (RFC 9112).
 ///
-/// A POST request to `/v4/threatListUpdates:fetch` is answered 200 with the updates of those lists that it asks for and that
-/// are declared, one to `/v4/fullHashes:find` with the full hashes that it asks for, and one to `/v4/threatMatches:find` with
+/// A POST request to `/v4/threatListUpdates:fetch` is answered 200 with the updates of those items for which a list answers,
+/// one to `/v4/fullHashes:find` with the full hashes that it asks for, and one to `/v4/threatMatches:find` with
 /// those of its URLs that are on the lists. A GET request for `/v4/threatLists` is answered 200 with the names of the lists.
 /// The first two take and give messages of Protocol Buffers too: as the body of a POST that says so, and in the member `$req`
 /// of the query of a GET, in base64.

@@ -3,10 +3,12 @@ ghost use Rattle.sb_service.specs.Connection.{IsTextInForm, IsResponseFor};
 ghost use Rattle.sb_service.specs.ConnectionSteps.{IsProtoRefusal, proto_route};
 ghost use Rattle.sb_service.specs.ProtoTexts.{answered_threats, matches_bytes, queried_text, updates_bytes, HasNoProtoMessage, IsMessageFault, IsProtoFault, IsProtoMessage, IsProtoText};
 
-use delta_server::{Settings, answer_fetch, answer_find};
+use answering_lists::answering_list;
+use delta_server::Settings;
 use http_edge::{Allow, HttpRequest, MediaType, ResponseFields, Status};
 use http_serving::{Form, Response, query_value};
 use list_versions::History;
+use named_answers::{answer_named_fetch, answer_named_find};
 use proto_messages::{
     NumberedFetch, NumberedFind, ProtoFault, message_of_query, push_cause, queries_read_one_way,
     read_fetch, read_find, write_fetch, write_matches,
@@ -16,7 +18,7 @@ use sb_outside::Kind;
 use std::alloc::Global;
 use update_messages::ListRequest;
 
-/// Appends the numbers of the threats of those asked lists that are declared.
+/// Appends the numbers of the threats of those items for which a list answers.
 fn push_answered(
     answered: &mut Row<u64>,
     history: &History,
@@ -31,7 +33,7 @@ fn push_answered(
     let Some((threat, threats)) = threats.split_first() else {
         return Ok(());
     };
-    if history.newest(asked.name).is_some() {
+    if answering_list(history, asked.name).is_some() {
         answered.push(*threat)?;
     }
     push_answered(answered, history, items, threats)
@@ -49,7 +51,7 @@ fn updates_bytes(
     let mut threats = Row::new(alloc);
     let items = asked.request.items.as_slice();
     push_answered(&mut threats, history, items, asked.threats.as_slice())?;
-    let answer = answer_fetch(alloc, history, settings, &asked.request)?;
+    let answer = answer_named_fetch(alloc, history, settings, &asked.request)?;
     write_fetch(alloc, &answer, threats.as_slice())
 }
 
@@ -62,7 +64,7 @@ fn matches_bytes(
 ) -> Result<Bytes, OutOfMemory>
     ensures { IfOk result (λ bytes. bytes ≡ matches_bytes history.now.versions settings.now asked.now) }
 {
-    let answer = answer_find(alloc, history, settings, &asked.request)?;
+    let answer = answer_named_find(alloc, history, settings, &asked.request)?;
     write_matches(alloc, &answer, asked.social)
 }
 

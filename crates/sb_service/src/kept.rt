@@ -9,7 +9,7 @@ use sb_model::Row;
 use std::alloc::Global;
 use std::marker::Model;
 
-/// What those items of a request for updates wish whose lists are declared, in order.
+/// What those items of a request for updates wish for which a list answers, in order.
 #[derive(Drop)]
 pub(crate) struct Wishes(pub Row<Wish>);
 

@@ -7,10 +7,11 @@ ghost use Rattle.sb_service.specs.Connection.{lookups_text, matches_text, update
 use crate::command::MessageKind;
 use crate::printing::{journal_line, lookups_line, matches_line, message_line, response_line};
 use crate::stop::Stop;
-use delta_server::{Settings, answer_fetch, answer_find};
+use delta_server::Settings;
 use hash_messages::{FindRequest, read_find};
 use list_versions::{History, JournalFault};
 use lookup_messages::{LookupRequest, read_lookup};
+use named_answers::{answer_named_fetch, answer_named_find};
 use sb_json::MessageFault;
 use sb_lookup::answer_lookup;
 use sb_model::{Bytes, OutOfMemory};
@@ -69,7 +70,7 @@ fn reply_with_updates(
 ) -> Result<Reply, OutOfMemory>
     ensures { IfOk result (λ reply. reply ≡ reply_with (updates_text history.now.versions settings.now request.now)) }
 {
-    let response = answer_fetch(alloc, history, settings, request)?;
+    let response = answer_named_fetch(alloc, history, settings, request)?;
     let text = response_line(alloc, &response)?;
     Ok(Reply {
         text,
@@ -101,7 +102,7 @@ fn reply_with_matches(
 ) -> Result<Reply, OutOfMemory>
     ensures { IfOk result (λ reply. reply ≡ reply_with (matches_text history.now.versions settings.now request.now)) }
 {
-    let response = answer_find(alloc, history, settings, request)?;
+    let response = answer_named_find(alloc, history, settings, request)?;
     let text = matches_line(alloc, &response)?;
     Ok(Reply {
         text,

@@ -3,15 +3,18 @@ ghost use Rattle.std.specs.List.{Any};
 ghost use Rattle.sb_model.specs.Names.{same_name};
 ghost use Rattle.sb_model.specs.Target.{is_within};
 ghost use Rattle.sb_model.specs.History.{declares, History as Versions};
+ghost use Rattle.answering_lists.specs.Lists.{answering};
 ghost use Rattle.list_versions.specs.Limits.{WithinLimits};
-ghost use Rattle.update_messages.specs.Answer.{declared_items, fetch_answer, version_named};
+ghost use Rattle.update_messages.specs.Answer.{version_named};
 ghost use Rattle.update_messages.specs.Messages.{Request};
 ghost use Rattle.delta_server.specs.Tokens.{server_naming};
+ghost use Rattle.named_answers.specs.Answers.{asked_of_list, named_fetch_answer};
 ghost use Rattle.sb_service.specs.declared.wish.Wish.{Wish as ItemWish};
 ghost use Rattle.sb_service.specs.Kept.{are_whole, same_wishes};
-ghost use Rattle.sb_service.specs.Wish.{newest_size, is_free, is_whole, same_version, same_wish, wish_of, wished_answer, AreWishesOf};
+ghost use Rattle.sb_service.specs.Wish.{answered_items, newest_size, is_free, is_whole, same_version, same_wish, wish_of, wish_of_list, wished_answer, AreWishesOf};
 
 use crate::kept::Wishes;
+use answering_lists::answering_list;
 use delta_server::held_version;
 use list_versions::History;
 use sb_model::{ListName, OutOfMemory, Row};
@@ -24,8 +27,11 @@ const MOST_PREFIXES: u64 = 1_048_576;
 /// What an item of a request for updates comes to, if its limits surely do not bind.
 #[derive(Clone, Copy, Debug)]
 pub(crate) struct Wish {
+    /// The name for which it asks.
+    pub name: ListName,
+    /// The list that answers for that name.
     pub list: ListName,
-    /// The version that its state names, or none.
+    /// The version of that list that its state names, or none.
     pub held: Option<u64>,
     /// Whether it takes Rice coded sets.
     pub rice: bool,
@@ -53,7 +59,8 @@ fn is_same_version(first: Option<u64>, second: Option<u64>) -> bool
 fn is_same(first: Wish, second: Wish) -> bool
     ensures { result ≡ same_wish first second }
 {
-    is_same_list(first.list, second.list)
+    is_same_list(first.name, second.name)
+        && is_same_list(first.list, second.list)
         && is_same_version(first.held, second.held)
         && first.rice == second.rice
 }
@@ -85,21 +92,31 @@ fn is_within(limit: u32, count: u64) -> bool
     limit == 0 || count <= u64::from(limit)
 }
 
-/// The version that the state of an item names.
-fn held_by(history: &History, asked: &ListRequest) -> Option<u64>
-    ensures { result ≡ version_named history.now.versions (server_naming history.now.versions) asked.now.name asked.now.state }
+/// The version of a list that the state of an item names.
+fn held_by(history: &History, asked: &ListRequest, list: ListName) -> Option<u64>
+    ensures { result ≡ version_named history.now.versions (server_naming history.now.versions) list asked.now.state }
 {
     let state = asked.state.as_slice();
-    held_version(history.epoch(), history.len(), asked.name, state)
+    held_version(history.epoch(), history.len(), list, state)
 }
 
-/// Whether the limits of an item surely do not bind, of one who holds a version of its list or none. The newest set of the
-/// list has so many prefixes.
-fn is_free(history: &History, asked: &ListRequest, held: Option<u64>, size: u32) -> bool
-    requires { size ≡ newest_size history.now.versions asked.now.name }
-    ensures { result ≡ is_free history.now.versions asked.now held }
+/// How many prefixes the newest set of a declared list has.
+fn newest_size(history: &History, list: ListName) -> u32
+    requires { declares history.now.versions list ≡ true }
+    ensures { result ≡ newest_size history.now.versions list }
 {
-    let newest = u64::from(size);
+    match history.newest(list) {
+        Some(newest) => newest.set.len(),
+        None => unreachable!(),
+    }
+}
+
+/// Whether the limits of an item surely do not bind, of one who holds a version of a declared list or none.
+fn is_free(history: &History, asked: &ListRequest, list: ListName, held: Option<u64>) -> bool
+    requires { declares history.now.versions list ≡ true }
+    ensures { result ≡ is_free history.now.versions (asked_of_list list asked.now) held }
+{
+    let newest = u64::from(newest_size(history, list));
     match held {
         None => is_within(asked.max_update, newest) && is_within(asked.max_database, newest),
         Some(held) => {
@@ -110,25 +127,24 @@ fn is_free(history: &History, asked: &ListRequest, held: Option<u64>, size: u32)
     }
 }
 
-/// What an item wishes whose list is declared. `None` exactly if a limit may bind. The newest set of the list has so many
-/// prefixes.
-fn wish_of(history: &History, asked: &ListRequest, size: u32) -> Option<Wish>
-    requires declared { declares history.now.versions asked.now.name ≡ true }
-    requires size { size ≡ newest_size history.now.versions asked.now.name }
-    ensures { result ≡ wish_of history.now.versions asked.now }
+/// What an item wishes of a declared list that answers for it. `None` exactly if a limit may bind.
+fn wish_of_list(history: &History, asked: &ListRequest, list: ListName) -> Option<Wish>
+    requires { declares history.now.versions list ≡ true }
+    ensures { result ≡ wish_of_list history.now.versions asked.now list }
 {
-    let held = held_by(history, asked);
-    if !is_free(history, asked, held, size) {
+    let held = held_by(history, asked, list);
+    if !is_free(history, asked, list, held) {
         return None;
     }
     Some(Wish {
-        list: asked.name,
+        name: asked.name,
+        list,
         held,
         rice: asked.rice,
     })
 }
 
-/// What those items of a request wish whose lists are declared, in order. `None` exactly if one of them has no wish.
+/// What those items of a request wish for which a list answers, in order. `None` exactly if one of them has no wish.
 pub(crate) fn wishes_of(
     alloc: Global,
     history: &History,
@@ -136,14 +152,14 @@ pub(crate) fn wishes_of(
 ) -> Result<Option<Wishes>, OutOfMemory>
     ensures wishes { IfOk result (λ found. IfSome found (AreWishesOf history.now.versions items.now)) }
     ensures none { IfOk result (λ found. IfNone found (Any (λ asked. wish_of history.now.versions asked ≡ None)
-        (declared_items history.now.versions items.now))) }
+        (answered_items history.now.versions items.now))) }
 {
     let mut wishes = Row::with_capacity(alloc, items.len())?;
     for asked in items {
-        let Some(newest) = history.newest(asked.name) else {
+        let Some(list) = answering_list(history, asked.name) else {
             continue;
         };
-        match wish_of(history, asked, newest.set.len()) {
+        match wish_of_list(history, asked, list) {
             Some(wish) => wishes.push(wish)?,
             None => return Ok(None),
         }
@@ -151,11 +167,11 @@ pub(crate) fn wishes_of(
     Ok(Some(Wishes(wishes)))
 }
 
-/// Two requests to one history whose declared items wish the same have one answer, and it is the answer to what they wish.
+/// Two requests to one history whose answered items wish the same have one answer, and it is the answer to what they wish.
 pub fn wishes_have_one_answer()
     ensures answered { (history : Versions) (wait : ℕ) (request : Request) (wishes : List ItemWish) → WithinLimits history → AreWishesOf history request.items wishes
-        → fetch_answer history (server_naming history) wait request ≡ wished_answer history wait wishes }
+        → named_fetch_answer history (server_naming history) wait request ≡ wished_answer history wait wishes }
     ensures one { (history : Versions) (wait : ℕ) (first second : Request) (wishes : List ItemWish) → WithinLimits history
         → AreWishesOf history first.items wishes → AreWishesOf history second.items wishes
-        → fetch_answer history (server_naming history) wait first ≡ fetch_answer history (server_naming history) wait second }
+        → named_fetch_answer history (server_naming history) wait first ≡ named_fetch_answer history (server_naming history) wait second }
 {}
