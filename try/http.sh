@@ -242,8 +242,9 @@ grep -q minimumWaitDuration "$folder/body" && fail "a find of GNOME Web: its ans
 ended
 cp "$kept" "$folder/journal"
 serve_finds 2
-expect "a fetch of GNOME Web from a server of other lists" 200 --data "$(gnome_fetch)" "$url"
-[ "$(< "$folder/body")" = '{"minimumWaitDuration":"1800s"}' ] || fail "a fetch for other lists: its body is $(< "$folder/body")"
+expect "a fetch of GNOME Web from a server of a list for any platform" 200 --data "$(gnome_fetch)" "$url"
+[[ "$(< "$folder/body")" == *'"newClientState":"AQAAAAAAAAABAAAAAAAAAAIBBgE=","platformType":"LINUX"'*'"minimumWaitDuration":"1800s"}' ]] \
+    || fail "a fetch for LINUX: its body is $(< "$folder/body")"
 expect "a find of GNOME Web with no state" 200 --data "$(gnome_find)" "$finds"
 ended
 
