@@ -1,0 +1,3 @@
+mod MadeRounds
+mod Ways
+mod ItsPlaces
