@@ -26,6 +26,7 @@ from compare import STORED_CASES
 from messages import ENTRIES, PLATFORMS, THREATS
 
 PER_RUN = 50
+AT_ONCE = 200
 PATHS = {kind: path for path, (_, kind) in serving.PATHS.items()}
 USAGES = {"sbupdate": "sbupdate", "sbcheck": "sbcheck", "sblistd": "the-server", "sbjournal": "sbjournal"}
 WORDS = [
@@ -267,9 +268,9 @@ def shrunk(fields):
     return fields
 
 
-def compare(rand, kind, count):
-    """Runs so many cases of a kind: how many differ."""
-    made, said, statuses = {}, {}, {}
+def compare_some(rand, kind, count, statuses):
+    """Runs so many cases of a kind at once: how many differ."""
+    made, said = {}, {}
     while len(said) < count:
         fields = KINDS[kind](rand)
         lines = spelled(len(said), fields)
@@ -278,12 +279,21 @@ def compare(rand, kind, count):
             statuses[lines[1]] = statuses.get(lines[1], 0) + 1
             said[len(said)] = lines[0]
     wrong, told = differing(said)
+    if len(wrong) == count > 1:
+        raise SystemExit(f"noise: the {kind} were not told one by one: {told[:2_000]!r}")
     if wrong:
         fields = shrunk(made[wrong[0]])
         print("\n".join([f"{len(wrong)} of the {kind} differ", told[:2_000], *(spelled(wrong[0], fields)[0])]))
-    ended = ", ".join(f"{number:,} with status {status}" for status, number in sorted(statuses.items()))
-    print(f"{count:,} {kind}: {ended}")
     return len(wrong)
+
+
+def compare(rand, kind, count):
+    """Runs so many cases of a kind, some at once, since a text of cases has a limit: how many differ."""
+    statuses = {}
+    wrong = sum(compare_some(rand, kind, min(AT_ONCE, count - at), statuses) for at in range(0, count, AT_ONCE))
+    ended = ", ".join(f"{number:,} with status {status}" for status, number in sorted(statuses.items()))
+    print(f"{count:,} {kind}: {ended}", flush=True)
+    return wrong
 
 
 def main():
