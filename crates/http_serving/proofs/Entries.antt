@@ -14,7 +14,7 @@ use Rattle.http_edge.specs.declared.messages.HttpRequest.{HttpRequest}
 use Rattle.http_edge.specs.declared.messages.Status.{Status}
 use Rattle.http_serving.specs.Hearing.{Hears, IsHeard}
 use Rattle.http_serving.specs.Returning.{IsFresh, IsReturned}
-use Rattle.http_serving.specs.Serving.{unavailable_text, HasWritten, IsComplete, IsServed, IsConnectionUntouched, IsWholeOrFault, Serves}
+use Rattle.http_serving.specs.Serving.{unavailable_text, HasWritten, IsComplete, IsServed, IsConnectionUntouched, IsUnavailable, IsWholeOrFault, Serves}
 use Rattle.http_serving.specs.declared.ends.ConnectionEnd.{ConnectionEnd}
 use Rattle.http_serving.specs.declared.ends.ConnectionEnd.TheVariants as end
 
@@ -204,6 +204,32 @@ entry_answered Right received how entry pieces start start' left left' contents 
       λ e. subst (λ (k : ℕ). 0 < k) (sym read_kept) (heard.read_fault.1 (faults.0 e)),
     )
     write_failed write_kept unavailable is
+
+-- where memory was refused no answer has to be given
+complete_of_refusal : (Right : HttpRequest → Status → ResponseFields → (body cause : List ℕ) → Type 0) (first : Option (List (List ℕ))) (before after : Option (List ℕ))
+    → IfSome first (λ given. IsComplete Right given end.OutOfMemory before after)
+complete_of_refusal Right None before after = tt
+complete_of_refusal Right (Some given) before after = λ status fields body cause good. tt
+
+-- of one that was heard before, and for which memory was refused
+pub entry_refused : (Right : HttpRequest → Status → ResponseFields → (body cause : List ℕ) → Type 0) (received : Result HttpRequest RequestFault) (entry : Connection) (pieces : List (List ℕ))
+    → (start start' left left' : Option (List (List ℕ))) (contents contents' : Option (List ℕ)) (reads reads' writes writes' : ℕ)
+    → received ≢ Err fault.ReadFault → IsHeard received pieces start left contents reads writes → IsUnavailable contents contents'
+    → start' ≡ start → left' ≡ left → reads' ≡ reads → IsWholeOrFault unavailable_text contents contents' writes writes'
+    → IsEntryOf entry start' left' contents' reads' writes' → IsServed Right end.OutOfMemory pieces entry
+entry_refused Right received entry pieces start start' left left' contents contents' reads reads' writes writes' was_read heard unavailable same unread read_kept whole is =
+    entry_answered Right received end.OutOfMemory entry pieces start start' left left' contents contents' reads reads' writes writes' heard
+    (λ first hears. record {
+      bytes = hears.bytes;
+      ended = hears.ended;
+      received = received;
+      gives = subst (Gives hears.bytes hears.ended first) (sym unread) hears.gives;
+      outcome = hears.outcome;
+      prompt = hears.prompt;
+      written = unavailable;
+    })
+    (λ first hears. complete_of_refusal Right first contents contents')
+    same unread read_kept (λ e. absurd (cc), λ e. absurd (was_read e)) (λ e. absurd (cc)) (λ written other. absurd (other refl)) (λ e. whole) is
 
 -- a wire that was heard, by what it was before
 pub wire_heard : (received : Result HttpRequest RequestFault) (pieces : List (List ℕ)) (start start' left left' : Option (List (List ℕ))) (contents contents' : Option (List ℕ)) (reads reads' writes writes' : ℕ)

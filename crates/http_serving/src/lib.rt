@@ -23,7 +23,8 @@ pub use queries::query_value;
 pub use responses::{Answer, Response, SharedResponse, WrittenResponse, bare, write_out};
 pub use routes::{Route, Routed, find_route};
 pub use serving::{
-    Answers, answer_request, answer_wire, give_back, hear_request, serve_connection, serve_wire,
+    Answers, answer_request, answer_wire, give_back, hear_request, refuse_wire, serve_connection,
+    serve_wire,
 };
 
 mod ends;

@@ -1,4 +1,4 @@
-ghost use Rattle.std.specs.Prelude.{◌≡◌, ◌≢◌, ◌↔◌, ◌≤◌, ℕ, List, Option, Err, IfOk, IfErr, IfSome, IsErrOf};
+ghost use Rattle.std.specs.Prelude.{◌≡◌, ◌≢◌, ◌↔◌, ◌≤◌, ℕ, List, Option, Result, Err, IfOk, IfErr, IfSome, IsErrOf};
 ghost use Rattle.sb_outside.specs.Outside.{Rose};
 ghost use Rattle.http_edge.specs.declared.messages.HttpRequest.{HttpRequest};
 ghost use Rattle.http_edge.specs.declared.messages.ResponseFields.{ResponseFields};
@@ -313,6 +313,23 @@ pub fn answer_wire<A: Answers, D: Door>(
     let end = answer_request(alloc, answers, &mut wire, received);
     door.done(wire);
     end
+}
+
+/// Answers a connection that a door handed out and that was heard as one for which memory was refused: with the status 503 and no
+/// body, of which a front may be written as with any other, and gives it back. This takes no memory. Others may have been taken and
+/// given back since it was heard.
+pub fn refuse_wire<A: Answers, D: Door>(answers: &A, door: &mut D, wire: D::Wire)
+    // The log's entry of this connection says that memory was refused, and each other entry is as it was.
+    ensures refused { (received : Result HttpRequest RequestFault) (pieces : List (List ℕ)) → received ≢ Err RequestFault.ReadFault
+        → IsHeard received pieces (D.Wire.start wire) (D.Wire.left wire) (D.Wire.contents wire) (D.Wire.Source.faults wire) (D.Wire.Sink.faults wire)
+        → IsReturned (IsServed (RoutedAnswer A.routes (A.right answers.now answers.now)) ConnectionEnd.OutOfMemory pieces) (D.Wire.number wire)
+        (D.log door.old) (D.log door.new) }
+    ensures kept { D.faults door.new ≡ D.faults door.old }
+    ensures coming { D.coming door.new ≡ D.coming door.old }
+{
+    let mut wire = wire;
+    send_unavailable(&mut wire);
+    door.done(wire);
 }
 
 /// Gives back a connection as the door handed it out: nothing is read of it, and nothing is written to it.
