@@ -1,10 +1,8 @@
 ghost use Rattle.std.specs.Prelude.{◌≡◌, ◌≤◌, Bool, List, [], Some, None, is_some, IfOk, IfSome, OnErr, OnOk};
-ghost use Rattle.client_line.specs.Lines.{LineView, ReadsClock};
-ghost use Rattle.find_sessions.specs.Asking.{StopsAsking};
-ghost use Rattle.find_sessions.specs.Passing.{PassedInTurn, passed_body};
+ghost use Rattle.client_line.specs.Lines.{LineView};
 ghost use Rattle.http_edge.specs.Exchanges.{IsTarget};
 ghost use Rattle.http_edge.specs.declared.messages.Target.{Target as Asked};
-ghost use Rattle.mirror_finds.specs.Finds.{finds_start, EndsFind, FindsStart, HasFindOpen, HasPassedFinds};
+ghost use Rattle.mirror_finds.specs.Finds.{finds_start, EndsFind, FindInTurn, FindsStart, HasFindOpen, HasPassedFinds, StopsFind};
 ghost use Rattle.wait_rules.specs.Waits.{may_send_at};
 
 use client_line::Line;
@@ -78,7 +76,7 @@ impl MirrorFinds {
 
     /// Begins to pass a find on: the clock is read, and the request is sent as it was asked, but with these states, in a session that begins
     /// when it may and stays open ("Request Frequency" of the Safe Browsing Update API, version 4). The line waits for the allowed moment if it
-    /// did not come yet. If memory is refused, no session is open.
+    /// did not come yet. If memory is refused, no session is open, the find is stopped, and a further one may be begun.
     pub fn begin<N: Line>(
         &mut self,
         alloc: Global,
@@ -91,13 +89,16 @@ impl MirrorFinds {
         requires target { IsTarget target.now }
 
         // After some finds a further one is open, which asks this.
-        ensures begun { (need : Bool) (start : FindsStart) (finds : List PassedInTurn)
+        ensures begun { (need : Bool) (start : FindsStart) (finds : List FindInTurn)
             → HasPassedFinds target.now need start finds self.old (N.view line.old)
             → OnOk result (HasPassedFinds target.now need start finds self.new (N.view line.new)) }
         ensures opened { OnOk result (HasFindOpen target.now self.new (N.view line.new)) }
         ensures asks { OnOk result (IfSome self.new.opened (λ find. (find.asked ≡ asked) × (find.states ≡ states))) }
-        ensures broken_off { OnErr result ((between : LineView) × (now : Moment) × ReadsClock now (N.view line.old) between
-            × StopsAsking self.old.waits now target.now (passed_body states asked) between.told (N.view line.new).told) }
+
+        // If memory was refused, it is one more that was stopped.
+        ensures broken_off { (need : Bool) (start : FindsStart) (finds : List FindInTurn)
+            → HasPassedFinds target.now need start finds self.old (N.view line.old)
+            → OnErr result ((now : Moment) × StopsFind target.now need start finds self.new (N.view line.new) states asked now) }
         ensures waits { self.new.waits ≡ self.old.waits }
         ensures kept { OnErr result (self.new ≡ self.old) }
 
@@ -107,6 +108,7 @@ impl MirrorFinds {
         // The line's objects are the same.
         ensures same { (N.view line.new).objects ≡ (N.view line.old).objects }
     {
+        traces_go_on();
         let now = line.now();
         let opening = begin_passed(alloc, now, &asked, &states, self.waits, target, line)?;
         self.opened = Some(OpenFind {
@@ -119,7 +121,7 @@ impl MirrorFinds {
     }
 
     /// Ends the find that is open, and gives what came. Since it was begun nothing of the line may have been used. If memory is refused, the
-    /// session was closed, and the state of waiting is as before.
+    /// find is stopped: its session was closed, the state of waiting is as before, and a further find may be begun.
     pub fn end<N: Line>(
         &mut self,
         alloc: Global,
@@ -130,12 +132,16 @@ impl MirrorFinds {
         requires session { HasFindOpen target.now self.old (N.view line.old) }
 
         // It is one more of the finds that were passed on.
-        ensures ended { (start : FindsStart) (finds : List PassedInTurn)
+        ensures ended { (start : FindsStart) (finds : List FindInTurn)
             → HasPassedFinds target.now need_digest start finds self.old (N.view line.old)
             → IfOk result (λ ended. IfSome self.old.opened (λ find.
             EndsFind target.now need_digest start finds self.new (N.view line.new) find ended)) }
-        ensures stopped { OnErr result (IfSome self.old.opened (λ find. (start : LineView) × (between : LineView) × ReadsClock find.now start between
-            × StopsAsking self.old.waits find.now target.now (passed_body find.states find.asked) between.told (N.view line.new).told)) }
+
+        // If memory was refused, it is one more that was stopped.
+        ensures stopped { (start : FindsStart) (finds : List FindInTurn)
+            → HasPassedFinds target.now need_digest start finds self.old (N.view line.old)
+            → OnErr result (IfSome self.old.opened (λ find.
+            StopsFind target.now need_digest start finds self.new (N.view line.new) find.states find.asked find.now)) }
         ensures closed { self.new.opened ≡ None }
         ensures waits_kept { OnErr result (self.new.waits ≡ self.old.waits) }
         ensures counted { (N.view line.old).told.faults ≤ (N.view line.new).told.faults }

@@ -1,6 +1,6 @@
 use Rattle.std.proofs.Common.{◌≡◌, Some, ap, sym, subst, ◌∙◌}
-use Rattle.mirror_finds.specs.Finds.{FindsSeen, HasFindOpen, HasPassedFinds}
-use Rattle.mirror_finds.proofs.PassedOn.{begun_since, has_ended, has_stopped}
+use Rattle.mirror_finds.specs.Finds.{FindsSeen, HasPassedFinds}
+use Rattle.mirror_finds.proofs.PassedOn.{has_ended, has_stopped}
 use Rattle.mirror_finds.proofs.finds.MirrorFinds.end.Goals as goal
 
 pub returns-in-Ok-clause-ended : goal.returns-in-Ok-clause-ended
@@ -14,12 +14,11 @@ returns-in-Ok-clause-ended g c start finds has =
     (λ before opened. c.in-Ok.ensures.passes c.in-Some.find.states c.args.target.now c.in-Some.find.now c.in-Some.find.asked before opened))
 
 pub returns-clause-stopped : goal.returns-clause-stopped
-returns-clause-stopped g c =
+returns-clause-stopped g c start finds has =
     let now : FindsSeen = record { waits = c.self.inside.waits; opened = c.self.inside.opened } in
     let inside : now.opened ≡ Some c.in-Some.find = sym c.take.ensures.value ∙ c.in-Some.is in
     let is : c.args.self.now.opened ≡ Some c.in-Some.find = ap (λ (s : FindsSeen). s.opened) (sym c.self.view_is) ∙ inside in
-    let session : HasFindOpen c.args.target.now now (g.N.Line.view c.args.line.now) = subst (λ (s : FindsSeen). HasFindOpen c.args.target.now s (g.N.Line.view c.args.line.now)) (sym c.self.view_is) c.requires.session in
-    let same : c.self.inside.waits ≡ c.args.self.now.waits = ap (λ (s : FindsSeen). s.waits) c.self.view_is in
-    rw (is, sym same) (has_stopped c.args.target.now now (g.N.Line.view c.args.line.now) (g.N.Line.view c.end_passed.new.line).told c.in-Some.find
-    (begun_since c.args.target.now now (g.N.Line.view c.args.line.now) c.in-Some.find inside session)
+    rw (is, c.take.ensures.after, c.in-Err.ensures.waits_kept) (has_stopped c.traces_go_on.ensures.one_more c.args.target.now c.args.need_digest start finds now (g.N.Line.view c.args.line.now) (g.N.Line.view c.end_passed.new.line)
+    c.in-Some.find inside
+    (subst (λ (s : FindsSeen). HasPassedFinds c.args.target.now c.args.need_digest start finds s (g.N.Line.view c.args.line.now)) (sym c.self.view_is) has)
     (λ before opened. c.in-Err.ensures.stopped c.in-Some.find.states c.args.target.now c.in-Some.find.now c.in-Some.find.asked before opened))
