@@ -13,7 +13,7 @@ use Rattle.sb_model.specs.Names.{same_name, name_cmp}
 use Rattle.prefix_set.specs.Limits.{IsPrefixSet}
 use Rattle.update_messages.specs.Answer.{difference_update, whole_update}
 use Rattle.update_messages.specs.Messages.{AskedList, UpdatedList}
-use Rattle.update_client.specs.Held.{AreHeldLists, Held}
+use Rattle.update_client.specs.Held.{AreHeldLists, Held, has_token}
 use Rattle.update_client.specs.declared.fault.UpdateFault.{UpdateFault}
 use Rattle.update_client.specs.declared.fault.UpdateFault.TheVariants.{StaleBase}
 use Rattle.update_client.specs.Step.{after_update, after_updates, change_fault, fault_if, first_fault, held_after, is_installed, list_named, list_step, meaning_of, result_after, result_among, result_at, stale_fault, ◌or◌}
@@ -40,9 +40,9 @@ list_there mirror place name own is = go (lists_at_place mirror place) refl is
     go None e h = absurd (cc)
     go (Some lists) e h = record { lists = lists; there = e; named = h }
 
-served_own : (o : Option Held) → is_held o ≡ true → (own : Held) × (o ≡ Some own)
+served_own : (o : Option Held) → is_held o ≡ true → (own : Held) × (o ≡ Some own) × (has_token own ≡ true)
 served_own None h = absurd (cc)
-served_own (Some own) h = (own, refl)
+served_own (Some own) h = (own, refl, h)
 
 -- ---- what a fault leaves
 
@@ -117,10 +117,10 @@ module _ (by_codes : NamesGoByCodes) (leads : UpdatesLead) (epoch : ℕ) (names 
         kept place at.lists (place_there place at.lists at.there) own (found_by (λ (held : Held). same_name held.name name) at.lists own at.named).0
 
     -- the list after an update that led to the newest place
-    at_newest : (held after : Held) (name : ListName) (own : Held) → IsListAt mirror (newest_place mirror) name own → mirror.epoch ≡ epoch → held.name ≡ name
+    at_newest : (held after : Held) (name : ListName) (own : Held) → IsListAt mirror (newest_place mirror) name own → has_token own ≡ true → mirror.epoch ≡ epoch → held.name ≡ name
         → after ≡ record { name = held.name; token = mirror_token mirror.epoch name (newest_place mirror); set = own.set; resync = false }
         → IsAtPlace epoch places after
-    at_newest held after name own at same is made = subst (IsAtPlace epoch places) (sym made) (record {
+    at_newest held after name own at fetched same is made = subst (IsAtPlace epoch places) (sym made) (record {
       place = newest_place mirror;
       lists = at.lists;
       there = place_there (newest_place mirror) at.lists at.there;
@@ -128,6 +128,7 @@ module _ (by_codes : NamesGoByCodes) (leads : UpdatesLead) (epoch : ℕ) (names 
       named = ap (λ (n : ListName). list_named n at.lists) is ∙ at.named;
       token = ap (λ e. mirror_token e name (newest_place mirror)) same ∙ ap (λ (n : ListName). mirror_token epoch n (newest_place mirror)) (sym is);
       set = refl;
+      fetched = fetched;
     })
 
   -- the update is the whole of the newest set
@@ -144,7 +145,7 @@ module _ (by_codes : NamesGoByCodes) (leads : UpdatesLead) (epoch : ℕ) (names 
       let at : IsListAt mirror (newest_place mirror) asked.name own = list_there mirror (newest_place mirror) asked.name own found.1 in
       let made : update ≡ whole_update asked own.set token = is ∙ ap (λ (o : Option Held). whole_update asked (set_in o) token) found.1 in
       let named : held.name ≡ asked.name = same ∙ ap (λ (u : UpdatedList). u.name) made in
-      at_newest mirror item.count item.stands held (list_step held update) asked.name own at item.own named
+      at_newest mirror item.count item.stands held (list_step held update) asked.name own at found.2 item.own named
       (ap (list_step held) made ∙ (leads.whole asked own.set token held (set_sent mirror item.count item.stands (newest_place mirror) asked.name own at) named).1)
 
   -- the update leads from the set of a kept place
@@ -187,7 +188,7 @@ module _ (by_codes : NamesGoByCodes) (leads : UpdatesLead) (epoch : ℕ) (names 
       ap (list_in asked.name) kept_there ∙ ap (λ (n : ListName). list_named n held_at.lists) (sym named) ∙ held_at.named in
       let old_sent : IsSentSet old = subst IsSentSet (sym (ap set_in old_is))
       (set_sent mirror item.count item.stands place asked.name held_at.own (list_there mirror place asked.name held_at.own old_is)) in
-      at_newest mirror item.count item.stands held (list_step held update) asked.name own at item.own named
+      at_newest mirror item.count item.stands held (list_step held update) asked.name own at found.2 item.own named
       (ap (list_step held) made ∙ (leads.difference asked size old own.set token held old_sent
       (set_sent mirror item.count item.stands (newest_place mirror) asked.name own at) named (sym base) (held_at.set ∙ sym (ap set_in old_is))).1)
 
@@ -208,7 +209,7 @@ module _ (by_codes : NamesGoByCodes) (leads : UpdatesLead) (epoch : ℕ) (names 
       → (let after : Held = record { name = held.name; token = held.token; set = held.set; resync = mark } in IsMirrorReplica epoch places after)
   marked held mark replica = elim replica [
     | inl empty ↦ inl (record { token = empty.token; set = empty.set })
-    | inr at ↦ inr (record { place = at.place; lists = at.lists; there = at.there; own = at.own; named = at.named; token = at.token; set = at.set })
+    | inr at ↦ inr (record { place = at.place; lists = at.lists; there = at.there; own = at.own; named = at.named; token = at.token; set = at.set; fetched = at.fetched })
   ]
 
   module _ (lists : List Held) (update : UpdatedList) (held_lists : AreHeldLists lists) (item : is_installed (result_among lists update) ≡ true → IsMirrorItem epoch places update) where

@@ -1,6 +1,6 @@
 -- What it takes that a client's lists are those of a mirror.
 use Rattle.std.specs.Prelude.{◌≡◌, ◌≤◌, ◌<◌, ◌⊎◌, ◌^◌, ℕ, true, List, [], ◌∷◌, length, take, All, Some, slice_get, IsTrue, ⊤}
-use Rattle.update_client.specs.Held.{AreHeldLists, Held}
+use Rattle.update_client.specs.Held.{AreHeldLists, Held, has_token}
 use Rattle.update_client.specs.Replica.{IsEmptyList}
 use Rattle.update_client.specs.Step.{after_update, after_updates, is_installed, list_named, result_among}
 use Rattle.update_messages.specs.Messages.{AskedList, Request, UpdatedList}
@@ -8,7 +8,7 @@ use Rattle.mirror_places.specs.Answer.{is_served, mirror_answer, mirror_update}
 use Rattle.mirror_places.specs.Places.{Places, StandsForPlaces}
 use Rattle.mirror_places.specs.Tokens.{mirror_token}
 
--- A held list is the mirror's at the place that its token names.
+-- A held list is the mirror's at the place that its token names. The mirror had fetched it by then: it held it under a token of its own server.
 pub record IsAtPlace (epoch : ℕ) (places : List (List Held)) (held : Held) : Type 0 where
   pub place : ℕ
   pub lists : List Held
@@ -17,6 +17,7 @@ pub record IsAtPlace (epoch : ℕ) (places : List (List Held)) (held : Held) : T
   pub named : list_named held.name lists ≡ Some own
   pub token : held.token ≡ mirror_token epoch held.name place
   pub set : held.set ≡ own.set
+  pub fetched : IsTrue (has_token own)
 
 -- without a token it is empty
 abbrev pub IsMirrorReplica : ℕ → List (List Held) → Held → Type 0
