@@ -1,0 +1,4 @@
+pub mod Mirrors
+pub mod Strangers
+pub mod Chains
+pub mod Example
