@@ -8,6 +8,7 @@ pub mod MarkFacts
 pub mod Membership
 pub mod PassageFacts
 pub mod QuadFacts
+pub mod RepeatFacts
 pub mod SameFacts
 pub mod SetCounts
 pub mod ShownFacts

@@ -10,6 +10,7 @@ ghost use Rattle.delta_server.specs.Tokens.{server_naming, server_token};
 
 use crate::answering::is_declared;
 use crate::passages::{Lead, kept_delta, kept_lead, kept_set};
+use crate::repeats::repeated_update;
 use crate::served::{Served, served_list, set_at};
 use crate::swept::Swept;
 use crate::targets::{Limits, newest_delta, older_target, whole_target};
@@ -309,7 +310,31 @@ fn answer_item(
     }
 }
 
-/// The updates of those asked lists that are declared, in their order. A list is swept at most once.
+// The update of a further item, whose list is declared: that of an earlier item once more, if it asked for the same.
+fn next_answer(
+    alloc: Global,
+    history: &History,
+    swept: &mut Swept,
+    updates: &[ListUpdate],
+    before: &[ListRequest],
+    asked: &ListRequest,
+) -> Result<ListUpdate, OutOfMemory>
+    requires declared { declares history.now.versions asked.now.name ≡ true }
+    requires swept { AreOf history.now.versions swept.old }
+    requires updates { updates.now ≡ map (update_for history.now.versions (server_naming history.now.versions))
+        (declared_items history.now.versions before.now) }
+    ensures update { IfOk result (λ update. update
+        ≡ update_for history.now.versions (server_naming history.now.versions) asked.now) }
+    ensures swept { OnOk result (AreOf history.now.versions swept.new) }
+{
+    if let Some(update) = repeated_update(alloc, history, updates, before, asked)? {
+        return Ok(update);
+    }
+    answer_item(alloc, history, swept, asked)
+}
+
+/// The updates of those asked lists that are declared, in their order. A list is swept at most once, and what two items ask for
+/// alike is made once.
 pub(crate) fn answer_items(
     alloc: Global,
     history: &History,
@@ -320,11 +345,13 @@ pub(crate) fn answer_items(
 {
     let mut updates = Row::with_capacity(alloc, items.len())?;
     let mut swept = Swept::new(alloc);
-    for asked in items {
+    for (i, asked) in items.iter().enumerate() {
         if !is_declared(history, asked.name) {
             continue;
         }
-        updates.push(answer_item(alloc, history, &mut swept, asked)?)?;
+        let made = updates.as_slice();
+        let update = next_answer(alloc, history, &mut swept, made, &items[..i], asked)?;
+        updates.push(update)?;
     }
     Ok(updates)
 }

@@ -19,6 +19,7 @@ pub use walk::{changes_taken, target_of};
 
 mod answering;
 mod asked;
+mod copies;
 mod covered;
 mod finding;
 mod hashes;
@@ -29,6 +30,7 @@ mod marks;
 mod names;
 mod naming;
 mod passages;
+mod repeats;
 mod served;
 mod sweeping;
 mod swept;

@@ -93,8 +93,8 @@ pub fn read_state(epoch: u64, len: u64, state: &[u8]) -> Option<(ListName, u64)>
     Some((list, version))
 }
 
-// Whether two names are one.
-fn is_same(a: ListName, b: ListName) -> bool
+/// Whether two names are one.
+pub(crate) fn is_same(a: ListName, b: ListName) -> bool
     ensures { IsTrue result ↔ (a ≡ b) }
 {
     names_go_by_their_codes();
