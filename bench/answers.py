@@ -622,6 +622,8 @@ def tell_dearest(journal, sizes):
     tell_dear(journal, "the same, update limit 1,000", eight(newest - 8, update=1_000))
     tell_dear(journal, f"eight items, the middle, update limit {half:,}", eight(middle, update=half))
     tell_dear(journal, f"eight items, nothing held, database limit {most:,}", eight(database=most))
+    apart = [most - most // 512 * place for place in range(MOST_ITEMS)]
+    tell_dear(journal, f"the same, eight database limits from {apart[-1]:,}", fetch(*(Item(None, database=limit) for limit in apart)))
 
 
 def tell_dearest_turned(journal, sizes):
