@@ -12,7 +12,7 @@ use std::thread::{self, Threads};
 use std::time::{Duration, Instant};
 
 /// How soon one who waits comes back, in milliseconds.
-const SOON: u64 = 50;
+const SOON: u64 = 1_000;
 
 fn is_soon(passed: Duration) -> bool {
     passed <= Duration::from_millis(SOON)

@@ -7,7 +7,7 @@ use std::io;
 use std::time::{Duration, Instant};
 
 /// How long a call may take that waits for nothing, in milliseconds.
-const QUICK: u64 = 50;
+const QUICK: u64 = 150;
 
 /// The calls of a link.
 #[derive(Clone, Copy)]
