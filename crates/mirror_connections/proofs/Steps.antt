@@ -1,6 +1,6 @@
 -- The connections of a mirror after a step.
-use Rattle.std.proofs.Common.{◌≡◌, ℕ, ◌+◌, List, [], ◌∷◌, ◌++◌, length, map, refl, sym, ap, ◌∙◌, subst, Option, Some, None, inl, inr, arith, append_assoc}
-use Rattle.std.specs.Prelude.{◌⊎◌, All, IfSome, option_map, slice_get, Result, Ok}
+use Rattle.std.proofs.Common.{◌≡◌, ℕ, ◌+◌, ◌<◌, List, [], ◌∷◌, ◌++◌, length, map, refl, sym, ap, ◌∙◌, subst, Option, Some, None, inl, inr, arith, append_assoc}
+use Rattle.std.specs.Prelude.{slice_index_or, ◌⊎◌, All, IfSome, option_map, slice_get, Result, Ok}
 use Rattle.std.specs.Option.{option_to_list}
 use Rattle.std.proofs.lemmas.List.{append-nil, length-append, map-append}
 use Rattle.std.proofs.lemmas.List.Elements.{All-head, All-nil, All-push, All-tail, All-weaker}
@@ -182,6 +182,11 @@ same_seen a b taken begun waiting =
     ap (λ (n : ℕ). let s : ConnectionsSeen = record { taken = n; begun = a.begun; waiting = a.waiting } in s) taken
     ∙ ap (λ (f : Option FindSeen). let s : ConnectionsSeen = record { taken = b.taken; begun = f; waiting = a.waiting } in s) begun
     ∙ ap (λ (ws : List WaitingSeen). let s : ConnectionsSeen = record { taken = b.taken; begun = b.begun; waiting = ws } in s) waiting
+
+-- the one at the front
+pub front_waits : {X Y : Type 0} (items : List X) (x : X) (f : X → Y) → 0 < length items → x ≡ slice_index_or items 0 x → (rest : List Y) × (map f items ≡ f x ∷ rest)
+front_waits [] x f some is = absurd (omega (arith, some))
+front_waits (first ∷ items) x f some is = (map f items, ap (λ y. f y ∷ map f items) (sym is))
 
 pub begins_first : (before after : ConnectionsSeen) (first : WaitingSeen) (rest : List WaitingSeen) → before.waiting ≡ first ∷ rest → after.taken ≡ before.taken
     → after.begun ≡ Some first.find → after.waiting ≡ rest → BeginsFirst first.asked before after

@@ -49,6 +49,14 @@ pub record BeginsFirst (asked : AskedHashes) (before after : ConnectionsSeen) : 
   pub asks : asked ≡ first.asked
   pub left : after ≡ record { taken = before.taken; begun = Some first.find; waiting = rest }
 
+-- The find that waited longest is taken from those that wait: its connection has this number, and those behind it go on waiting.
+pub record TakesFirstWaiting (number : ℕ) (before after : ConnectionsSeen) : Type 0 where
+  pub first : WaitingSeen
+  pub rest : List WaitingSeen
+  pub waited : before.waiting ≡ first ∷ rest
+  pub numbered : number ≡ first.find.number
+  pub left : after ≡ record before { waiting = rest }
+
 -- A door gave a connection that had these pieces to give, as this wire, with which nothing was done yet.
 pub record GivesWire (pieces : List (List ℕ)) (before door : DoorSeen) (wire : WireSeen) : Type 0 where
   pub came : before.coming ≡ option_map (λ later. pieces ∷ later) door.coming

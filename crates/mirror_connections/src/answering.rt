@@ -1,7 +1,7 @@
-ghost use Rattle.std.specs.Prelude.{◌≡◌, ◌∷◌, [], ℕ, List, None, IfNone, IfSome, IsSome};
+ghost use Rattle.std.specs.Prelude.{◌≡◌, [], ℕ, List, None, IfNone, IfSome, IsSome};
 ghost use Rattle.http_serving.specs.declared.ends.ConnectionEnd.{ConnectionEnd as End};
-ghost use Rattle.mirror_connections.specs.Answered.{AnswersOne};
-ghost use Rattle.mirror_connections.specs.Open.{FindSeen, HasConnections, WaitingSeen};
+ghost use Rattle.mirror_connections.specs.Answered.{AnswersOne, TakesFirstWaiting};
+ghost use Rattle.mirror_connections.specs.Open.{HasConnections};
 ghost use Rattle.mirror_connections.specs.Over.{door_seen, DoorSeen, OverConnection};
 
 use crate::connections::{HeardFind, MirrorConnections, WaitingFind};
@@ -32,6 +32,7 @@ pub fn answer_begun<D: Door>(
     ensures left { connections.new ≡ record connections.old { begun = None } }
     ensures server { server.new ≡ server.old }
     ensures kept { D.faults door.new ≡ D.faults door.old }
+    ensures coming { D.coming door.new ≡ D.coming door.old }
 {
     let Some(find) = connections.begun.take() else {
         unreachable!()
@@ -59,6 +60,7 @@ pub fn refuse_begun<D: Door>(
     ensures how { result.end ≡ ConnectionEnd.OutOfMemory }
     ensures left { connections.new ≡ record connections.old { begun = None } }
     ensures kept { D.faults door.new ≡ D.faults door.old }
+    ensures coming { D.coming door.new ≡ D.coming door.old }
 {
     let Some(find) = connections.begun.take() else {
         unreachable!()
@@ -86,11 +88,11 @@ pub fn answer_first<D: Door>(
     ensures over { (start : DoorSeen) (taken : List (List (List ℕ))) (over : List OverConnection)
         → HasConnections start taken over connections.old (door_seen (D.log door.old) (D.coming door.old))
         → IfSome result (λ ended. AnswersOne ended.number server.old ended.end start taken over connections.new (door_seen (D.log door.new) (D.coming door.new))) }
-    ensures which { IfSome result (λ ended. (first : WaitingSeen) (rest : List WaitingSeen) → connections.old.waiting ≡ first ∷ rest
-        → (ended.number ≡ first.find.number) × (connections.new ≡ record connections.old { waiting = rest })) }
+    ensures which { IfSome result (λ ended. TakesFirstWaiting ended.number connections.old connections.new) }
     ensures untouched { IfNone result ((connections.new ≡ connections.old) × (door.new ≡ door.old)) }
     ensures server { server.new ≡ server.old }
     ensures kept { D.faults door.new ≡ D.faults door.old }
+    ensures coming { D.coming door.new ≡ D.coming door.old }
 {
     let Some(first) = connections.waiting.pop_front() else {
         return None;

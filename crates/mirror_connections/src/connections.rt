@@ -126,7 +126,7 @@ impl<W: Wire> MirrorConnections<W> {
     /// When the find was heard that waits longest.
     pub fn first_heard(&self) -> Option<Moment>
         ensures none { IfNone result (self.now.waiting ≡ []) }
-        ensures some { IfSome result (λ heard. (first : WaitingSeen) (rest : List WaitingSeen) → self.now.waiting ≡ first ∷ rest → heard ≡ first.heard) }
+        ensures some { IfSome result (λ heard. (first : WaitingSeen) × (rest : List WaitingSeen) × (self.now.waiting ≡ first ∷ rest) × (heard ≡ first.heard)) }
     {
         match self.waiting.front() {
             Some(first) => Some(first.heard),

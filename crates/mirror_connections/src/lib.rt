@@ -5,7 +5,7 @@
 //! leaves.
 #![tactic(auto)]
 
-pub use answering::{answer_begun, answer_first, refuse_begun};
+pub use answering::{EndedConnection, answer_begun, answer_first, refuse_begun};
 pub use connections::{MirrorConnections, WaitingFind};
 pub use taking::take_connection;
 

@@ -6,7 +6,7 @@ ghost use Rattle.http_serving.specs.Serving.{IsServed};
 ghost use Rattle.mirror_serving.specs.HeardFind.{IsHeardFind};
 ghost use Rattle.mirror_serving.specs.Response.{IsMirrorResponseTo};
 ghost use Rattle.mirror_connections.specs.Answered.{AnswersOne, GivesWire, IsAnsweredAtOnce, PutsOff};
-ghost use Rattle.mirror_connections.specs.Open.{wire_seen, HasConnections};
+ghost use Rattle.mirror_connections.specs.Open.{most_waiting, wire_seen, HasConnections};
 ghost use Rattle.mirror_connections.specs.Over.{door_seen, DoorSeen, OverConnection};
 
 use crate::connections::MirrorConnections;
@@ -64,10 +64,12 @@ pub fn take_connection<D: Door>(
         → GivesWire pieces before (door_seen (D.log door.old) (D.coming door.old))
         (wire_seen (D.Wire.number wire) (D.Wire.start wire) (D.Wire.left wire) (D.Wire.contents wire) (D.Wire.Source.faults wire) (D.Wire.Sink.faults wire))
         → IfNone result (PutsOff now start (taken ++ pieces ∷ []) over connections.old connections.new (door_seen (D.log door.new) (D.coming door.new))) }
+    ensures room { IfNone result (length connections.old.waiting < most_waiting) }
     ensures counted { connections.new.taken ≡ connections.old.taken + 1 }
     ensures others { IfSome result (λ _. (connections.new.begun ≡ connections.old.begun) × (connections.new.waiting ≡ connections.old.waiting)) }
     ensures server { server.new ≡ server.old }
     ensures kept { D.faults door.new ≡ D.faults door.old }
+    ensures coming { D.coming door.new ≡ D.coming door.old }
 {
     let number = connections.count_one();
     let mut wire = wire;
