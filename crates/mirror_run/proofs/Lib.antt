@@ -1,0 +1,11 @@
+mod Facts
+mod RoundFacts
+mod Over
+mod Giving
+mod RoundSteps
+mod FindSteps
+mod TakeSteps
+mod TurnSteps
+mod Views
+mod RunFacts
+mod BeginFacts
