@@ -68,6 +68,10 @@ fn step(
         b"match" => answer.matches.push(match_of(rest)),
         b"take" => take(alloc, cache, number(rest), answer),
         b"fill" => fill(alloc, cache, low_word(rest)),
+        b"clear" => {
+            cache.clear();
+            Ok(())
+        }
         _ => ask(cache, number(name), rest, out),
     }
 }

@@ -64,6 +64,13 @@ impl FullHashCache {
         })
     }
 
+    /// Drops every pair.
+    pub fn clear(&mut self)
+        ensures { self.new ≡ [] }
+    {
+        self.pairs.clear();
+    }
+
     /// What the kept answers say at a moment of a hash, for a list and a prefix that begins the hash.
     /// The pair is then the last used.
     pub fn answer(
