@@ -1,12 +1,12 @@
 -- A run at its beginning.
-use Rattle.std.proofs.Common.{◌≡◌, ℕ, List, [], ◌∷◌, ◌++◌, Bool, true, false, Option, Some, None, map, refl, sym, ap, ◌∙◌, subst}
+use Rattle.std.proofs.Common.{◌≡◌, ℕ, List, [], ◌∷◌, false, Option, Some, None, map, refl, sym, ap}
 use Rattle.std.proofs.lemmas.List.{append-nil}
 use Rattle.std.specs.Prelude.{is_some}
-use Rattle.mirror_connections.specs.Open.{ConnectionsSeen, FindSeen, HasConnections, WaitingSeen}
+use Rattle.mirror_connections.specs.Open.{ConnectionsSeen, FindSeen, HasConnections}
 use Rattle.mirror_finds.specs.Finds.{FindsSeen, HasPassedFinds, finds_start}
 use Rattle.mirror_finds.specs.declared.finds.OpenFind.{OpenFind}
 use Rattle.mirror_rounds.specs.Rounds.{HasMadeRounds, MirrorSeen, start_at}
-use Rattle.mirror_run.specs.SoFar.{IsOpenFindOf, MirrorOutside, MirrorOwn, RunStart, waiting_of}
+use Rattle.mirror_run.specs.SoFar.{IsOpenFindOf, MirrorOutside, RunStart, waiting_of}
 use Rattle.mirror_run.specs.State.{before_all, told_wait}
 use Rattle.mirror_run.specs.Steps.{BeginsSo}
 use Rattle.mirror_run.specs.declared.plan.MirrorPlan.{MirrorPlan}

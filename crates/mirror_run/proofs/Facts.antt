@@ -1,7 +1,7 @@
 -- Facts that the steps of a run share.
-use Rattle.std.proofs.Common.{◌≡◌, ◌≤◌, ◌<◌, ◌+◌, ◌-◌, ℕ, List, [], ◌∷◌, ◌++◌, Bool, true, false, Option, Some, None, length, map, refl, sym, ap, ◌∙◌, subst, append_assoc, inl, inr, arith}
+use Rattle.std.proofs.Common.{◌≡◌, ◌+◌, ◌-◌, ℕ, List, [], ◌∷◌, ◌++◌, Bool, true, false, Option, Some, None, length, refl, sym, ap, ◌∙◌, subst, append_assoc, inl, inr, arith}
 use Rattle.std.proofs.lemmas.List.{append-nil}
-use Rattle.std.specs.Prelude.{◌⊎◌, ◌||◌, ◌&&◌, not, nat_le, min, drop, is_some, if◌then◌else◌, option_map, Result, Ok, Err, is_ok}
+use Rattle.std.specs.Prelude.{◌⊎◌, ◌||◌, ◌&&◌, not, nat_le, min, drop, is_some, if◌then◌else◌}
 use Rattle.mirror_places.specs.Places.{Places, StandsForPlaces, most_kept_places}
 use Rattle.mirror_run.specs.Events.{first_cause}
 use Rattle.mirror_run.specs.SoFar.{HasFailedSo}
@@ -9,7 +9,7 @@ use Rattle.mirror_run.specs.State.{StoppedRounds, mirror_of_places}
 use Rattle.mirror_run.specs.Steps.{is_due_at}
 use Rattle.mirror_run.specs.declared.stop.MirrorStop.{MirrorStop}
 use Rattle.sb_model.specs.declared.time.Moment.{Moment}
-use Rattle.sb_outside.specs.Outside.{IfTold, Rose, appended, raised, with_entry}
+use Rattle.sb_outside.specs.Outside.{IfTold, Rose, appended, with_entry}
 use Rattle.timed_sessions.specs.Told.{with_more}
 use Rattle.update_client.specs.Held.{Held}
 

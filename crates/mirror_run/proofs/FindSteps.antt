@@ -1,21 +1,20 @@
 -- What the steps of finds leave of a run.
-use Rattle.std.proofs.Common.{◌≡◌, ◌≢◌, ◌<◌, ◌≤◌, ◌+◌, ◌-◌, ℕ, List, [], ◌∷◌, ◌++◌, Bool, true, false, Option, Some, None, length, map, refl, sym, ap, ◌∙◌, subst, inl, inr, arith}
-use Rattle.std.specs.Prelude.{◌⊎◌, ◌||◌, is_some}
+use Rattle.std.proofs.Common.{◌≡◌, ◌+◌, ◌-◌, ℕ, List, [], ◌∷◌, ◌++◌, true, false, Option, Some, None, map, refl, sym, ap, ◌∙◌, subst, inl}
 use Rattle.client_line.specs.Lines.{LineView}
 use Rattle.http_serving.specs.declared.ends.ConnectionEnd.{ConnectionEnd}
 use Rattle.http_serving.specs.declared.ends.ConnectionEnd.TheVariants as end
 use Rattle.mirror_connections.specs.Open.{ConnectionsSeen, FindSeen, HasConnections, WaitingSeen}
-use Rattle.mirror_connections.specs.Over.{DoorSeen, OverConnection}
+use Rattle.mirror_connections.specs.Over.{OverConnection}
 use Rattle.mirror_finds.specs.Finds.{FindInTurn, FindsSeen, HasPassedFinds}
 use Rattle.mirror_finds.specs.declared.finds.OpenFind.{OpenFind}
 use Rattle.mirror_places.specs.Places.{Places}
-use Rattle.mirror_run.specs.Allowed.{HasNothingLeft, IsAnsweredByFind, MayNotBeSent, asked_by_find, states_in}
-use Rattle.mirror_run.specs.Events.{after_event, after_events, started_first, without_first}
+use Rattle.mirror_run.specs.Allowed.{IsAnsweredByFind, MayNotBeSent, asked_by_find, states_in}
+use Rattle.mirror_run.specs.Events.{after_events, started_first, without_first}
 use Rattle.mirror_run.specs.Events.MirrorEvent.{FindAnswered, FindBegun, FindOver, FirstRefused}
 use Rattle.mirror_run.specs.SoFar.{IsOpenFindOf, IsRunSo, MirrorOutside, MirrorOwn, RunStart, passing_start, waiting_of}
-use Rattle.mirror_run.specs.State.{MirrorFirst, MirrorState, StartedFind, WaitingFind, before_all, find_waits, lists_now, places_now, wait_now, waited_long}
+use Rattle.mirror_run.specs.State.{MirrorState, StartedFind, before_all, find_waits, lists_now, places_now, wait_now, waited_long}
 use Rattle.mirror_run.specs.State.Phase.{Beginning}
-use Rattle.mirror_run.specs.Steps.{GivesFirst, GivesOne, MayBegin, RunAt, RunsSo, StandsAt, given_so, run_at, served_now}
+use Rattle.mirror_run.specs.Steps.{GivesFirst, GivesOne, MayBegin, RunAt, RunsSo, given_so, run_at, served_now}
 use Rattle.mirror_run.specs.declared.plan.MirrorPlan.{MirrorPlan}
 use Rattle.mirror_run.proofs.Over.{none_come_still, open_goes, over_goes}
 use Rattle.mirror_run.proofs.RoundFacts.{lists_are, none_stopped}

@@ -1,6 +1,6 @@
 -- A connection that was answered, given back and told.
-use Rattle.std.proofs.Common.{◌≡◌, ◌≢◌, ◌+◌, ℕ, List, [], ◌∷◌, ◌++◌, Bool, true, false, Option, Some, None, refl, sym, ap, ◌∙◌, subst, inl, inr}
-use Rattle.std.specs.Prelude.{◌⊎◌, IfSome, IsSome}
+use Rattle.std.proofs.Common.{◌≡◌, ◌≢◌, ◌+◌, ℕ, List, [], ◌∷◌, ◌++◌, Option, Some, None, refl, sym, ap, ◌∙◌, subst, inl, inr}
+use Rattle.std.specs.Prelude.{IfSome, IsSome}
 use Rattle.hash_messages.specs.Messages.{AskedHashes}
 use Rattle.http_serving.specs.Printed.{connection_line}
 use Rattle.http_serving.specs.declared.ends.ConnectionEnd.{ConnectionEnd}

@@ -1,22 +1,21 @@
 -- A run with one more connection that is over, or that is put off, and with one more find that is begun.
-use Rattle.std.proofs.Common.{◌≡◌, ◌≢◌, ◌<◌, ◌≤◌, ◌+◌, ◌-◌, ℕ, List, [], ◌∷◌, ◌++◌, Bool, true, false, Option, Some, None, length, map, refl, sym, ap, ◌∙◌, subst, inl, inr, arith}
-use Rattle.std.specs.Prelude.{◌⊎◌, ◌||◌, is_some}
+use Rattle.std.proofs.Common.{◌≡◌, ◌+◌, ◌-◌, ℕ, List, [], ◌∷◌, ◌++◌, Bool, true, false, Option, Some, map, refl, sym, ap, ◌∙◌, subst}
+use Rattle.std.specs.Prelude.{◌||◌, is_some}
 use Rattle.client_line.specs.Lines.{LineView}
-use Rattle.mirror_connections.specs.Open.{ConnectionsSeen, FindSeen, HasConnections, WaitingSeen}
+use Rattle.mirror_connections.specs.Open.{ConnectionsSeen, HasConnections}
 use Rattle.mirror_connections.specs.Over.{DoorSeen, OverConnection}
 use Rattle.mirror_finds.specs.Finds.{FindInTurn, FindsSeen, HasPassedFinds}
-use Rattle.mirror_finds.specs.declared.finds.OpenFind.{OpenFind}
-use Rattle.mirror_run.specs.Events.{LineEnd, stop_after_line, first_cause, is_cut_by_output, line_written, without_first}
+use Rattle.mirror_run.specs.Events.{LineEnd, stop_after_line, first_cause, is_cut_by_output, line_written}
 use Rattle.mirror_run.specs.Events.LineEnd.{Whole, Cut}
-use Rattle.mirror_run.specs.SoFar.{AreFaultsSo, AreRoundsSo, FaultsSeen, HasFailedSo, IsOpenFindOf, IsRunSo, MirrorOutside, MirrorOwn, RunStart, passing_start, waiting_of}
-use Rattle.mirror_run.specs.State.{FinishedFind, MirrorState, Phase, StartedFind, StoppedRounds, WaitingFind}
+use Rattle.mirror_run.specs.SoFar.{HasFailedSo, IsOpenFindOf, IsRunSo, MirrorOutside, MirrorOwn, RunStart, passing_start, waiting_of}
+use Rattle.mirror_run.specs.State.{FinishedFind, MirrorState, Phase, StartedFind, WaitingFind}
 use Rattle.mirror_run.specs.Steps.{PrintsLine}
 use Rattle.mirror_run.specs.declared.plan.MirrorPlan.{MirrorPlan}
 use Rattle.mirror_run.specs.declared.stop.MirrorStop.{MirrorStop}
 use Rattle.mirror_run.specs.declared.stop.MirrorStop.TheVariants as stop
 use Rattle.mirror_run.proofs.Facts.{failed_more, failed_twice, has_cause, printed_more}
 use Rattle.sb_model.specs.declared.time.Moment.{Moment}
-use Rattle.sb_outside.specs.Outside.{IfTold, Rose, appended}
+use Rattle.sb_outside.specs.Outside.{IfTold, Rose}
 use Rattle.timed_sessions.specs.Told.{with_more}
 
 line_stops : (stop : Option MirrorStop) (told : LineEnd) → is_some stop ≡ true → is_some (stop_after_line stop told) ≡ true

@@ -1,34 +1,30 @@
 -- A run with one more step of its rounds.
-use Rattle.std.proofs.Common.{◌≡◌, ◌≢◌, ◌<◌, ◌≤◌, ◌+◌, ℕ, List, [], ◌∷◌, ◌++◌, Bool, true, false, Option, Some, None, length, map, refl, sym, ap, ◌∙◌, subst, inl, inr, arith}
+use Rattle.std.proofs.Common.{◌≡◌, ◌<◌, ◌+◌, ℕ, List, [], ◌∷◌, ◌++◌, Bool, true, false, Option, Some, None, length, map, refl, sym, ap, ◌∙◌, subst, inl, inr}
 use Rattle.std.proofs.lemmas.List.Folds.{list_any-append}
 use Rattle.std.specs.Prelude.{◌⊎◌, ◌||◌, ◌&&◌, not, nat_le, is_some, if◌then◌else◌, Result, Ok, Err, is_ok}
 use Rattle.client_line.specs.Lines.{LineView}
-use Rattle.mirror_places.specs.Places.{Places}
-use Rattle.mirror_rounds.specs.Ended.{EndsMirrorRound, IsToldOf, StopsMirrorRound, round_view}
-use Rattle.mirror_rounds.specs.Rounds.{HasMadeRounds, MirrorSeen, lists_at_places, next_round_at}
+use Rattle.mirror_rounds.specs.Ended.{EndsMirrorRound, round_view}
+use Rattle.mirror_rounds.specs.Rounds.{HasMadeRounds, MirrorSeen, lists_at_places}
 use Rattle.mirror_rounds.specs.declared.rounds.MirrorRoundTold.{MirrorRoundTold}
-use Rattle.mirror_run.specs.Allowed.{MayCome}
 use Rattle.mirror_run.specs.Events.{after_event, first_cause, is_keep_fault, is_write_fault, round_text}
 use Rattle.mirror_run.specs.Events.MirrorEvent.{RoundBegun, RoundOver, RoundsStopped}
-use Rattle.mirror_run.specs.SoFar.{AreFaultsSo, AreRoundsSo, FaultsSeen, HasFailedSo, HasStoppedRounds, IsRunSo, IsStateOf, MirrorOutside, MirrorOwn, RunStart, StopsBeforeRound, StopsInLastRound, cause_of, rounds_start}
-use Rattle.mirror_run.specs.State.{MirrorState, StoppedRounds, has_answer, lists_now, places_now, mirror_of_places, round_is_due, round_waits, told_wait}
+use Rattle.mirror_run.specs.SoFar.{AreRoundsSo, FaultsSeen, HasFailedSo, IsRunSo, MirrorOutside, MirrorOwn, RunStart, StopsBeforeRound, StopsInLastRound, rounds_start}
+use Rattle.mirror_run.specs.State.{MirrorState, StoppedRounds, has_answer, lists_now, round_is_due, round_waits, told_wait}
 use Rattle.mirror_run.specs.Steps.{own_round_is_due, is_due_at}
 use Rattle.mirror_run.specs.declared.plan.MirrorPlan.{MirrorPlan}
 use Rattle.mirror_run.specs.declared.stop.MirrorStop.{MirrorStop}
 use Rattle.mirror_run.specs.declared.stop.MirrorStop.TheVariants as stop
-use Rattle.mirror_run.proofs.Facts.{appended_nothing, due_is, failed_more, has_cause, not_stopped, places_pinned, printed_more}
+use Rattle.mirror_run.proofs.Facts.{due_is, failed_more, has_cause, not_stopped, places_pinned, printed_more}
 use Rattle.sb_model.specs.declared.time.Moment.{Moment}
 use Rattle.sb_outside.specs.Outside.{appended}
-use Rattle.sb_round.specs.Round.{Round, RoundState, BreaksOff, taken_from}
+use Rattle.sb_round.specs.Round.{Round, taken_from}
 use Rattle.sb_round.specs.Rounds.{round_updates}
 use Rattle.sb_round.specs.Run.{lists_after}
 use Rattle.sb_round.specs.declared.rounds.RoundFault.{RoundFault}
-use Rattle.sb_round.specs.declared.rounds.Taken.{Taken}
 use Rattle.update_client.specs.Held.{Held}
 use Rattle.update_messages.specs.declared.response.FetchResponse.{FetchResponse}
 use Rattle.update_run.specs.Printed.{round_end, told_end}
 use Rattle.update_run.specs.Saved.{Keeping}
-use Rattle.update_run.specs.declared.stop.RunStop.{RunStop}
 
 or_false : (b : Bool) → (b || false) ≡ b
 or_false true = refl

@@ -1,18 +1,17 @@
 -- What the steps of rounds leave of a run.
-use Rattle.std.proofs.Common.{◌≡◌, ◌≢◌, ◌<◌, ◌≤◌, ◌+◌, ℕ, List, [], ◌∷◌, ◌++◌, Bool, true, false, Option, Some, None, length, map, refl, sym, ap, ◌∙◌, subst, inl, inr, arith}
+use Rattle.std.proofs.Common.{◌≡◌, ◌<◌, ◌+◌, ℕ, List, [], ◌∷◌, Bool, true, false, Option, Some, None, length, refl, sym, ◌∙◌, subst, inl, inr}
 use Rattle.std.proofs.lemmas.Bool.{leb-false}
-use Rattle.std.specs.Prelude.{◌⊎◌, ◌||◌, ◌&&◌, not, nat_le, is_some, if◌then◌else◌, Result, Ok, Err, IfOk, IfErr}
+use Rattle.std.specs.Prelude.{◌||◌, not, nat_le, is_some, if◌then◌else◌}
 use Rattle.client_line.specs.Lines.{LineView}
 use Rattle.mirror_rounds.specs.Ended.{EndsMirrorRound, RoundView, StopsMirrorRound, StopsMirrorTelling, round_view}
 use Rattle.mirror_rounds.specs.Rounds.{HasMadeRounds, MirrorSeen, MirrorStart}
 use Rattle.mirror_rounds.specs.declared.rounds.MirrorRoundTold.{MirrorRoundTold}
-use Rattle.mirror_run.specs.Allowed.{HasNothingLeft}
-use Rattle.mirror_run.specs.Events.{after_event, after_events, first_cause, is_keep_fault, is_write_fault}
+use Rattle.mirror_run.specs.Events.{after_events, first_cause, is_keep_fault, is_write_fault}
 use Rattle.mirror_run.specs.Events.MirrorEvent.{RoundBegun, RoundOver, RoundsStopped}
-use Rattle.mirror_run.specs.SoFar.{FaultsSeen, HasFailedSo, IsRunSo, MirrorOutside, MirrorOwn, RunStart, StopsBeforeRound, StopsInLastRound, cause_of, rounds_start}
+use Rattle.mirror_run.specs.SoFar.{FaultsSeen, HasFailedSo, MirrorOutside, MirrorOwn, RunStart, cause_of, rounds_start}
 use Rattle.mirror_run.specs.State.{MirrorState, before_all, round_is_due, told_wait}
 use Rattle.mirror_run.specs.State.Phase.{Beginning}
-use Rattle.mirror_run.specs.Steps.{RunAt, RunsSo, StandsAt, is_due_at, own_round_is_due, run_at}
+use Rattle.mirror_run.specs.Steps.{RunAt, RunsSo, is_due_at, own_round_is_due, run_at}
 use Rattle.mirror_run.specs.declared.plan.MirrorPlan.{MirrorPlan}
 use Rattle.mirror_run.specs.declared.stop.MirrorStop.{MirrorStop}
 use Rattle.mirror_run.specs.declared.stop.MirrorStop.TheVariants as stop

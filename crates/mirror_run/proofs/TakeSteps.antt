@@ -1,18 +1,17 @@
 -- What is left of a run when a connection was taken.
-use Rattle.std.proofs.Common.{◌≡◌, ◌≢◌, ◌<◌, ◌≤◌, ◌+◌, ◌-◌, ℕ, List, [], ◌∷◌, ◌++◌, Bool, true, false, Option, Some, None, length, map, refl, sym, ap, ◌∙◌, subst, inl, inr, arith}
+use Rattle.std.proofs.Common.{◌≡◌, ◌<◌, ◌+◌, ◌-◌, ℕ, List, [], ◌∷◌, ◌++◌, true, false, Option, Some, None, length, map, refl, sym, ap, ◌∙◌, subst, inl, inr, arith}
 use Rattle.std.proofs.lemmas.List.{length-append, length-map, map-append}
 use Rattle.std.proofs.lemmas.List.Elements.{All-head, All-tail}
-use Rattle.std.specs.Prelude.{◌⊎◌, All, IfSome, option_map, slice_get}
+use Rattle.std.specs.Prelude.{◌⊎◌, All, option_map, slice_get}
 use Rattle.http_serving.specs.declared.ends.ConnectionEnd.{ConnectionEnd}
 use Rattle.http_serving.specs.declared.ends.ConnectionEnd.TheVariants as end
-use Rattle.hash_messages.specs.Messages.{AskedHashes}
 use Rattle.mirror_connections.specs.Answered.{AnswersOne, GivesWire, IsAnsweredAtOnce, PutsOff}
-use Rattle.mirror_connections.specs.Open.{ConnectionsSeen, HasConnections, IsFindWaiting, WaitingSeen, WireSeen, most_waiting}
+use Rattle.mirror_connections.specs.Open.{ConnectionsSeen, IsFindWaiting, WireSeen, most_waiting}
 use Rattle.mirror_connections.specs.Over.{DoorSeen, OverConnection}
 use Rattle.mirror_run.specs.Allowed.{HasNothingLeft}
-use Rattle.mirror_run.specs.Events.{after_event, after_events, first_cause}
+use Rattle.mirror_run.specs.Events.{after_events, first_cause}
 use Rattle.mirror_run.specs.Events.MirrorEvent.{ConnectionTaken, DoorFailed, FindPutOff, NoMoreCame, NothingCame, TakenOver}
-use Rattle.mirror_run.specs.SoFar.{IsRunSo, MirrorOutside, MirrorOwn, RunStart, waiting_of}
+use Rattle.mirror_run.specs.SoFar.{MirrorOutside, MirrorOwn, RunStart, waiting_of}
 use Rattle.mirror_run.specs.State.{MirrorState, WaitingFind, before_all}
 use Rattle.mirror_run.specs.State.Phase.{Between, Ending}
 use Rattle.mirror_run.specs.Steps.{RunsSo, run_at, served_now}

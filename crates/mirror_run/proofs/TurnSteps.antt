@@ -1,17 +1,17 @@
 -- What the turns of a run leave of it.
-use Rattle.std.proofs.Common.{◌≡◌, ◌≢◌, ◌<◌, ◌≤◌, ◌+◌, ◌-◌, ◌^◌, ℕ, List, [], ◌∷◌, ◌++◌, Bool, true, false, Option, Some, None, length, map, refl, sym, ap, ◌∙◌, subst, inl, inr, arith}
+use Rattle.std.proofs.Common.{◌≡◌, ◌<◌, ◌≤◌, ◌+◌, ◌-◌, ◌^◌, ℕ, List, [], ◌∷◌, true, false, Option, Some, None, map, refl, sym, ap, ◌∙◌, subst, inl, inr}
 use Rattle.std.specs.Prelude.{◌⊎◌, is_some}
-use Rattle.mirror_connections.specs.Open.{FindSeen, WaitingSeen}
+use Rattle.mirror_connections.specs.Open.{FindSeen}
 use Rattle.mirror_finds.specs.declared.finds.OpenFind.{OpenFind}
 use Rattle.mirror_rounds.specs.Rounds.{MirrorSeen, next_round_at}
-use Rattle.mirror_run.specs.Allowed.{HasBegunAll, HasCome, IsLastTurn}
-use Rattle.mirror_run.specs.Events.{after_event, after_events}
+use Rattle.mirror_run.specs.Allowed.{HasBegunAll, IsLastTurn}
+use Rattle.mirror_run.specs.Events.{after_events}
 use Rattle.mirror_run.specs.Events.MirrorEvent.{AllBegun, RunEnding, TurnBegun}
 use Rattle.mirror_run.specs.Run.{EndsMirror}
 use Rattle.mirror_run.specs.SoFar.{IsOpenFindOf, IsRunSo, MirrorOutside, MirrorOwn, RunStart, waiting_of}
-use Rattle.mirror_run.specs.State.{MirrorState, StartedFind, WaitingFind, before_all, round_is_due, waited_long}
+use Rattle.mirror_run.specs.State.{MirrorState, StartedFind, WaitingFind, before_all, waited_long}
 use Rattle.mirror_run.specs.State.Phase.{Beginning, Between, Ending, Finishing}
-use Rattle.mirror_run.specs.Steps.{IsLast, NoFindIsDue, RunAt, RunsSo, is_due_at, own_round_is_due, run_at}
+use Rattle.mirror_run.specs.Steps.{IsLast, NoFindIsDue, RunsSo, is_due_at, own_round_is_due, run_at}
 use Rattle.mirror_run.specs.declared.plan.MirrorPlan.{MirrorPlan}
 use Rattle.mirror_run.specs.declared.stop.MirrorStop.{MirrorStop}
 use Rattle.mirror_run.proofs.Facts.{told_more}

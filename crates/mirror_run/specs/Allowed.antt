@@ -1,5 +1,5 @@
 -- When each step of a run of a mirror may come. What has to come first stands here too: so a step that is left out lets no further one come.
-use Rattle.std.specs.Prelude.{◌≡◌, ◌≢◌, ◌⊎◌, ◌<◌, ◌≤◌, ◌+◌, ◌-◌, ◌^◌, ℕ, Bool, true, false, List, [], ◌∷◌, ◌++◌, length, Option, Some, None, Ok, Err, Result, ⊤, is_some, slice_get}
+use Rattle.std.specs.Prelude.{◌≡◌, ◌≢◌, ◌⊎◌, ◌<◌, ◌≤◌, ◌+◌, ◌-◌, ◌^◌, ℕ, true, false, List, [], ◌∷◌, ◌++◌, length, Option, Some, None, Ok, Err, Result, ⊤, is_some, slice_get}
 use Rattle.hash_messages.specs.Messages.{AskedHashes}
 use Rattle.hash_messages.specs.declared.response.FindResponse.{FindResponse}
 use Rattle.http_edge.specs.declared.faults.RequestFault.{RequestFault}
@@ -12,7 +12,7 @@ use Rattle.mirror_connections.specs.Open.{WaitingSeen, IsFindWaiting, most_waiti
 use Rattle.mirror_connections.specs.Over.{OverConnection}
 use Rattle.mirror_finds.specs.Finds.{FindInTurn}
 use Rattle.mirror_finds.specs.Finds.FindInTurn.{Passed, Stopped}
-use Rattle.mirror_run.specs.Events.{LineEnd, MirrorEvent, after_event, after_events, told_number}
+use Rattle.mirror_run.specs.Events.{LineEnd, MirrorEvent, after_events, told_number}
 use Rattle.mirror_run.specs.Events.LineEnd.{Whole, Cut}
 use Rattle.mirror_run.specs.Events.MirrorEvent.{TurnBegun, RoundBegun, RoundOver, RoundsStopped, FindBegun, FindOver, AllBegun, ConnectionTaken, NothingCame, NoMoreCame, DoorFailed, FindPutOff, TakenOver, FindAnswered, FirstRefused, RunEnding}
 use Rattle.mirror_run.specs.State.{FinishedFind, MirrorFirst, MirrorState, StartedFind, WaitingFind, find_waits, places_now, round_is_due, waited_long, wait_now}

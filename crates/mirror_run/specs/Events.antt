@@ -1,5 +1,5 @@
 -- What happens in a run of a mirror, step by step, and what it leaves.
-use Rattle.std.specs.Prelude.{◌≡◌, ◌+◌, ◌-◌, ◌^◌, ◌||◌, ℕ, min, Bool, true, false, List, [], ◌∷◌, ◌++◌, length, map, Option, Some, None}
+use Rattle.std.specs.Prelude.{◌+◌, ◌-◌, ◌^◌, ◌||◌, ℕ, min, Bool, true, false, List, [], ◌∷◌, ◌++◌, length, map, Option, Some, None}
 use Rattle.hash_messages.specs.Messages.{AskedHashes}
 use Rattle.http_serving.specs.Printed.{connection_line}
 use Rattle.mirror_connections.specs.Over.{OverConnection}
@@ -9,7 +9,7 @@ use Rattle.mirror_run.specs.State.Phase.{Between, Beginning, Ending, Finishing}
 use Rattle.mirror_run.specs.declared.stop.MirrorStop.{MirrorStop}
 use Rattle.mirror_run.specs.declared.stop.MirrorStop.TheVariants as stop
 use Rattle.sb_model.specs.declared.time.Moment.{Moment}
-use Rattle.sb_round.specs.Round.{Round, lists_after_round}
+use Rattle.sb_round.specs.Round.{Round}
 use Rattle.sb_round.specs.Rounds.{round_updates}
 use Rattle.sb_round.specs.Run.{lists_after}
 use Rattle.update_client.specs.Held.{Held, tokens_of}

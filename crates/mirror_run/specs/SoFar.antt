@@ -1,15 +1,15 @@
 -- What the objects outside a mirror tell of a run so far.
-use Rattle.std.specs.Prelude.{◌≡◌, ◌⊎◌, ◌<◌, ℕ, Bool, true, false, List, [], ◌∷◌, ◌++◌, length, map, Option, Some, None, is_some, ⊤}
-use Rattle.client_line.specs.Lines.{LineView, Objects}
+use Rattle.std.specs.Prelude.{◌≡◌, ◌⊎◌, ◌<◌, ℕ, Bool, true, false, List, [], ◌++◌, length, map, Option, Some, None, is_some}
+use Rattle.client_line.specs.Lines.{LineView}
 use Rattle.mirror_connections.specs.Open.{ConnectionsSeen, FindSeen, HasConnections, WaitingSeen}
 use Rattle.mirror_connections.specs.Over.{DoorSeen}
 use Rattle.mirror_finds.specs.Finds.{FindsSeen, FindsStart, HasPassedFinds}
 use Rattle.mirror_finds.specs.declared.finds.OpenFind.{OpenFind}
 use Rattle.mirror_rounds.specs.Ended.{RoundView, StopsMirrorRound, round_view}
 use Rattle.mirror_rounds.specs.Rounds.{HasMadeRounds, MirrorSeen, MirrorStart}
-use Rattle.mirror_run.specs.Allowed.{HasNothingLeft, MayAllCome}
+use Rattle.mirror_run.specs.Allowed.{MayAllCome}
 use Rattle.mirror_run.specs.Events.{MirrorEvent, after_events}
-use Rattle.mirror_run.specs.State.{MirrorFirst, MirrorState, Phase, StartedFind, StoppedRounds, WaitingFind, before_all, has_answer, places_now, wait_now}
+use Rattle.mirror_run.specs.State.{MirrorFirst, MirrorState, StartedFind, StoppedRounds, WaitingFind, before_all, has_answer, places_now, wait_now}
 use Rattle.mirror_run.specs.declared.plan.MirrorPlan.{MirrorPlan}
 use Rattle.mirror_run.specs.declared.stop.MirrorStop.{MirrorStop}
 use Rattle.mirror_run.specs.declared.stop.MirrorStop.TheVariants as stop

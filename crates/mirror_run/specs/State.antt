@@ -1,5 +1,5 @@
 -- A mirror at one moment of its run, as what happened so far tells it.
-use Rattle.std.specs.Prelude.{◌≡◌, ◌-◌, ℕ, Bool, false, min, nat_le, not, ◌&&◌, ◌||◌, if◌then◌else◌, List, [], map, length, drop, Option, None, is_ok}
+use Rattle.std.specs.Prelude.{◌-◌, ℕ, Bool, false, min, nat_le, not, ◌&&◌, ◌||◌, if◌then◌else◌, List, [], map, length, drop, Option, None, is_ok}
 use Rattle.std.specs.List.{list_all, list_any}
 use Rattle.hash_messages.specs.Messages.{AskedHashes}
 use Rattle.mirror_connections.specs.Over.{OverConnection}

@@ -1,12 +1,10 @@
-use Rattle.std.proofs.Common.{◌≡◌, ℕ, List, sym, ap, ◌∙◌, subst}
-use Rattle.std.specs.Prelude.{IsSome}
+use Rattle.std.proofs.Common.{◌≡◌, ℕ, sym, ap, ◌∙◌, subst}
 use Rattle.mirror_connections.specs.Answered.{AnswersOne}
 use Rattle.mirror_connections.specs.Open.{HasConnections}
-use Rattle.mirror_connections.specs.Over.{door_seen, DoorSeen}
 use Rattle.mirror_places.specs.Places.{Places}
 use Rattle.mirror_run.specs.SoFar.{MirrorOutside, MirrorOwn}
-use Rattle.mirror_run.specs.Steps.{Anyhow, GivesBegun, GivesFirst, WithoutMemory, served_now}
-use Rattle.mirror_run.proofs.Giving.{gives_begun, gives_first}
+use Rattle.mirror_run.specs.Steps.{Anyhow, GivesFirst, served_now}
+use Rattle.mirror_run.proofs.Giving.{gives_first}
 use Rattle.mirror_run.proofs.Views.{outside_of, own_of, served_by}
 use Rattle.mirror_serving.specs.Response.{MirrorServed}
 use Rattle.mirror_serving.specs.declared.fate.FindFate.TheVariants.{NotSent}

@@ -1,4 +1,4 @@
-use Rattle.std.proofs.Common.{◌≡◌, refl, sym, ap, ◌∙◌, inl, inr}
+use Rattle.std.proofs.Common.{◌∙◌, inl, inr}
 use Rattle.mirror_run.specs.Events.{after_events}
 use Rattle.mirror_run.specs.State.{before_all}
 use Rattle.mirror_run.specs.State.Phase.{Finishing}

@@ -1,17 +1,17 @@
-use Rattle.std.proofs.Common.{◌≡◌, ◌∷◌, ℕ, List, true, false, Option, Some, None, refl, sym, ap, ◌∙◌, subst, inl, inr}
-use Rattle.std.specs.Prelude.{is_some, IfSome, IsSome}
-use Rattle.mirror_connections.specs.Open.{ConnectionsSeen, FindSeen, WaitingSeen}
-use Rattle.mirror_finds.specs.Finds.FindInTurn.{Passed, Stopped}
+use Rattle.std.proofs.Common.{◌≡◌, ℕ, Option, Some, None, sym, ap, ◌∙◌, subst, inr}
+use Rattle.std.specs.Prelude.{IfSome}
+use Rattle.mirror_connections.specs.Open.{ConnectionsSeen, FindSeen}
+use Rattle.mirror_finds.specs.Finds.FindInTurn.{Stopped}
 use Rattle.mirror_finds.specs.declared.finds.OpenFind.{OpenFind}
 use Rattle.mirror_run.specs.Events.{after_events}
 use Rattle.mirror_run.specs.SoFar.{MirrorOutside, MirrorOwn, passing_start}
 use Rattle.mirror_run.specs.State.{before_all}
 use Rattle.mirror_run.specs.State.Phase.{Beginning}
-use Rattle.mirror_run.specs.Steps.{Anyhow, FindIsDue, GivesOne, IsRunning, MayBegin, RunsSo, WithoutMemory, given_so, run_at, served_now}
+use Rattle.mirror_run.specs.Steps.{GivesOne, MayBegin, RunsSo, WithoutMemory, given_so, run_at, served_now}
 use Rattle.mirror_run.proofs.FindSteps.{find_begins, find_refused, first_refused}
 use Rattle.mirror_run.proofs.Views.{outside_of, own_of}
 use Rattle.mirror_serving.specs.declared.fate.FindFate.TheVariants.{NotSent}
-use Rattle.update_client.specs.Held.{Held, tokens_of}
+use Rattle.update_client.specs.Held.{tokens_of}
 use Rattle.mirror_run.proofs.RunFacts.{begins_same, some_same}
 use Rattle.mirror_run.proofs.finds.begin_find.Goals as goal
 

@@ -1,4 +1,4 @@
-use Rattle.std.proofs.Common.{sym, ap, subst, ◌∙◌}
+use Rattle.std.proofs.Common.{ap, subst, ◌∙◌}
 use Rattle.mirror_run.specs.SoFar.{MirrorOwn}
 use Rattle.mirror_run.specs.Steps.{MayBegin, MayNotBegin}
 use Rattle.mirror_run.specs.State.{waited_long}

@@ -1,18 +1,10 @@
-use Rattle.std.proofs.Common.{◌≡◌, ◌∷◌, ℕ, List, true, false, Option, Some, None, refl, sym, ap, ◌∙◌, subst, inl, inr}
-use Rattle.std.specs.Prelude.{is_some, IfSome, IsSome}
-use Rattle.mirror_connections.specs.Open.{ConnectionsSeen, FindSeen, WaitingSeen}
-use Rattle.mirror_finds.specs.Finds.FindInTurn.{Passed, Stopped}
-use Rattle.mirror_finds.specs.declared.finds.OpenFind.{OpenFind}
+use Rattle.std.proofs.Common.{false}
 use Rattle.mirror_run.specs.Events.{after_events}
-use Rattle.mirror_run.specs.SoFar.{MirrorOutside, MirrorOwn, passing_start}
 use Rattle.mirror_run.specs.State.{before_all}
 use Rattle.mirror_run.specs.State.Phase.{Beginning}
-use Rattle.mirror_run.specs.Steps.{Anyhow, FindIsDue, GivesOne, IsRunning, MayBegin, RunsSo, WithoutMemory, run_at, served_now}
+use Rattle.mirror_run.specs.Steps.{Anyhow, run_at}
 use Rattle.mirror_run.proofs.FindSteps.{first_refused}
 use Rattle.mirror_run.proofs.RunFacts.{because_not}
-use Rattle.mirror_run.proofs.Views.{outside_of, own_of}
-use Rattle.mirror_serving.specs.declared.fate.FindFate.TheVariants.{NotSent}
-use Rattle.update_client.specs.Held.{Held, tokens_of}
 use Rattle.mirror_run.proofs.finds.settle_first.Goals as goal
 
 pub returns-else-may_begin_find-clause-goes : goal.returns-else-may_begin_find-clause-goes

@@ -1,5 +1,4 @@
-use Rattle.std.proofs.Common.{◌≡◌, [], ℕ, List, Option, None, false, refl, sym, ap, ◌∙◌, subst}
-use Rattle.client_line.specs.Lines.{LineView}
+use Rattle.std.proofs.Common.{◌≡◌, ℕ, List, false, refl, sym, ap, ◌∙◌, subst}
 use Rattle.mirror_connections.specs.Open.{ConnectionsSeen}
 use Rattle.mirror_finds.specs.Finds.{FindsSeen}
 use Rattle.mirror_rounds.specs.Rounds.{MirrorSeen}

@@ -1,6 +1,6 @@
-use Rattle.std.proofs.Common.{◌≡◌, [], ℕ, List, refl, sym, ap, ◌∙◌, subst}
+use Rattle.std.proofs.Common.{[], ℕ, List, ap, ◌∙◌, subst}
 use Rattle.mirror_run.specs.SoFar.{MirrorOutside}
-use Rattle.mirror_run.proofs.Views.{outside_of, outside_same}
+use Rattle.mirror_run.proofs.Views.{outside_same}
 use Rattle.sb_model.specs.declared.names.ListName.{ListName}
 use Rattle.sb_outside.specs.Outside.{appended}
 use Rattle.update_run.specs.Opening.{HasLoaded}

@@ -1,4 +1,4 @@
-use Rattle.std.proofs.Common.{◌≡◌, [], ℕ, List, refl, sym, ap, ◌∙◌, subst}
+use Rattle.std.proofs.Common.{◌≡◌, [], List, sym, ap, ◌∙◌, subst}
 use Rattle.client_line.specs.Lines.{LineView}
 use Rattle.mirror_run.specs.Run.{BeginsWaiting, DrawsMirrorEpoch}
 use Rattle.mirror_run.specs.SoFar.{MirrorOutside}

@@ -1,11 +1,10 @@
-use Rattle.std.proofs.Common.{◌≡◌, ◌≢◌, ◌⊎◌, ◌||◌, ℕ, List, [], ◌∷◌, Bool, true, false, Option, Some, None, refl, sym, ap, ◌∙◌, subst, inl, inr}
-use Rattle.std.specs.Prelude.{is_some, IsSome, Err, Ok}
+use Rattle.std.proofs.Common.{◌≡◌, true, false, None, refl, sym, ap, ◌∙◌, subst}
+use Rattle.std.specs.Prelude.{is_some, Err, Ok}
 use Rattle.mirror_rounds.specs.Rounds.{MirrorSeen}
 use Rattle.mirror_run.specs.Events.{first_cause}
-use Rattle.mirror_run.specs.SoFar.{MirrorOutside, MirrorOwn, cause_of, rounds_start}
+use Rattle.mirror_run.specs.SoFar.{MirrorOutside, MirrorOwn, rounds_start}
 use Rattle.mirror_run.specs.State.Phase.{Beginning}
-use Rattle.mirror_run.specs.State.{told_wait}
-use Rattle.mirror_run.specs.Steps.{IsRunning, RunAt, RunsSo, own_round_is_due, run_at}
+use Rattle.mirror_run.specs.Steps.{RunsSo, own_round_is_due, run_at}
 use Rattle.mirror_run.specs.declared.stop.MirrorStop.TheVariants as stop
 use Rattle.update_run.specs.declared.stop.RunStop.TheVariants as run_stop
 use Rattle.mirror_run.proofs.Views.{outside_of, own_of}

@@ -1,4 +1,4 @@
-use Rattle.std.proofs.Common.{◌≡◌, ℕ, Some, None, refl, sym, ap, ◌∙◌, subst, inl, inr}
+use Rattle.std.proofs.Common.{Some, None, sym, ap, ◌∙◌, inl}
 use Rattle.mirror_run.specs.SoFar.{MirrorOwn}
 use Rattle.mirror_run.specs.State.Phase.{Finishing}
 use Rattle.mirror_run.specs.Steps.{run_at}

@@ -1,4 +1,4 @@
-use Rattle.std.proofs.Common.{◌≡◌, ◌+◌, ℕ, refl, sym, ap, ◌∙◌, subst, inl, inr, arith}
+use Rattle.std.proofs.Common.{inl, inr, arith}
 use Rattle.mirror_run.proofs.TurnSteps.{run_ends}
 use Rattle.mirror_run.proofs.running.take_turns.Goals as goal
 

@@ -1,4 +1,3 @@
-use Rattle.std.proofs.Common.{ℕ}
 use Rattle.mirror_run.specs.SoFar.{RunStart}
 use Rattle.mirror_run.specs.State.Phase.{Between}
 use Rattle.mirror_run.specs.Steps.{BeginsSo, RunsSo, run_at}

@@ -1,6 +1,5 @@
-use Rattle.std.proofs.Common.{◌≡◌, ◌∷◌, [], ℕ, List, Option, Some, None, true, refl, sym, ap, ◌∙◌, subst}
-use Rattle.mirror_connections.specs.Answered.{GivesWire}
-use Rattle.mirror_connections.specs.Over.{door_seen, DoorSeen}
+use Rattle.std.proofs.Common.{◌≡◌, ℕ, List, Option, true, refl, sym, ap, ◌∙◌, subst}
+use Rattle.mirror_connections.specs.Over.{door_seen}
 use Rattle.sb_outside.specs.declared.doors.Connection.{Connection}
 use Rattle.mirror_run.specs.Events.{first_cause}
 use Rattle.mirror_run.specs.SoFar.{MirrorOutside, MirrorOwn}

@@ -1,7 +1,7 @@
-use Rattle.std.proofs.Common.{◌≡◌, ◌<◌, ◌++◌, ◌∷◌, [], ℕ, List, Option, Some, None, length, refl, sym, ap, ◌∙◌, subst}
+use Rattle.std.proofs.Common.{◌≡◌, ◌<◌, ◌++◌, ◌∷◌, [], ℕ, Some, None, length, sym, ap, ◌∙◌, subst}
 use Rattle.mirror_connections.specs.Answered.{AnswersOne, GivesWire}
 use Rattle.mirror_connections.specs.Open.{wire_seen}
-use Rattle.mirror_connections.specs.Over.{door_seen, DoorSeen}
+use Rattle.mirror_connections.specs.Over.{door_seen}
 use Rattle.mirror_places.specs.Places.{Places}
 use Rattle.mirror_run.specs.Events.{after_events}
 use Rattle.mirror_run.specs.SoFar.{MirrorOutside, MirrorOwn}

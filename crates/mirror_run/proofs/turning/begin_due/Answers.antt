@@ -1,10 +1,4 @@
-use Rattle.std.proofs.Common.{◌≡◌, ℕ, true, false, None, refl, sym, ap, ◌∙◌, subst, inl, inr}
-use Rattle.std.specs.Prelude.{is_some}
-use Rattle.mirror_rounds.specs.Rounds.{MirrorSeen}
-use Rattle.mirror_run.specs.SoFar.{MirrorOwn}
-use Rattle.mirror_run.specs.State.Phase.{Beginning}
-use Rattle.mirror_run.specs.Steps.{is_due_at, run_at}
-use Rattle.mirror_rounds.specs.Rounds.{next_round_at}
+use Rattle.std.proofs.Common.{true, false, sym, ◌∙◌}
 use Rattle.mirror_run.proofs.TurnSteps.{all_begun, round_not_due, stopped_begun}
 use Rattle.mirror_run.proofs.turning.begin_due.Goals as goal
 

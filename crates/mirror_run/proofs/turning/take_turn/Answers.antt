@@ -1,6 +1,6 @@
-use Rattle.std.proofs.Common.{◌≡◌, ◌<◌, ◌+◌, ℕ, true, false, None, refl, sym, ap, ◌∙◌, subst}
-use Rattle.mirror_run.specs.SoFar.{MirrorOutside, MirrorOwn}
-use Rattle.mirror_run.specs.State.Phase.{Beginning, Between, Ending}
+use Rattle.std.proofs.Common.{◌+◌, sym, subst}
+use Rattle.mirror_run.specs.SoFar.{MirrorOutside}
+use Rattle.mirror_run.specs.State.Phase.{Between, Ending}
 use Rattle.mirror_run.specs.Steps.{RunsSo, run_at}
 use Rattle.mirror_run.proofs.TurnSteps.{turn_begins}
 use Rattle.mirror_run.proofs.Views.{outside_of}

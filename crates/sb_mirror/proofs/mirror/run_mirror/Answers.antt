@@ -1,4 +1,4 @@
-use Rattle.std.proofs.Common.{◌≡◌, Some, sym, ◌∙◌, subst, map, string_bytes}
+use Rattle.std.proofs.Common.{Some, sym, ◌∙◌, subst, map, string_bytes}
 use Rattle.mirror_words.specs.MirrorLine.{MirrorWords}
 use Rattle.sb_mirror.specs.Runs.{IsMirrorServed}
 use Rattle.sb_mirror.proofs.FewLists.{few_lists, one_line, serve_or_tell}
