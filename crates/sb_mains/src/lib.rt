@@ -2,7 +2,7 @@
 //! standard error.
 #![tactic(auto)]
 
-pub use objects::{ServerLink, ServerWatch, journal_at, link_to, store_at};
+pub use objects::{ServerLink, ServerWatch, journal_at, link_to, store_at, watch_of};
 pub use operator::Operator;
 pub use words::words_of;
 

@@ -48,6 +48,15 @@ impl<'a> LinkTeller for ServerWatch<'a> {
     }
 }
 
+/// Who is told of the server at an address, if there is one.
+pub fn watch_of<'a>(operator: Operator<'a>, address: &'a Option<Text>) -> ServerWatch<'a> {
+    let address = match address {
+        Some(address) => address.as_str(),
+        None => "",
+    };
+    ServerWatch { operator, address }
+}
+
 /// A link that tells its operator when the server goes out of reach and when it is back.
 pub type ServerLink<'a> = TcpLink<&'a HostRuntime, ServerWatch<'a>>;
 
@@ -58,13 +67,10 @@ pub fn link_to<'a>(
     operator: Operator<'a>,
     address: &'a Option<Text>,
 ) -> Result<ServerLink<'a>, OutOfMemory> {
+    let watch = watch_of(operator, address);
     let address = match address {
         Some(address) => Some(address.as_str()),
         None => None,
-    };
-    let watch = ServerWatch {
-        operator,
-        address: address.unwrap_or(""),
     };
     TcpLink::telling(rt, alloc, address, TcpLimits::STANDARD, watch)
 }

@@ -1,14 +1,13 @@
 //! Answers list clients from a journal: one request from its input, or connections at an address.
 #![tactic(auto)]
 
-use listening::{ServerDoor, door_at, tell_port};
+use door_main::{ServerDoor, door_at, limits_of, tell_port};
+use gathering::DoorLimits;
 use real_objects::{StdSink, StdSource, hold_descriptors};
 use sb_mains::{Operator, journal_at, words_of};
 use sb_model::OutOfMemory;
 use sb_service::{ServerTargets, run_server, server_targets};
 use std::process::ExitCode;
-
-mod listening;
 
 /// Runs the command that the words are, with this door.
 fn run_with(
@@ -38,7 +37,11 @@ fn run_with(
 /// answers is sent before it ends, whatever its status is.
 fn run(rt: &HostRuntime, operator: Operator<'_>, words: &[String]) -> Result<u8, OutOfMemory> {
     let targets = server_targets(rt.alloc(), words)?;
-    let mut door = door_at(rt, operator, &targets.listen, targets.room);
+    let limits = match &targets.room {
+        Some(room) => limits_of(room.peers, room.answers),
+        None => DoorLimits::STANDARD,
+    };
+    let mut door = door_at(rt, operator, &targets.listen, limits);
     if targets.listen.is_some() && !door.is_usable() {
         operator.tell_of("the address", &targets.listen, door.why());
         return Ok(9);

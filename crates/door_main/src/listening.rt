@@ -1,16 +1,15 @@
 use gathering::DoorLimits;
 use sb_mains::Operator;
 use sb_model::Text;
-use sb_service::DoorRoom;
 use std::fmt;
 use tcp_door::{DoorFault, Losses, TcpDoor, Teller};
 
-/// The door of this program, which tells its operator what is to be known at once.
-pub(crate) type ServerDoor<'a> = TcpDoor<&'a HostRuntime, DoorWatch<'a>>;
+/// The door of a server, which tells its operator what is to be known at once.
+pub type ServerDoor<'a> = TcpDoor<&'a HostRuntime, DoorWatch<'a>>;
 
 /// The address of the door that is told of, and who is told.
 #[derive(Clone, Copy)]
-pub(crate) struct DoorWatch<'a> {
+pub struct DoorWatch<'a> {
     operator: Operator<'a>,
     address: &'a str,
 }
@@ -44,28 +43,28 @@ impl<'a> Teller for DoorWatch<'a> {
     }
 }
 
-/// The limits of a door that has this room.
-fn limits_of(room: Option<DoorRoom>) -> DoorLimits {
-    let mut limits = DoorLimits::STANDARD;
-    if let Some(room) = room {
-        limits.connections = room.peers as usize;
-        limits.answer_bytes = u64::from(room.answers) * 1_048_576;
+/// The limits of a door at which so many connections are open at once, and so many MiB of answers wait to be taken, at most. All else is
+/// as [`DoorLimits::STANDARD`] has it.
+pub fn limits_of(peers: u32, answers: u32) -> DoorLimits {
+    DoorLimits {
+        connections: peers as usize,
+        answer_bytes: u64::from(answers) * 1_048_576,
+        ..DoorLimits::STANDARD
     }
-    limits
 }
 
-/// The door at an address. Without one, and where it cannot be had, each call fails.
-pub(crate) fn door_at<'a>(
+/// The door at an address, as in `127.0.0.1:80` or `[::1]:0`. Without an address, and if it cannot be had, each call fails.
+pub fn door_at<'a>(
     rt: &'a HostRuntime,
     operator: Operator<'a>,
     listen: &'a Option<Text>,
-    room: Option<DoorRoom>,
+    limits: DoorLimits,
 ) -> ServerDoor<'a> {
     match listen {
         Some(text) => {
             let address = text.as_str();
             let watch = DoorWatch { operator, address };
-            TcpDoor::bind(rt, rt.alloc(), address, limits_of(room), watch)
+            TcpDoor::bind(rt, rt.alloc(), address, limits, watch)
         }
         None => TcpDoor::unusable(
             rt,
@@ -77,8 +76,8 @@ pub(crate) fn door_at<'a>(
     }
 }
 
-/// Says which port the system chose, where an address leaves it to the system.
-pub(crate) fn tell_port(operator: Operator<'_>, listen: &Option<Text>, door: &ServerDoor<'_>) {
+/// Says which port the system chose, if an address leaves it to the system.
+pub fn tell_port(operator: Operator<'_>, listen: &Option<Text>, door: &ServerDoor<'_>) {
     let Some(text) = listen else {
         return;
     };
