@@ -1,0 +1,4 @@
+pub mod Response
+pub mod ResponseLaws
+pub mod HeardLook
+pub mod Told
