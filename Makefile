@@ -5,8 +5,8 @@
 
 SHELL := /bin/bash
 LIST := MALWARE/ANY_PLATFORM/URL
-PROGRAMS := sbupdate sbcheck sblistd sbjournal
-INSTALLED := sbupdate sbcheck sblistd sbjournal
+PROGRAMS := sbupdate sbcheck sblistd sbjournal sbmirror
+INSTALLED := sbupdate sbcheck sblistd sbjournal sbmirror
 BUILT := $(wildcard bin/sbupdate bin/sblistd)
 
 PREFIX ?= /usr/local
@@ -26,7 +26,7 @@ FRONTS := nginx-server.conf nginx-client.conf
 # What the units name, as it stands in deploy/, and where it is put
 PLACES := -e 's|/usr/bin/|$(BINDIR)/|g' -e 's|/usr/share/kestrelplumb/|$(DATADIR)/|g' -e 's|/etc/default/|$(SYSCONFDIR)/default/|g'
 
-.PHONY: all test check gate wrong-bodies install uninstall demo compare try-http try-run try-feeds try-slow try-memory try-faults try-readme bench
+.PHONY: all test check gate wrong-bodies install uninstall demo compare try-http try-run try-feeds try-slow try-memory try-faults try-readme try-mirror bench
 .PHONY: try-front try-units try-deb try-browser deb release clean
 
 all:
@@ -158,6 +158,11 @@ try-faults: all
 try-readme: all
 	python3 try/readme.py
 
+# Puts two mirrors in a row behind sblistd, and twenty clients behind them, while the journal grows and all but the server are killed and
+# started again. Then a mirror of a server that says nothing is asked. Up to eight minutes.
+try-mirror: all
+	python3 try/mirror.py
+
 # Times the programs, and looks at publications, which no command shows: a program of its own is proved and built for it.
 bench: all
 	python3 tools/build.py publication_looks
@@ -165,6 +170,7 @@ bench: all
 	python3 bench/lookups.py
 	python3 bench/door.py
 	python3 bench/workers.py
+	python3 bench/mirror.py
 
 clean:
 	rm -rf bin dist

@@ -32,8 +32,15 @@ ENDS = {
     "the client": ("sb_client", "Words and statuses of the client programs"),
     "the server": ("sb_service", "The list server"),
     "the maker": ("journal_run", "The program that makes journals"),
+    "the mirror": ("sb_mirror", "The program that mirrors lists"),
 }
-PROGRAMS = {"sbupdate": "the client", "sbcheck": "the client", "sblistd": "the server", "sbjournal": "the maker"}
+PROGRAMS = {
+    "sbupdate": "the client",
+    "sbcheck": "the client",
+    "sblistd": "the server",
+    "sbjournal": "the maker",
+    "sbmirror": "the mirror",
+}
 
 DECLARES = r"\b(?:fn|struct|enum|trait|type|const|static|mod)\s+{}\b|^\s*{}(?:\(|,|\s*\{{|\s*=|$)|pub use [^;]*\b{}\b"
 
@@ -233,7 +240,7 @@ def known_options():
 
 def statuses_of(end):
     text = Code.texts(ENDS[end][0], "specs", "antt")
-    found = re.search(r"^Is(?:Server|JournalRun)?Status status =(.*?)(?:^\S|\Z)", text, re.M | re.S)
+    found = re.search(r"^Is(?:Server|JournalRun|Mirror)?Status status =(.*?)(?:^\S|\Z)", text, re.M | re.S)
     return set(map(int, re.findall(r"status ≡ (\d+)", found[1]))) if found else set()
 
 

@@ -11,7 +11,8 @@ of the first heading of CHANGELOG.md.
 
 A table of options begins with "Option of" and the commands that have them, one of statuses with "Status of", and one of files
 with "File of". A column of printed lines, or of causes in them, has a head that ends with "of" and the commands that print
-them, and the column beside it that is no number says what they mean. A table of what stands on standard error begins with
+them, and the column beside it that is no number says what they mean. A command of which another program has the name too stands there
+behind its program, as `sbmirror serve`. A table of what stands on standard error begins with
 "Said of" and its object, and ends with the programs that say it. Each command of a usage text has exactly one table of statuses, and
 at least one column of lines unless it is in WITHOUT_LINES; its tables of options have each option of its line once, and they may
 have more that a command takes. docs/FORMATS.md has each usage text, word for word, and README.md has of each program the statuses
@@ -35,7 +36,11 @@ PROGRAMS = {
     "sbupdate": ("sb_client", "UPDATE_USAGE"),
     "sbcheck": ("sb_client", "CHECK_USAGE"),
     "sbjournal": ("journal_run", "USAGE"),
+    "sbmirror": ("sb_mirror", "USAGE"),
 }
+
+# the programs whose commands have the names of others' commands
+BEHIND_PROGRAM = ("sbmirror",)
 
 # a session reads files of the repository; whoever installed the programs has others
 OTHER_NAMES = {"demo/journal": "lists", "demo/request.json": "request", "demo/recording.jsonl": "recording", "bin/": ""}
@@ -86,6 +91,16 @@ NOTES = {
         "cut to nothing clears no list: an input without a URL is refused unless `--empty` is given.",
         "SIGTERM and SIGINT end it at once, and what it wrote may be cut: append it only if the status is 0.",
     ],
+    "sbmirror": [
+        "`serve` is a client of one server, and serves what it holds to further clients, with state tokens of its own. It keeps the store "
+        "that it is given as `sbupdate run` does, and waits for up to 60 seconds, at random, before its first request. No client waits for "
+        "its server: a fetch is answered at once from the lists that it holds, and a find waits for its own answer alone, for 5 seconds at most "
+        "before it is passed on.",
+        "With each start it draws a new epoch, so each client then gets its lists whole. While a list was never fetched, fetches have no item "
+        "for it, and clients keep what they have. It speaks plain HTTP to both sides: before a public mirror put a front that ends TLS.",
+        "SIGTERM and SIGINT end it at once: answers under way are cut, and a client asks again after its back-off. The store is the old or the new "
+        "one then.",
+    ],
 }
 
 
@@ -112,7 +127,9 @@ class Command:
 
     def __init__(self, line):
         self.line, self.sentence = line, ""
-        self.name = line.split()[1]
+        program, self.name = line.split()[:2]
+        # what the tables of docs/FORMATS.md call it
+        self.key = f"{program} {self.name}" if program in BEHIND_PROGRAM else self.name
 
     @property
     def options(self):
@@ -160,7 +177,7 @@ class Tables:
             head = table[0][0]
             for begins, tables in (("Option of ", self.options), ("Status of ", self.statuses), ("File of ", self.files)):
                 if head.startswith(begins):
-                    tables.append((re.findall(r"`([\w-]+)`", head), table[1:]))
+                    tables.append((re.findall(r"`([\w-]+(?: \w+)?)`", head), table[1:]))
             object_of = re.fullmatch(r"Said of (.*), by (`\w+`(?:, | and |`\w+`)*)", head)
             if object_of:
                 self.said.append((object_of[1], re.findall(r"`(\w+)`", object_of[2]), table[1:]))
@@ -171,11 +188,11 @@ class Tables:
     def gather_lines(self, table):
         """A column of printed lines or causes, with the column that says what they mean."""
         for at, head in enumerate(table[0]):
-            found = re.fullmatch(r"((?:Line|Cause|FAULT)\b.*?),? of ((?:`\w+`|, | and )+)", head)
+            found = re.fullmatch(r"((?:Line|Cause|FAULT)\b.*?),? of ((?:`[\w ]+`|, | and )+)", head)
             if found:
                 other = next(it for it in range(len(table[0])) if it != at and table[0][it] not in ("Order", "Number"))
                 rows = [(row[at], row[other]) for row in table[1:]]
-                self.lines.append((found[1], re.findall(r"`(\w+)`", found[2]), rows))
+                self.lines.append((found[1], re.findall(r"`([\w ]+)`", found[2]), rows))
 
     def lines_for(self, names):
         for name in names:
@@ -194,13 +211,13 @@ class Tables:
     def options_for(self, commands):
         known = check_documents.known_options()
         for command in commands:
-            named = [row[0].strip("`") for of, table in self.options if command.name in of for row in table]
+            named = [row[0].strip("`") for of, table in self.options if command.key in of for row in table]
             for option in sorted(set(named) | set(command.options)):
                 if named.count(option) != 1:
                     raise Fault(f"{FORMATS} tells {named.count(option)} times of the option {option} of {command.name}")
                 if option not in command.options and option not in known:
                     raise Fault(f"{FORMATS} tells of {option}, which {command.name} does not take")
-        names = [it.name for it in commands]
+        names = [it.key for it in commands]
         return [it for it in self.options if any(name in it[0] for name in names)]
 
 
@@ -249,7 +266,7 @@ def sentence(text):
 def option_lines(tables, commands):
     placed = {name: value for command in commands for name, value in command.options.items()}
     for of, rows in tables:
-        known = [it.name for it in commands if it.name in of]
+        known = [it.name for it in commands if it.key in of]
         yield f".SS \"{joined(known)}\""
         for row in rows:
             name = row[0].strip("`")
@@ -261,7 +278,7 @@ def option_lines(tables, commands):
 
 def status_lines(tables, names):
     for of, rows in tables:
-        yield f".SS \"{joined(it for it in of if it in names)}\""
+        yield f".SS \"{joined(it.split()[-1] for it in of if it in names)}\""
         for row in rows:
             yield from (".TP", f"\\fB{row[0]}\\fP", plain(sentence(row[1])))
             if len(row) > 2 and row[2]:
@@ -276,7 +293,7 @@ def joined(names):
 
 def output_lines(tables, commands):
     """What each command prints, and then the causes that stand in these lines."""
-    names = [it.name for it in commands]
+    names = [it.key for it in commands]
     for name in names:
         if name in WITHOUT_LINES:
             yield from (f".SS \"{name}\"", plain(sentence(WITHOUT_LINES[name])))
@@ -284,7 +301,7 @@ def output_lines(tables, commands):
         for head, of, rows in tables:
             if head.startswith("Line") != first:
                 continue
-            known = joined(it for it in of if it in names)
+            known = joined(it.split()[-1] for it in of if it in names)
             what = head.replace("Line", "Lines", 1) + ", of " if head != "Line" else ""
             yield f".SS \"{plain(what)}{known}\""
             for printed, means in rows:
@@ -366,7 +383,7 @@ def version_of(changes):
 def page_of(program, readme, formats):
     crate, constant = PROGRAMS[program]
     *commands, asking = entries_of(program, literal_of(crate, constant))
-    names = [it.name for it in commands]
+    names = [it.key for it in commands]
     tables = Tables(formats)
     about = re.match(r"//! (.*)", text_of(f"crates/{program}/src/main.rt"))[1].rstrip(".")
     others = [f"\\fB{it}\\fP(1)" for it in sorted(PROGRAMS) if it != program]
@@ -423,7 +440,7 @@ def faults_of_version():
 
 def faults_of_statuses(program, readme, formats):
     """README's table of statuses has for a program those of its commands."""
-    names = [it.name for it in commands_of(program, literal_of(*PROGRAMS[program]))]
+    names = [it.key for it in commands_of(program, literal_of(*PROGRAMS[program]))]
     wanted = {int(row[0]) for _, rows in Tables(formats).statuses_for(names) for row in rows}
     named = set()
     for table in check_documents.tables_of(readme.text):

@@ -12,7 +12,7 @@ for tool in dpkg-deb git; do
 done
 folder=$(mktemp -d)
 trap 'rm -rf "$folder"' EXIT
-readonly PROGRAMS=(sblistd sbupdate sbcheck sbjournal)
+readonly PROGRAMS=(sblistd sbupdate sbcheck sbjournal sbmirror)
 
 fail() {
   echo "try-deb: $1"

@@ -4,7 +4,7 @@
 A session is what stands between fences that are marked `console`. A line that begins with `$ ` is given to a shell, and the
 lines below it, up to the next such line, are what has to be printed before that one is given. All sessions run in a clean
 clone of the committed tree, with the programs of bin/ beside it. Moments (`at` and 13 digits) are not compared, and the
-port of the sessions is another one that nobody listens at. Prints each session, and fails at the first line that differs.
+ports of the sessions are others that nobody listens at. Prints each session, and fails at the first line that differs.
 """
 
 import difflib
@@ -20,8 +20,8 @@ import threading
 import time
 
 REPOSITORY = os.path.dirname(os.path.dirname(os.path.abspath(__file__)))
-PROGRAMS = ("sbupdate", "sbcheck", "sblistd", "sbjournal")
-PORT = "8080"
+PROGRAMS = ("sbupdate", "sbcheck", "sblistd", "sbjournal", "sbmirror")
+PORTS = ("8080", "8081")
 # a client waits for up to 60 seconds before its first request, and two may do so one after the other
 LONGEST = 150
 QUIET = 0.5
@@ -44,6 +44,16 @@ def free_port():
     with socket.socket() as one:
         one.bind(("127.0.0.1", 0))
         return str(one.getsockname()[1])
+
+
+def free_ports():
+    """A free port for each of the sessions, no two alike."""
+    found = []
+    while len(found) < len(PORTS):
+        port = free_port()
+        if port not in found:
+            found.append(port)
+    return found
 
 
 class Shell:
@@ -90,14 +100,20 @@ def shown(line):
     return MOMENT.sub("at MOMENT", line)
 
 
-def run(steps, folder, port):
+def with_ports(text, old, new):
+    for one, other in zip(old, new):
+        text = text.replace(one, other)
+    return text
+
+
+def run(steps, folder, ports):
     """Whether a session prints what it is to print."""
     shell = Shell(folder)
     try:
         for command, wanted in steps:
             print(f"$ {command}", flush=True)
-            shell.give(command.replace(PORT, port))
-            found = [shown(it.replace(port, PORT)) for it in shell.take(len(wanted))]
+            shell.give(with_ports(command, PORTS, ports))
+            found = [shown(with_ports(it, ports, PORTS)) for it in shell.take(len(wanted))]
             wanted = list(map(shown, wanted))
             if found != wanted:
                 print("\n".join(difflib.unified_diff(wanted, found, "README.md", "printed", lineterm="")))
@@ -120,7 +136,7 @@ def main():
         subprocess.run(["git", "clone", "--quiet", REPOSITORY, clone], check=True)
         shutil.copytree(os.path.join(REPOSITORY, "bin"), os.path.join(clone, "bin"))
         for steps in sessions:
-            if not run(steps, clone, free_port()):
+            if not run(steps, clone, free_ports()):
                 print("try-readme: a session prints something else", file=sys.stderr)
                 return 1
     print(f"all {len(sessions)} sessions of README.md print what stands there")

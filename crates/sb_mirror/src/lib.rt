@@ -4,8 +4,10 @@
 
 pub use mirror::{USAGE, run_mirror};
 pub use targets::{MirrorRoom, MirrorTargets, mirror_targets};
+pub use world::mirror_world;
 
 mod mirror;
 mod serving;
 mod targets;
 mod telling;
+mod world;
