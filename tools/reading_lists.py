@@ -31,6 +31,7 @@ CALLS = (
     ("run_server", "sb_service", "src/service.rt"),
     ("serve_connection", "sb_service", "src/connection.rt"),
     ("run_journal", "journal_run", "src/run.rt"),
+    ("run_mirror", "sb_mirror", "src/mirror.rt"),
     ("answer_mirror", "mirror_places", "src/answering.rt"),
     ("follow", "mirror_places", "src/following.rt"),
 )
