@@ -93,7 +93,7 @@ NOTES = {
     ],
     "sbmirror": [
         "`serve` is a client of one server, and serves what it holds to further clients, with state tokens of its own. It keeps the store "
-        "that it is given as `sbupdate run` does, and waits for up to 60 seconds, at random, before its first request. No client waits for "
+        "that it is given as `sbupdate run` does, and waits for up to 60 seconds, at random, before its first request. No update waits for "
         "its server: a fetch is answered at once from the lists that it holds, and a find waits for its own answer alone, for 5 seconds at most "
         "before it is passed on.",
         "With each start it draws a new epoch, so each client then gets its lists whole. While a list was never fetched, fetches have no item "
