@@ -28,12 +28,19 @@ pub fn connect_within<R: Net<Stream = TcpStream> + time::Clock, A: ToSocketAddrs
     Err(last)
 }
 
+// a call whose time is up says that it would block
 fn not_read(error: io::Error) -> Why {
-    Why::system("cannot be read", error)
+    match error.kind() {
+        ErrorKind::WouldBlock => Why::refusal("has sent nothing within its time"),
+        _ => Why::system("cannot be read", error),
+    }
 }
 
 fn not_written(error: io::Error) -> Why {
-    Why::system("cannot be written", error)
+    match error.kind() {
+        ErrorKind::WouldBlock => Why::refusal("has taken nothing within its time"),
+        _ => Why::system("cannot be written", error),
+    }
 }
 
 /// One read within the term. If it is interrupted, it is made again.
