@@ -1,0 +1,3 @@
+pub mod Over
+pub mod Held
+pub mod Steps
