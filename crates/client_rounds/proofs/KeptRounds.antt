@@ -3,8 +3,8 @@ use Rattle.std.proofs.Common.{◌≡◌, ◌+◌, ℕ, List, [], ◌∷◌, ◌+
 use Rattle.std.specs.Prelude.{Result, Ok, Err, IfErr, IfOk, OnOk}
 use Rattle.std.proofs.lemmas.List.{append-nil, length-append}
 use Rattle.client_line.specs.Lines.{LineView}
-use Rattle.client_rounds.specs.Ended.{EndsClientRound, IsToldOf, StopsClientRound, StopsClientTelling, round_view}
-use Rattle.client_rounds.specs.Rounds.{ClientSeen, ClientStart, HasKeptRounds, IsOpenSince}
+use Rattle.client_rounds.specs.Ended.{EndsClientRound, IsClientToldOf, StopsClientRound, StopsClientTelling, client_round_view}
+use Rattle.client_rounds.specs.Rounds.{ClientSeen, ClientStart, HasKeptRounds, IsClientOpenSince}
 use Rattle.client_rounds.specs.declared.rounds.ClientRoundTold.{ClientRoundTold}
 use Rattle.sb_model.specs.declared.time.Moment.{Moment}
 use Rattle.sb_outside.specs.Outside.{appended}
@@ -43,7 +43,7 @@ same_end end lists round h k = ap (λ begun. end_with begun end.taken) h ∙ ap 
 pub open_session : (plan : Plan) (start : ClientStart) (rounds : List Round) (now : ClientSeen) (line : LineView) (keeper : Keeping) (opening : Opening)
     → now.opened ≡ Some opening → (has : HasKeptRounds plan start rounds now line keeper)
     → IsOpenRound now.state.waits plan.target (round_body_asked now.state.lists plan.options) has.between line opening
-open_session plan start rounds now line keeper opening is has = subst (λ (o : Option Opening). IsOpenSince plan now.state has.between line o) is has.session
+open_session plan start rounds now line keeper opening is has = subst (λ (o : Option Opening). IsClientOpenSince plan now.state has.between line o) is has.session
 
 -- ---- and once its answer is taken
 
@@ -69,9 +69,9 @@ module _ (go : GoesOnWithRounds) (saves : GoesOnWithSaves) (plan : Plan) (start 
     number_is = ap (λ (n : ℕ). n + 1) has.count
 
     round_ended : (told : ClientRoundTold) (output output' : Option (List ℕ))
-        → IsToldOf end told → HasSaved (saved_after end.taken state.lists) keeper keeper'
+        → IsClientToldOf end told → HasSaved (saved_after end.taken state.lists) keeper keeper'
         → output' ≡ appended output (told_end (now.over + 1) state.lists end)
-        → EndsClientRound plan start rounds now (record { state = state; over = now.over + 1; opened = None }) (round_view line keeper output) (round_view line' keeper' output') told
+        → EndsClientRound plan start rounds now (record { state = state; over = now.over + 1; opened = None }) (client_round_view line keeper output) (client_round_view line' keeper' output') told
     round_ended told output output' is saved text = record {
       round = made.round;
       has = record {
@@ -85,12 +85,12 @@ module _ (go : GoesOnWithRounds) (saves : GoesOnWithSaves) (plan : Plan) (start 
       closed = refl;
       text = subst (λ (e : RoundEnd). output' ≡ appended output (told_end (length rounds + 1) state.lists e)) end_is
           (subst (λ (n : ℕ). output' ≡ appended output (told_end n state.lists end)) number_is text);
-      told_is = subst (λ (e : RoundEnd). IsToldOf e told) end_is is;
+      told_is = subst (λ (e : RoundEnd). IsClientToldOf e told) end_is is;
     }
 
     round_stopped : (why : RunStop) (output output' : Option (List ℕ))
         → StopsClientTelling why (now.over + 1) end state.lists keeper keeper' output output'
-        → StopsClientRound why plan start rounds now (round_view line keeper output) (round_view line' keeper' output')
+        → StopsClientRound why plan start rounds now (client_round_view line keeper output) (client_round_view line' keeper' output')
     round_stopped why output output' stops = inl (record {
       round = made.round;
       state = state;
@@ -100,14 +100,14 @@ module _ (go : GoesOnWithRounds) (saves : GoesOnWithSaves) (plan : Plan) (start 
     })
 
     pub ended_if : (result : Result ClientRoundTold RunStop) (output output' : Option (List ℕ))
-        → IfOk result (λ told. IsToldOf end told) → OnOk result (HasSaved (saved_after end.taken state.lists) keeper keeper')
+        → IfOk result (λ told. IsClientToldOf end told) → OnOk result (HasSaved (saved_after end.taken state.lists) keeper keeper')
         → OnOk result (output' ≡ appended output (told_end (now.over + 1) state.lists end))
-        → IfOk result (λ told. EndsClientRound plan start rounds now (record { state = state; over = now.over + 1; opened = None }) (round_view line keeper output) (round_view line' keeper' output') told)
+        → IfOk result (λ told. EndsClientRound plan start rounds now (record { state = state; over = now.over + 1; opened = None }) (client_round_view line keeper output) (client_round_view line' keeper' output') told)
     ended_if (Ok told) output output' is saved text = round_ended told output output' is saved text
     ended_if (Err why) output output' is saved text = tt
 
     pub stopped_if : (result : Result ClientRoundTold RunStop) (output output' : Option (List ℕ))
         → IfErr result (λ why. StopsClientTelling why (now.over + 1) end state.lists keeper keeper' output output')
-        → IfErr result (λ why. StopsClientRound why plan start rounds now (round_view line keeper output) (round_view line' keeper' output'))
+        → IfErr result (λ why. StopsClientRound why plan start rounds now (client_round_view line keeper output) (client_round_view line' keeper' output'))
     stopped_if (Ok told) output output' stops = tt
     stopped_if (Err why) output output' stops = round_stopped why output output' stops

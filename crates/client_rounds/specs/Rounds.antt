@@ -22,9 +22,9 @@ pub record ClientStart : Type 0 where
   pub keeper : Keeping
 
 -- Between two moments a line was left alone if no round is open. If one is, its beginning is all that was done there.
-abbrev pub IsOpenSince : Plan → RoundState → (before after : LineView) → Option Opening → Type 0
-IsOpenSince plan state before after None = after ≡ before
-IsOpenSince plan state before after (Some opening) =
+abbrev pub IsClientOpenSince : Plan → RoundState → (before after : LineView) → Option Opening → Type 0
+IsClientOpenSince plan state before after None = after ≡ before
+IsClientOpenSince plan state before after (Some opening) =
     IsOpenRound state.waits plan.target (round_body_asked state.lists plan.options) before after opening
 
 -- These are the rounds that a client has ended since it began. One more may be open. The keeper has the lists of each round that installed
@@ -32,26 +32,26 @@ IsOpenSince plan state before after (Some opening) =
 pub record HasKeptRounds (plan : Plan) (start : ClientStart) (rounds : List Round) (now : ClientSeen) (line : LineView) (keeper : Keeping) : Type 0 where
   pub between : LineView
   pub made : MakesRounds start.state now.state plan.options plan.target plan.need_digest start.line.told between.told rounds
-  pub session : IsOpenSince plan now.state between line now.opened
+  pub session : IsClientOpenSince plan now.state between line now.opened
   pub count : now.over ≡ length rounds
   pub saved : HasSaved (saved_lists start.state.lists rounds) start.keeper keeper
 
 -- the beginning of a client that is now as it then was
-abbrev pub start_at : ClientSeen → LineView → Keeping → ClientStart
-start_at now line keeper = record { state = now.state; line = line; keeper = keeper }
+abbrev pub client_start_at : ClientSeen → LineView → Keeping → ClientStart
+client_start_at now line keeper = record { state = now.state; line = line; keeper = keeper }
 
 -- ---- what a round needs before it is ended
 
 -- A round is open, and from some moment on its beginning is all that was done on the line.
-abbrev pub HasRoundOpen : Plan → ClientSeen → LineView → Type 0
-HasRoundOpen plan now line = (before : LineView) × (opening : Opening) × (now.opened ≡ Some opening) × IsOpenSince plan now.state before line (Some opening)
+abbrev pub HasClientRoundOpen : Plan → ClientSeen → LineView → Type 0
+HasClientRoundOpen plan now line = (before : LineView) × (opening : Opening) × (now.opened ≡ Some opening) × IsClientOpenSince plan now.state before line (Some opening)
 
 -- From some moment on the beginning of this session is all that was done on the line, and it is a round of these lists.
-abbrev pub HasRoundBegun : Plan → RoundState → LineView → Opening → Type 0
-HasRoundBegun plan state line opening = (before : LineView) × IsOpenSince plan state before line (Some opening)
+abbrev pub HasClientRoundBegun : Plan → RoundState → LineView → Opening → Type 0
+HasClientRoundBegun plan state line opening = (before : LineView) × IsClientOpenSince plan state before line (Some opening)
 
 -- ---- when a round is due
 
 -- the moment from which a client that makes so many rounds may begin its next one: none while one is open, and none after the last
-abbrev pub next_round_at : ℕ → ClientSeen → Option Moment
-next_round_at most now = if is_some now.opened || nat_le most now.over then None else Some now.state.waits.allowed_at
+abbrev pub next_client_round_at : ℕ → ClientSeen → Option Moment
+next_client_round_at most now = if is_some now.opened || nat_le most now.over then None else Some now.state.waits.allowed_at

@@ -1,6 +1,6 @@
 ghost use Rattle.std.specs.Prelude.{◌≡◌, IfOk, OnErr};
 ghost use Rattle.client_line.specs.Lines.{LineView};
-ghost use Rattle.client_rounds.specs.Rounds.{HasRoundBegun};
+ghost use Rattle.client_rounds.specs.Rounds.{HasClientRoundBegun};
 ghost use Rattle.sb_round.specs.Round.{round_body_asked, round_state, HoldsRoundSession, IsOpenRound, MakesRound};
 
 use client_line::Line;
@@ -21,7 +21,7 @@ pub(crate) fn take_answer<N: Line>(
     waits: &mut WaitState,
     line: &mut N,
 ) -> Result<RoundEnd, OutOfMemory>
-    requires session { HasRoundBegun plan.now (round_state lists.old waits.old) (N.view line.old) opening }
+    requires session { HasClientRoundBegun plan.now (round_state lists.old waits.old) (N.view line.old) opening }
     ensures made { (before : LineView) → IsOpenRound waits.old plan.now.target (round_body_asked lists.old plan.now.options) before (N.view line.old) opening
         → IfOk result (λ end. MakesRound (round_state lists.old waits.old) (round_state lists.new waits.new)
         plan.now.options plan.now.target plan.now.need_digest before.told (N.view line.new).told end) }

@@ -1,7 +1,7 @@
 ghost use Rattle.std.specs.Prelude.{◌≡◌, ◌≢◌, ◌≤◌, ◌<◌, List, [], None, is_some, IfErr, IfOk, OnErr, OnOk, IsErrOf, Err};
 ghost use Rattle.client_line.specs.Lines.{LineView};
-ghost use Rattle.client_rounds.specs.Ended.{round_view, EndsClientRound, StopsClientRound};
-ghost use Rattle.client_rounds.specs.Rounds.{next_round_at, start_at, ClientStart, HasKeptRounds, HasRoundOpen};
+ghost use Rattle.client_rounds.specs.Ended.{client_round_view, EndsClientRound, StopsClientRound};
+ghost use Rattle.client_rounds.specs.Rounds.{next_client_round_at, client_start_at, ClientStart, HasKeptRounds, HasClientRoundOpen};
 ghost use Rattle.http_edge.specs.Exchanges.{IsTarget};
 ghost use Rattle.sb_outside.specs.Outside.{Rose};
 ghost use Rattle.sb_round.specs.Round.{Round, round_state, BreaksOff};
@@ -55,7 +55,7 @@ impl ClientRounds {
     pub fn new(lists: ClientLists, waits: WaitState) -> ClientRounds
         ensures first { result ≡ record { state = round_state lists waits; over = 0; opened = None } }
         ensures begins { (plan : Plan) (line : LineView) (keeper : Keeping)
-            → HasKeptRounds plan (start_at result line keeper) [] result line keeper }
+            → HasKeptRounds plan (client_start_at result line keeper) [] result line keeper }
     {
         rounds_go_on();
         saves_go_on();
@@ -83,7 +83,7 @@ impl ClientRounds {
 
     /// The moment from which its next round may begin, if it makes so many: `None` while one is open, and after the last.
     pub fn next_at(&self, most: u32) -> Option<Moment>
-        ensures { result ≡ next_round_at most self.now }
+        ensures { result ≡ next_client_round_at most self.now }
     {
         if self.opened.is_some() || self.over >= most {
             return None;
@@ -106,7 +106,7 @@ impl ClientRounds {
         ensures begun { (start : ClientStart) (rounds : List Round) (keeper : Keeping)
             → HasKeptRounds plan.now start rounds self.old (N.view line.old) keeper
             → OnOk result (HasKeptRounds plan.now start rounds self.new (N.view line.new) keeper) }
-        ensures opened { OnOk result (HasRoundOpen plan.now self.new (N.view line.new)) }
+        ensures opened { OnOk result (HasClientRoundOpen plan.now self.new (N.view line.new)) }
         ensures broken_off { OnErr result (BreaksOff self.old.state.lists self.old.state.waits plan.now.options plan.now.target
             (N.view line.old).told (N.view line.new).told) }
         ensures state { self.new.state ≡ self.old.state }
@@ -146,20 +146,20 @@ impl ClientRounds {
         keep: &mut K,
         line: &mut N,
     ) -> Result<ClientRoundTold, RunStop>
-        requires session { HasRoundOpen plan.now self.old (N.view line.old) }
+        requires session { HasClientRoundOpen plan.now self.old (N.view line.old) }
         requires more { self.old.over < plan.now.rounds }
 
         // Whatever rounds were made before, this is one more of them, or the client stopped in it.
         ensures ended { (start : ClientStart) (rounds : List Round)
             → HasKeptRounds plan.now start rounds self.old (N.view line.old) (keeping (K.handed keep.old) (K.kept keep.old))
             → IfOk result (EndsClientRound plan.now start rounds self.old self.new
-            (round_view (N.view line.old) (keeping (K.handed keep.old) (K.kept keep.old)) (O.contents out.old))
-            (round_view (N.view line.new) (keeping (K.handed keep.new) (K.kept keep.new)) (O.contents out.new))) }
+            (client_round_view (N.view line.old) (keeping (K.handed keep.old) (K.kept keep.old)) (O.contents out.old))
+            (client_round_view (N.view line.new) (keeping (K.handed keep.new) (K.kept keep.new)) (O.contents out.new))) }
         ensures stopped { (start : ClientStart) (rounds : List Round)
             → HasKeptRounds plan.now start rounds self.old (N.view line.old) (keeping (K.handed keep.old) (K.kept keep.old))
             → IfErr result (λ stop. StopsClientRound stop plan.now start rounds self.old
-            (round_view (N.view line.old) (keeping (K.handed keep.old) (K.kept keep.old)) (O.contents out.old))
-            (round_view (N.view line.new) (keeping (K.handed keep.new) (K.kept keep.new)) (O.contents out.new))) }
+            (client_round_view (N.view line.old) (keeping (K.handed keep.old) (K.kept keep.old)) (O.contents out.old))
+            (client_round_view (N.view line.new) (keeping (K.handed keep.new) (K.kept keep.new)) (O.contents out.new))) }
         ensures closed { self.new.opened ≡ None }
 
         // A fault is counted, and nothing else is.

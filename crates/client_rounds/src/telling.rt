@@ -1,6 +1,6 @@
 ghost use Rattle.std.specs.Prelude.{◌≡◌, ◌≢◌, IfErr, IfOk, OnOk, IsErrOf, Err, is_ok};
 ghost use Rattle.std.specs.List.{list_any};
-ghost use Rattle.client_rounds.specs.Ended.{IsToldOf, StopsClientTelling};
+ghost use Rattle.client_rounds.specs.Ended.{IsClientToldOf, StopsClientTelling};
 ghost use Rattle.sb_outside.specs.Outside.{Rose, appended};
 ghost use Rattle.sb_round.specs.declared.rounds.Taken.{Taken as TakenUpdate};
 ghost use Rattle.update_client.specs.Step.{is_installed, is_refused};
@@ -58,7 +58,7 @@ pub(crate) fn tell_and_save<O: Sink, K: Keeper>(
     out: &mut O,
     keep: &mut K,
 ) -> Result<ClientRoundTold, RunStop>
-    ensures told { IfOk result (IsToldOf end.now) }
+    ensures told { IfOk result (IsClientToldOf end.now) }
     ensures saved { OnOk result (HasSaved (saved_after end.now.taken lists.now) (keeping (K.handed keep.old) (K.kept keep.old))
         (keeping (K.handed keep.new) (K.kept keep.new))) }
     ensures text { OnOk result (O.contents out.new ≡ appended (O.contents out.old) (told_end number lists.now end.now)) }
