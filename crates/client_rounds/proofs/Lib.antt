@@ -1,0 +1,2 @@
+mod KeptRounds
+mod Ways
