@@ -1,10 +1,11 @@
 -- The events of a desk, and one more.
-use Rattle.std.proofs.Common.{◌≡◌, ℕ, ◌≤◌, List, [], ◌∷◌, ◌++◌, Bool, Option, Some, None, Result, Ok, Err, inl, inr, refl, sym, ap, ◌∙◌, subst, append_assoc}
+use Rattle.std.proofs.Common.{◌≡◌, ℕ, ◌≤◌, List, [], ◌∷◌, ◌++◌, length, Bool, Option, Some, None, Result, Ok, Err, inl, inr, refl, sym, ap, ◌∙◌, subst, append_assoc}
 use Rattle.std.specs.Prelude.{◌⊎◌, IfSome, OnErr}
 use Rattle.std.proofs.lemmas.List.{append-nil}
 use Rattle.sb_model.specs.declared.time.Moment.{Moment}
 use Rattle.sb_outside.specs.Outside.{IfTold}
 use Rattle.sb_outside.specs.declared.links.Session.{Session}
+use Rattle.hash_messages.specs.Messages.{AskedHashes}
 use Rattle.hash_messages.specs.declared.response.FindResponse.{FindResponse}
 use Rattle.http_edge.specs.declared.messages.Target.{Target}
 use Rattle.wait_rules.specs.declared.waits.WaitState.{WaitState}
@@ -16,14 +17,14 @@ use Rattle.timed_sessions.specs.Told.{Outside, Trace, Grows, no_trace, then_trac
 use Rattle.timed_sessions.specs.Law.{GoesOnWithTrace}
 use Rattle.timed_sessions.specs.Timed.{TellsSession, TimedSession, moments_after, trace_after, trace_of, waits_from}
 use Rattle.timed_sessions.specs.Waiting.{drawn_of}
-use Rattle.url_checker.specs.Hits.{AreAskable}
+use Rattle.url_checker.specs.Hits.{prefixes_hit, AreAskable}
 use Rattle.url_checker.specs.Looking.{IsOpenFind}
 use Rattle.url_checker.specs.Resolving.{find_body_asked, looked_up_pairs, trace_of_reading}
 use Rattle.url_checker.specs.Several.{asked_find, MakesFindFor}
 use Rattle.url_checker.specs.declared.findings.Hit.{Hit}
 use Rattle.url_checker.specs.declared.finds.Finds.{Finds}
 use Rattle.url_checker.specs.declared.looking.Looks.{Looks}
-use Rattle.find_desk.specs.Desk.{looked_up, AreFirstAsked, BreaksOffAsking, DeskSeen, DeskStart, EndsDeskFind, HasBegunAsking, HasKeptDesk, IsAskingSince, StopsAtItsBeginning, StopsAtItsEnd}
+use Rattle.find_desk.specs.Desk.{looked_up, AreFirstAsked, BreaksOffAsking, DeskSeen, DeskStart, EndsDeskFind, HasBegunAsking, HasDeskOpen, HasKeptDesk, IsAskingSince, StopsAtItsBeginning, StopsAtItsEnd}
 use Rattle.find_desk.specs.Events.{AreDeskEvents, BrokenFind, BrokenSession, DeskEvent, DeskKeepsToWaits, Forgot, Found, IsBrokenSession, IsDeskEvent, LookedUp, MadeFind, Stopped, kept_after_event, kept_after_events, session_of_broken, session_of_event, trace_of_broken, trace_of_event, trace_of_events, waits_after_event, waits_after_events}
 use Rattle.find_desk.specs.declared.desk.OpenDeskFind.{OpenDeskFind}
 
@@ -171,13 +172,23 @@ told_of_session waits session before after tells = record {
 
 -- ---- a find that was ended
 
+some_same : {A : Type 0} (x y : A) → Some x ≡ Some y → x ≡ y
+some_same x y is = cc
+
+-- how many prefixes it asked for
+pub asked_prefixes : (target : Target) (now : DeskSeen) (line : LineView) (find : OpenDeskFind) → now.opened ≡ Some find → HasDeskOpen target now line
+    → length find.find.request.prefixes ≡ length (prefixes_hit find.asked)
+asked_prefixes target now line find is has =
+    subst (λ (it : OpenDeskFind). length it.find.request.prefixes ≡ length (prefixes_hit it.asked)) (some_same has.1 find (sym has.2 ∙ is))
+    (ap (λ (request : AskedHashes). length request.prefixes) has.3.opened.request)
+
 pub has_ended : GoesOnWithTrace → (target : Target) (need : Bool) (start : DeskStart) (events : List DeskEvent) (finds finds' : Finds) (opened : Option OpenDeskFind) (line line' : LineView)
-    (find : OpenDeskFind) (answer : Result FindResponse Cause)
+    (find : OpenDeskFind) (answer : Result FindResponse Cause) (prefixes : ℕ) (at : Moment)
     → opened ≡ Some find → HasKeptDesk target need start events (seen finds.cache finds.waits opened) line
     → ((before : LineView) → IsOpenFind find.states target find.now find.asked finds.waits before line find.find
     → MakesFindFor (asked_find find.states target need find.now find.asked) finds finds' before.told line'.told answer)
-    → EndsDeskFind target need start events (seen finds'.cache finds'.waits None) line' find (record { asked = find.asked; answer = answer })
-has_ended go target need start events finds finds' opened line line' find answer is has makes =
+    → EndsDeskFind target need start events (seen finds'.cache finds'.waits None) line' find (record { asked = find.asked; prefixes = prefixes; at = at; answer = answer })
+has_ended go target need start events finds finds' opened line line' find answer prefixes at is has makes =
     let begun : HasBegunAsking target finds.waits has.between line find = subst (λ open_find. IsAskingSince target finds.waits has.between line open_find) is has.session in
     let it = makes begun.between begun.opened in
     let one : MadeFind = record { states = find.states; asked = find.asked; now = find.now; talk = it.talk } in

@@ -1,5 +1,5 @@
 -- The verdicts of a desk: each goes back to one look, and, if that left hits open, to one find after it that asked for all of them.
-use Rattle.std.specs.Prelude.{◌≡◌, ◌⊎◌, List, ◌∷◌, ◌++◌, take, All, Contains, Err}
+use Rattle.std.specs.Prelude.{◌≡◌, ◌⊎◌, Bool, true, false, List, ◌∷◌, ◌++◌, take, All, Contains, Err}
 use Rattle.find_desk.specs.Desk.{DeskStart, looked_up}
 use Rattle.find_desk.specs.Events.{DeskEvent, Found, MadeFind, kept_after_events, waits_after_events}
 use Rattle.find_desk.specs.declared.desk.EndedFind.{EndedFind}
@@ -12,6 +12,7 @@ use Rattle.url_checker.specs.declared.looking.Looks.{Looks}
 use Rattle.url_checker.specs.declared.several.Together.{Together}
 use Rattle.verdict_report.specs.declared.verdicts.Cause.TheVariants.{NotBefore}
 use Rattle.verdict_report.specs.declared.verdicts.Verdict.{Verdict}
+use Rattle.verdict_report.specs.declared.verdicts.Verdict.TheVariants.{Safe, Unsafe, Undecided}
 
 -- One of these events is that these hits were looked up, and this is what was said of them.
 pub record IsLookIn (start : DeskStart) (events : List DeskEvent) (hits : List Hit) (look : Looks) : Type 0 where
@@ -76,6 +77,32 @@ pub record IsVerdictIn (start : DeskStart) (events : List DeskEvent) (hits : Lis
   pub splits : events ≡ before ++ looked_up now hits ∷ after
   pub is : IsByKept (waits_after_events start.waits events).allowed_at (kept_after_events start.kept before) now hits verdict
       ⊎ IsByFind after (kept_after_events start.kept before) now hits verdict
+
+-- whether a verdict leaves hits open
+abbrev pub is_left_undecided : Verdict → Bool
+is_left_undecided Safe = false
+is_left_undecided (Unsafe lists) = false
+is_left_undecided (Undecided cause) = true
+
+-- The verdict on hits by a find: they were looked up before it, it asked for each of them that was left open, and this is the verdict by its
+-- answer.
+pub record IsVerdictByFind (start : DeskStart) (events : List DeskEvent) (hits : List Hit) (one : MadeFind) (verdict : Verdict) : Type 0 where
+  pub before : List DeskEvent
+  pub after : List DeskEvent
+  pub now : Moment
+  pub splits : events ≡ before ++ looked_up now hits ∷ after
+  pub found : Contains after (Found one)
+  pub asked : All (λ hit. Contains one.asked hit) (hits_asked (kept_after_events start.kept before) now hits)
+  pub verdict_is : verdict ≡ verdict_by (kept_after_events start.kept before) now one.talk.answer hits
+
+-- The verdict on hits by a look alone: hits that it left open are open, until some moment at which a find may be sent.
+pub record IsVerdictByLook (start : DeskStart) (events : List DeskEvent) (hits : List Hit) (verdict : Verdict) : Type 0 where
+  pub before : List DeskEvent
+  pub after : List DeskEvent
+  pub now : Moment
+  pub splits : events ≡ before ++ looked_up now hits ∷ after
+  pub allowed : Moment
+  pub verdict_is : IsByKept allowed (kept_after_events start.kept before) now hits verdict
 
 -- A find of the desk was ended and given back so.
 pub record IsEndOf (one : MadeFind) (ended : EndedFind) : Type 0 where

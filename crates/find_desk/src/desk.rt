@@ -1,8 +1,8 @@
-ghost use Rattle.std.specs.Prelude.{◌≡◌, ◌≤◌, ◌<◌, Bool, List, [], ◌∷◌, ◌++◌, Some, None, is_some, length, IfOk, IfSome, OnErr, OnOk};
+ghost use Rattle.std.specs.Prelude.{◌≡◌, ◌≤◌, ◌<◌, Bool, false, List, [], ◌∷◌, ◌++◌, Some, None, is_some, length, IfOk, IfSome, OnErr, OnOk};
 ghost use Rattle.client_line.specs.Lines.{LineView};
 ghost use Rattle.find_desk.specs.Desk.{desk_start, looked_up, BreaksOffAsking, DeskStart, EndsDeskFind, HasBegunAsking, HasDeskOpen, HasKeptDesk, StopsAtItsBeginning, StopsAtItsEnd};
 ghost use Rattle.find_desk.specs.Events.{DeskEvent, Forgot};
-ghost use Rattle.find_desk.specs.Verdicts.{IsLookIn, IsVerdictIn};
+ghost use Rattle.find_desk.specs.Verdicts.{is_left_undecided, IsLookIn, IsVerdictByLook, IsVerdictIn};
 ghost use Rattle.hash_messages.specs.Messages.{most_prefixes};
 ghost use Rattle.http_edge.specs.Exchanges.{IsTarget};
 ghost use Rattle.http_edge.specs.declared.messages.Target.{Target as Asked};
@@ -36,10 +36,13 @@ pub struct OpenDeskFind {
     pub find: OpenFind,
 }
 
-/// A find that was ended: the hits that it asked for, and the message that came, or why none did.
+/// A find that was ended: the hits that it asked for, how many prefixes these have, when its session began, and the message that came, or why
+/// none did.
 #[derive(Drop)]
 pub struct EndedFind {
     pub asked: Row<Hit>,
+    pub prefixes: usize,
+    pub at: Moment,
     pub answer: Result<FindResponse, Cause>,
 }
 
@@ -94,6 +97,20 @@ fn begin_asking<N: Line>(
             find,
         },
     })
+}
+
+// How many prefixes a find asks for.
+fn count_asked(find: &OpenFind) -> usize
+    ensures { result ≡ length find.now.request.prefixes }
+{
+    find.request.prefixes.len()
+}
+
+// When the session of a find began.
+fn begun_at(find: &OpenFind) -> Moment
+    ensures { result ≡ find.now.opening.begun }
+{
+    find.opening.begun
 }
 
 impl FindDesk {
@@ -180,9 +197,15 @@ impl FindDesk {
 
     /// The verdict of a look by what was kept alone. Hits that it left open are open until the allowed moment.
     pub fn verdict_at_once(&self, alloc: Global, look: &Looks) -> Result<Verdict, OutOfMemory>
-        ensures { (target : Asked) (need : Bool) (start : DeskStart) (events : List DeskEvent) (line : LineView) (hits : List SeenHit)
+        ensures given { (target : Asked) (need : Bool) (start : DeskStart) (events : List DeskEvent) (line : LineView) (hits : List SeenHit)
             → HasKeptDesk target need start events self.now line → IsLookIn start events hits look.now
             → IfOk result (IsVerdictIn start events hits) }
+        ensures by_look { (start : DeskStart) (events : List DeskEvent) (hits : List SeenHit)
+            → IsLookIn start events hits look.now → IfOk result (IsVerdictByLook start events hits) }
+
+        // A look that left no hit open leaves no verdict open.
+        ensures decided { (start : DeskStart) (events : List DeskEvent) (hits : List SeenHit)
+            → IsLookIn start events hits look.now → look.now.asked ≡ [] → IfOk result (λ verdict. is_left_undecided verdict ≡ false) }
     {
         let unasked = Err(Cause::NotBefore(self.finds.waits.allowed_at));
         verdict_by_answer(alloc, look, &unasked)
@@ -257,6 +280,10 @@ impl FindDesk {
     ) -> Result<EndedFind, OutOfMemory>
         requires session { HasDeskOpen target.now self.old (N.view line.old) }
 
+        // It says how many prefixes the hits have that were asked, and when its session began.
+        ensures told { IfOk result (λ ended. IfSome self.old.opened (λ find. (ended.at ≡ find.find.opening.begun)
+            × (ended.prefixes ≡ length (prefixes_hit find.asked)))) }
+
         // It is one more event.
         ensures ended { (start : DeskStart) (events : List DeskEvent)
             → HasKeptDesk target.now need_digest start events self.old (N.view line.old)
@@ -286,6 +313,8 @@ impl FindDesk {
             now: _,
             find,
         } = begun;
+        let prefixes = count_asked(&find);
+        let at = begun_at(&find);
         match end_find_for(
             alloc,
             asked.as_slice(),
@@ -294,7 +323,12 @@ impl FindDesk {
             need_digest,
             line,
         ) {
-            Ok(answer) => Ok(EndedFind { asked, answer }),
+            Ok(answer) => Ok(EndedFind {
+                asked,
+                prefixes,
+                at,
+                answer,
+            }),
             Err(OutOfMemory) => {
                 self.forget();
                 Err(OutOfMemory)
