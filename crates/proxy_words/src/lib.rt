@@ -2,6 +2,6 @@
 //! `specs/ProxyLine.antt` has what command lines give.
 #![tactic(auto)]
 
-pub use line::{ProxyLine, ProxyNumbers, proxy_line, proxies_ask_sound_targets};
+pub use line::{ProxyLine, ProxyNumbers, proxies_ask_sound_targets, proxy_line};
 
 mod line;
