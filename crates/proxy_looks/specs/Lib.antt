@@ -1,0 +1,3 @@
+pub mod Urls
+pub mod Settled
+pub mod Fates
