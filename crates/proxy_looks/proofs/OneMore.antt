@@ -1,7 +1,8 @@
 -- URLs that were settled, and one more; and events that come after.
-use Rattle.std.proofs.Common.{◌≡◌, ℕ, zero, suc, Bool, List, [], ◌∷◌, ◌++◌, length, drop, Option, Some, None, inl, inr, refl, sym, ap, ◌∙◌, subst, append_assoc}
+use Rattle.std.proofs.Common.{◌≡◌, ◌-◌, ℕ, zero, suc, Bool, List, [], ◌∷◌, ◌++◌, length, drop, Option, Some, None, inl, inr, refl, sym, ap, ◌∙◌, subst, append_assoc, arith, length-append, length-drop}
 use Rattle.std.specs.Prelude.{All}
-use Rattle.std.proofs.lemmas.List.{append-nil}
+use Rattle.std.proofs.lemmas.Grind.{flat_map-append}
+use Rattle.std.proofs.lemmas.List.{append-nil, map-append}
 use Rattle.std.proofs.lemmas.List.Elements.{All-append, All-cons, All-nil, All-tail, Contains-append_left}
 use Rattle.client_line.specs.Lines.{LineView}
 use Rattle.find_desk.specs.Desk.{DeskSeen, DeskStart, HasKeptDesk, looked_up}
@@ -10,7 +11,7 @@ use Rattle.find_desk.specs.Verdicts.{HasAskedFor, IsVerdictByFind, IsVerdictByLo
 use Rattle.find_desk.specs.declared.desk.EndedFind.{EndedFind}
 use Rattle.http_edge.specs.declared.messages.Target.{Target}
 use Rattle.proxy_looks.specs.declared.urls.LookUrl.{LookUrl}
-use Rattle.proxy_looks.specs.Settled.{desk_at, AreAskedBy, AreLooksAsFar, AreLooksOf, AreOnlyLooks, AreUrlsSettled, GoesOnLooking, HasAskedForAll, IsOnlyLook, IsUrlSettled, SettlesAll, SettlesOne, SettlesUrl, asked_after, find_for}
+use Rattle.proxy_looks.specs.Settled.{desk_at, AreAskedBy, AreLooksAsFar, AreLooksOf, AreOnlyLooks, AreUrlsSettled, GoesOnLooking, HasAskedForAll, IsOnlyLook, IsUrlSettled, SettledKeepLooks, SettlesAll, SettlesOne, SettlesUrl, asked_after, find_for, looks_at}
 use Rattle.proxy_looks.specs.Urls.{open_hits, open_hits_of}
 use Rattle.sb_model.specs.declared.time.Moment.{Moment}
 use Rattle.url_checker.specs.declared.findings.Hit.{Hit}
@@ -104,10 +105,10 @@ pub asked_left_more : (asked : List Looks) (urls : List LookUrl) (one : LookUrl)
 asked_left_more asked [] one = refl
 asked_left_more asked (first ∷ urls) one = asked_left_more (asked_after asked first) urls one
 
-abbrev nothing : (A : Type 0) → List A
+abbrev pub nothing : (A : Type 0) → List A
 nothing A = []
 
-drop_none : (A : Type 0) (n : ℕ) → drop n (nothing A) ≡ []
+pub drop_none : (A : Type 0) (n : ℕ) → drop n (nothing A) ≡ []
 drop_none A zero = refl
 drop_none A (suc n) = refl
 
@@ -118,6 +119,16 @@ far_after start before (Some hits) (Some verdict) others asked far = far
 far_after start before (Some hits) None [] [] far = tt
 far_after start before (Some hits) None (other ∷ others) [] far = tt
 far_after start before (Some hits) None others (look ∷ asked) far = far.1
+
+-- as many as were asked for, less those of the URLs that were open
+count_asked_left : (asked : List Looks) (urls : List LookUrl) → length (asked_left asked urls) ≡ length asked - length (open_hits urls)
+count_asked_left asked [] = omega arith
+count_asked_left asked (one ∷ urls) =
+    let mine = open_hits_of one.hits one.verdict in
+    let rest = count_asked_left (asked_after asked one) urls in
+    let fewer = length-drop (length mine) asked in
+    let many = length-append mine (open_hits urls) in
+    omega (arith, rest, fewer, many)
 
 -- of all hits that are left
 pub asked_by_rest : (start : DeskStart) (events more : List DeskEvent) (one : LookUrl) (others : List (List Hit)) (asked : List Looks) (ended : Option EndedFind) (by : Option MadeFind)
@@ -166,6 +177,35 @@ are_settled_push start events by asked (other ∷ urls) (other' ∷ urls') looks
 pub only_more : (now : Moment) (events more : List DeskEvent) → AreOnlyLooks now events → AreOnlyLooks now more → AreOnlyLooks now (events ++ more)
 only_more now events more first second = All-append (IsOnlyLook now) events more first second
 
+-- ---- the looks that were made
+
+dropped_append : {A : Type 0} (n : ℕ) (xs ys : List A) → drop n (xs ++ ys) ≡ drop n xs ++ drop (n - length xs) ys
+dropped_append zero xs ys =
+    let none : 0 ≡ 0 - length xs = omega arith in
+    ap (λ (k : ℕ). xs ++ drop k ys) none
+dropped_append (suc n) [] ys =
+    let all : suc n ≡ suc n - 0 = omega arith in
+    ap (λ (k : ℕ). drop k ys) all
+dropped_append (suc n) (x ∷ xs) ys =
+    let same : n - length xs ≡ suc n - suc (length xs) = omega arith in
+    dropped_append n xs ys ∙ ap (λ (k : ℕ). drop n xs ++ drop k ys) same
+
+open_hits_push : (urls : List LookUrl) (one : LookUrl) → open_hits (urls ++ one ∷ []) ≡ open_hits urls ++ open_hits_of one.hits one.verdict
+open_hits_push urls one =
+    flat_map-append (λ (one : LookUrl). open_hits_of one.hits one.verdict) urls (one ∷ []) ∙ ap (λ (hits : List (List Hit)). open_hits urls ++ hits) (append-nil (open_hits_of one.hits one.verdict))
+
+looked_push : (now : Moment) (asked left : List Looks) (urls : List LookUrl) (one : LookUrl) (first second : List DeskEvent) → left ≡ asked_left asked urls
+    → first ≡ looks_at now (drop (length asked) (open_hits urls)) → second ≡ looks_at now (drop (length left) (open_hits_of one.hits one.verdict))
+    → first ++ second ≡ looks_at now (drop (length asked) (open_hits (urls ++ one ∷ [])))
+looked_push now asked left urls one first second is so next =
+    let mine = open_hits_of one.hits one.verdict in
+    let count : length left ≡ length asked - length (open_hits urls) = ap (λ (left : List Looks). length left) is ∙ count_asked_left asked urls in
+    let halves : drop (length asked) (open_hits (urls ++ one ∷ [])) ≡ drop (length asked) (open_hits urls) ++ drop (length left) mine =
+    ap (λ (hits : List (List Hit)). drop (length asked) hits) (open_hits_push urls one) ∙ dropped_append (length asked) (open_hits urls) mine
+    ∙ ap (λ (n : ℕ). drop (length asked) (open_hits urls) ++ drop n mine) (sym count) in
+    ap (λ (events : List DeskEvent). events ++ second) so ∙ ap (λ (events : List DeskEvent). looks_at now (drop (length asked) (open_hits urls)) ++ events) next
+    ∙ sym (map-append (looked_up now) (drop (length asked) (open_hits urls)) (drop (length left) mine)) ∙ ap (λ (hits : List (List Hit)). looks_at now hits) (sym halves)
+
 -- ---- events one after the other
 
 abbrev pub goes_nowhere : (target : Target) (need : Bool) (start : DeskStart) (events : List DeskEvent) (now : Moment) (desk : DeskSeen) (line : LineView)
@@ -191,12 +231,13 @@ goes_twice target need start events now between desk line first second = record 
 
 -- ---- the URLs so far
 
--- These URLs were settled, and these are left.
+-- These URLs were settled, and these are left. The desk looked at the hits of those that were open and for which no find asked.
 pub record SettledSoFar (target : Target) (need : Bool) (start : DeskStart) (events : List DeskEvent) (now : Moment) (by : Option MadeFind) (asked : List Looks) (ended : Option EndedFind)
     (urls rest : List LookUrl) (left : List Looks) (done : List LookUrl) (looks : List Looks) (desk : DeskSeen) (line : LineView) : Type 0 where
   pub goes : GoesOnLooking (desk_at target need start events now line) desk
   pub are : AreUrlsSettled start (events ++ goes.more) by asked urls done looks
   pub asks : AreAskedBy start (events ++ goes.more) (open_hits rest) left ended by
+  pub looked : goes.more ≡ looks_at now (drop (length asked) (open_hits urls))
 
 pub settled_none : (target : Target) (need : Bool) (start : DeskStart) (events : List DeskEvent) (now : Moment) (by : Option MadeFind) (asked : List Looks) (ended : Option EndedFind)
     (rest : List LookUrl) (desk : DeskSeen) (line : LineView) → HasKeptDesk target need start events desk line → AreAskedBy start events (open_hits rest) asked ended by
@@ -205,6 +246,7 @@ settled_none target need start events now by asked ended rest desk line has asks
   goes = goes_nowhere target need start events now desk line has;
   are = refl;
   asks = subst (λ (all : List DeskEvent). AreAskedBy start all (open_hits rest) asked ended by) (sym (append-nil events)) asks;
+  looked = ap (λ (hits : List (List Hit)). looks_at now hits) (sym (drop_none (List Hit) (length asked)));
 }
 
 pub settled_next : LooksStay → (target : Target) (need : Bool) (start : DeskStart) (events : List DeskEvent) (now : Moment) (by : Option MadeFind) (asked : List Looks) (ended : Option EndedFind)
@@ -221,6 +263,7 @@ settled_next stay target need start events now by asked ended urls one one' rest
       (subst (λ (all : List Looks). SettlesUrl start ((events ++ so.goes.more) ++ next.goes.more) (find_for by all) one one' next.first) is next.is)));
   asks = subst (λ (all : List DeskEvent). AreAskedBy start all (open_hits rest) (asked_after left one) ended by) (append_assoc events so.goes.more next.goes.more)
       (asked_by_rest start (events ++ so.goes.more) next.goes.more one (open_hits rest) left ended by so.asks);
+  looked = looked_push now asked left urls one so.goes.more next.goes.more is so.looked next.looked;
 }
 
 pub settled_first : (target : Target) (need : Bool) (start : DeskStart) (events : List DeskEvent) (now : Moment) (by : Option MadeFind) (asked : List Looks) (ended : Option EndedFind)
@@ -256,11 +299,51 @@ goes_step target need start events now by asked ended urls one items rest left d
     let so' = subst (λ (items : List LookUrl). SettledSoFar target need start events now by asked ended urls items left done looks desk line) steps so in
     goes_twice target need start events now desk desk' line so'.goes (next so'.goes.more so'.goes.has so'.asks)
 
+whole : (yielded urls items : List LookUrl) → yielded ++ items ≡ urls → items ≡ [] → yielded ≡ urls
+whole yielded urls items all none = sym (append-nil yielded) ∙ ap (λ (rest : List LookUrl). yielded ++ rest) (sym none) ∙ all
+
 pub settled_all : (target : Target) (need : Bool) (start : DeskStart) (events : List DeskEvent) (now : Moment) (by : Option MadeFind) (asked : List Looks) (ended : Option EndedFind)
     (yielded urls items : List LookUrl) (left : List Looks) (done : List LookUrl) (looks : List Looks) (desk : DeskSeen) (line : LineView)
     → yielded ++ items ≡ urls → items ≡ [] → SettledSoFar target need start events now by asked ended yielded items left done looks desk line
     → SettlesAll (desk_at target need start events now line) by asked urls (record { urls = done; looks = looks }) desk
 settled_all target need start events now by asked ended yielded urls items left done looks desk line all none so = record {
   goes = so.goes;
-  are = subst (λ (urls : List LookUrl). AreUrlsSettled start (events ++ so.goes.more) by asked urls done looks) (sym (append-nil yielded) ∙ ap (λ (rest : List LookUrl). yielded ++ rest) (sym none) ∙ all) so.are;
+  are = subst (λ (urls : List LookUrl). AreUrlsSettled start (events ++ so.goes.more) by asked urls done looks) (whole yielded urls items all none) so.are;
+  looked = subst (λ (urls : List LookUrl). so.goes.more ≡ looks_at now (drop (length asked) (open_hits urls))) (whole yielded urls items all none) so.looked;
 }
+
+-- ---- those that are open still
+
+no_looks : (start : DeskStart) (events : List DeskEvent) (hits : List (List Hit)) (looks : List Looks) → hits ≡ [] → looks ≡ [] → AreLooksOf start events hits looks
+no_looks start events hits looks closed none =
+    subst (λ (hits : List (List Hit)). AreLooksOf start events hits looks) (sym closed) (subst (λ (looks : List Looks). AreLooksOf start events [] looks) (sym none) tt)
+
+look_kept : (start : DeskStart) (events : List DeskEvent) (by : Option MadeFind) (hits : Option (List Hit)) (verdict verdict' : Option Verdict) (looks : List Looks)
+    → IsUrlSettled start events by hits verdict verdict' looks → AreLooksOf start events (open_hits_of hits verdict') looks
+look_kept start events by None verdict verdict' looks is = no_looks start events [] looks refl is.1
+look_kept start events by (Some hits) (Some verdict) verdict' looks is = no_looks start events (open_hits_of (Some hits) verdict') looks (ap (open_hits_of (Some hits)) is.0) is.1
+look_kept start events (Some one) (Some hits) None verdict' looks is =
+    no_looks start events (open_hits_of (Some hits) verdict') looks (ap (open_hits_of (Some hits)) is.verdict_is) is.none
+look_kept start events None (Some hits) None verdict' looks (inl is) =
+    no_looks start events (open_hits_of (Some hits) verdict') looks (ap (open_hits_of (Some hits)) is.verdict_is) is.none
+look_kept start events None (Some hits) None verdict' looks (inr is) =
+    subst (λ (verdict : Option Verdict). AreLooksOf start events (open_hits_of (Some hits) verdict) looks) (sym is.undecided)
+    (subst (λ (looks : List Looks). AreLooksOf start events (hits ∷ []) looks) (sym is.its) (is.is, tt))
+
+looks_append : (start : DeskStart) (events : List DeskEvent) (hits more : List (List Hit)) (looks others : List Looks)
+    → AreLooksOf start events hits looks → AreLooksOf start events more others → AreLooksOf start events (hits ++ more) (looks ++ others)
+looks_append start events [] more [] others are rest = rest
+looks_append start events [] more (look ∷ looks) others are rest = absurd are
+looks_append start events (first ∷ hits) more [] others are rest = absurd are
+looks_append start events (first ∷ hits) more (look ∷ looks) others are rest = (are.0, looks_append start events hits more looks others are.1 rest)
+
+pub settled_keep_looks : SettledKeepLooks
+settled_keep_looks start events by asked [] [] looks are = subst (λ (looks : List Looks). AreLooksOf start events [] looks) (sym are) tt
+settled_keep_looks start events by asked [] (one' ∷ urls') looks are = absurd are
+settled_keep_looks start events by asked (one ∷ urls) [] looks are = absurd are
+settled_keep_looks start events by asked (one ∷ urls) (one' ∷ urls') looks are =
+    subst (λ (looks : List Looks). AreLooksOf start events (open_hits (one' ∷ urls')) looks) (sym are.2)
+    (looks_append start events (open_hits_of one'.hits one'.verdict) (open_hits urls') are.0 are.1
+    (subst (λ (hits : Option (List Hit)). AreLooksOf start events (open_hits_of hits one'.verdict) are.0) (sym are.3.hits)
+    (look_kept start events (find_for by asked) one.hits one.verdict one'.verdict are.0 are.3.settled))
+    (settled_keep_looks start events by (asked_after asked one) urls urls' are.1 are.4))

@@ -1,5 +1,5 @@
 -- What becomes of one URL: it stays as it is, a look decides it or leaves it open, or a find decides it.
-use Rattle.std.proofs.Common.{◌≡◌, ◌≢◌, ◌≤◌, Bool, List, length, get_or, drop, arith, [], ◌∷◌, ◌++◌, Option, Some, None, Result, Ok, Err, inl, inr, refl, sym, ap, ◌∙◌, subst}
+use Rattle.std.proofs.Common.{◌≡◌, ◌≢◌, ◌≤◌, ℕ, Bool, List, length, get_or, drop, arith, [], ◌∷◌, ◌++◌, Option, Some, None, Result, Ok, Err, inl, inr, refl, sym, ap, ◌∙◌, subst}
 use Rattle.std.specs.Prelude.{OnErr, ⊤, true, false, is_some}
 use Rattle.std.proofs.lemmas.Bool.{false≢true, true≢false}
 use Rattle.std.proofs.lemmas.List.{append-nil}
@@ -10,9 +10,9 @@ use Rattle.find_desk.specs.Events.{DeskEvent, Found, MadeFind}
 use Rattle.find_desk.specs.Verdicts.{HasAskedFor, IsEndOf, IsLookIn, IsVerdictByFind, IsVerdictByLook}
 use Rattle.find_desk.specs.declared.desk.EndedFind.{EndedFind}
 use Rattle.http_edge.specs.declared.messages.Target.{Target}
-use Rattle.proxy_looks.proofs.OneMore.{goes_nowhere, goes_once}
+use Rattle.proxy_looks.proofs.OneMore.{drop_none, goes_nowhere, goes_once, nothing}
 use Rattle.proxy_looks.specs.declared.urls.LookUrl.{LookUrl}
-use Rattle.proxy_looks.specs.Settled.{desk_at, AreAskedBy, HasAskedForAll, IsUrlSettled, SettlesHits, SettlesOne, find_for}
+use Rattle.proxy_looks.specs.Settled.{desk_at, AreAskedBy, HasAskedForAll, IsUrlSettled, SettlesHits, SettlesOne, find_for, looks_at}
 use Rattle.proxy_looks.specs.Urls.{open_hits_of}
 use Rattle.sb_model.specs.declared.time.Moment.{Moment}
 use Rattle.url_checker.specs.declared.findings.Hit.{Hit}
@@ -35,6 +35,7 @@ decided_by_look target need start events now hits look verdict looks desk line h
   first = [];
   appended = sym (append-nil looks);
   is = inl (record { look = look; is = is; closed = closed; none = refl; given = verdict; verdict_is = refl; by = by });
+  looked = refl;
 }
 
 pub left_open : (target : Target) (need : Bool) (start : DeskStart) (events : List DeskEvent) (now : Moment) (hits : List Hit) (look : Looks) (looks looks' : List Looks)
@@ -46,6 +47,7 @@ left_open target need start events now hits look looks looks' desk line has is o
   first = look ∷ [];
   appended = appended;
   is = inr (record { look = look; is = is; opened = opened; its = refl; undecided = refl });
+  looked = refl;
 }
 
 -- where no look is left for which a find asked, there is none by which the hits are decided
@@ -58,6 +60,7 @@ looked_without_find target need start events now by asked hits verdict looks loo
   first = is.first;
   appended = is.appended;
   is = subst (λ (asked : List Looks). IsUrlSettled start (events ++ is.goes.more) (find_for by asked) (Some hits) None verdict is.first) (sym none) is.is;
+  looked = subst (λ (asked : List Looks). is.goes.more ≡ looks_at now (drop (length asked) (hits ∷ []))) (sym none) is.looked;
 }
 
 -- ---- finds
@@ -71,6 +74,10 @@ pub asked_for_first : (asked : List Looks) (ended : Option EndedFind) (look : Lo
 asked_for_first asked ended look rest one first is all =
     All-head (HasAskedFor one.asked) look rest
     (subst (λ (asked : List Looks). HasAskedForAll asked (Some one)) first (subst (λ (ended : Option EndedFind). HasAskedForAll asked ended) is all))
+
+-- a find that asked for hits spares them a look
+looked_nowhere : (now : Moment) (n : ℕ) → nothing DeskEvent ≡ looks_at now (drop n (nothing (List Hit)))
+looked_nowhere now n = ap (looks_at now) (sym (drop_none (List Hit) n))
 
 found_by : (target : Target) (need : Bool) (start : DeskStart) (events : List DeskEvent) (now : Moment) (by : Option MadeFind) (hits : List Hit) (others : List (List Hit)) (look : Looks)
     (rest : List Looks) (ended : EndedFind) (verdict : Verdict) (looks : List Looks) (desk : DeskSeen) (line : LineView)
@@ -88,6 +95,7 @@ found_by target need start events now by hits others look rest ended verdict loo
         verdict_is = refl;
         by = subst (λ (all : List DeskEvent). IsVerdictByFind start all hits is.0 verdict) (sym (append-nil events ∙ were.splits)) (found were.before were.after is.0 were.looks.0 were.ends);
       });
+      looked = looked_nowhere now (length rest);
     }
 
 pub decided_by_find : (target : Target) (need : Bool) (start : DeskStart) (events : List DeskEvent) (now : Moment) (by : Option MadeFind) (asked : List Looks) (hits : List Hit) (others : List (List Hit))
@@ -124,6 +132,7 @@ one_stays target need start events now by asked one looks desk line closed has =
   first = [];
   appended = sym (append-nil looks);
   is = record { url = refl; hits = refl; settled = unchanged start (events ++ []) (find_for by asked) one.hits one.verdict closed };
+  looked = subst (λ (hits : List (List Hit)). nothing DeskEvent ≡ looks_at now (drop (length asked) hits)) (sym closed) (looked_nowhere now (length asked));
 }
 
 pub asked_open : (start : DeskStart) (events : List DeskEvent) (hits : Option (List Hit)) (verdict : Option Verdict) (found : List Hit) (others : List (List Hit)) (asked : List Looks)
@@ -147,6 +156,8 @@ one_settled target need start events now by asked one found verdict looks looks'
     settled = subst (λ (hits : Option (List Hit)). IsUrlSettled start (events ++ settled.goes.more) (find_for by asked) hits one.verdict verdict settled.first) (sym is)
         (subst (λ (was : Option Verdict). IsUrlSettled start (events ++ settled.goes.more) (find_for by asked) (Some found) was verdict settled.first) (sym none) settled.is);
   };
+  looked = subst (λ (hits : Option (List Hit)). settled.goes.more ≡ looks_at now (drop (length asked) (open_hits_of hits one.verdict))) (sym is)
+      (subst (λ (was : Option Verdict). settled.goes.more ≡ looks_at now (drop (length asked) (open_hits_of (Some found) was))) (sym none) settled.looked);
 }
 
 pub none_open : (hits : Option (List Hit)) (verdict : Option Verdict) → hits ≡ None → open_hits_of hits verdict ≡ []

@@ -1,5 +1,5 @@
 -- What decides the URLs of a look-up: a find that asked for their open hits, or a look at what is kept.
-use Rattle.std.specs.Prelude.{◌≡◌, ◌≢◌, ◌⊎◌, Bool, List, [], ◌∷◌, ◌++◌, All, drop, length, Option, Some, None, ⊤}
+use Rattle.std.specs.Prelude.{◌≡◌, ◌≢◌, ◌⊎◌, Bool, List, [], ◌∷◌, ◌++◌, All, drop, length, map, Option, Some, None, ⊤}
 use Rattle.client_line.specs.Lines.{LineView}
 use Rattle.find_desk.specs.Desk.{DeskSeen, DeskStart, HasKeptDesk, looked_up}
 use Rattle.find_desk.specs.Events.{DeskEvent, Forgot, Found, MadeFind}
@@ -8,7 +8,7 @@ use Rattle.find_desk.specs.declared.desk.EndedFind.{EndedFind}
 use Rattle.http_edge.specs.declared.messages.Target.{Target}
 use Rattle.proxy_looks.specs.declared.settling.Settled.{Settled}
 use Rattle.proxy_looks.specs.declared.urls.LookUrl.{LookUrl}
-use Rattle.proxy_looks.specs.Urls.{open_hits_of}
+use Rattle.proxy_looks.specs.Urls.{open_hits, open_hits_of}
 use Rattle.sb_model.specs.declared.time.Moment.{Moment}
 use Rattle.url_checker.specs.declared.findings.Hit.{Hit}
 use Rattle.url_checker.specs.declared.looking.Looks.{Looks}
@@ -28,6 +28,10 @@ abbrev pub AreLooksAsFar : DeskStart → List DeskEvent → List (List Hit) → 
 AreLooksAsFar start events [] looks = ⊤
 AreLooksAsFar start events (hits ∷ all) [] = ⊤
 AreLooksAsFar start events (hits ∷ all) (look ∷ looks) = IsLookIn start events hits look × AreLooksAsFar start events all looks
+
+-- the looks at some hits at a moment, as events
+abbrev pub looks_at : Moment → List (List Hit) → List DeskEvent
+looks_at now hits = map (looked_up now) hits
 
 -- Nothing but looks at this moment happened, or that what is kept was dropped.
 abbrev pub IsOnlyLook : Moment → DeskEvent → Type 0
@@ -119,6 +123,11 @@ AreUrlsSettled start events by asked (one ∷ urls) (one' ∷ urls') looks =
 AreUrlsSettled start events by asked [] (one' ∷ urls') looks = ⊥
 AreUrlsSettled start events by asked (one ∷ urls) [] looks = ⊥
 
+-- URLs that were settled and are open still have the looks that are given back with them, in their order.
+abbrev pub SettledKeepLooks : Type 0
+SettledKeepLooks = (start : DeskStart) (events : List DeskEvent) (by : Option MadeFind) (asked : List Looks) (urls urls' : List LookUrl) (looks : List Looks)
+    → AreUrlsSettled start events by asked urls urls' looks → AreLooksOf start events (open_hits urls') looks
+
 -- ---- what it leaves of the desk
 
 -- A desk at which these events happened since it began so, and that is looked at now. Its line tells this.
@@ -139,25 +148,30 @@ pub record GoesOnLooking (at : DeskAt) (desk : DeskSeen) : Type 0 where
   pub only : AreOnlyLooks at.now more
   pub has : HasKeptDesk at.target at.need at.start (at.events ++ more) desk at.line
 
--- One URL was settled at it, whose looks are appended.
+-- One URL was settled at it, whose looks are appended. The desk looked at its hits exactly if it was open and no find asked for it, and nothing
+-- else happened.
 pub record SettlesOne (at : DeskAt) (by : Option MadeFind) (asked : List Looks) (one one' : LookUrl) (looks looks' : List Looks) (desk : DeskSeen) : Type 0 where
   pub goes : GoesOnLooking at desk
   pub first : List Looks
   pub appended : looks' ≡ looks ++ first
   pub is : SettlesUrl at.start (at.events ++ goes.more) (find_for by asked) one one' first
+  pub looked : goes.more ≡ looks_at at.now (drop (length asked) (open_hits_of one.hits one.verdict))
 
--- The hits of a URL that is open were settled at it.
+-- The hits of a URL that is open were settled at it. The desk looked at them exactly if no find asked for them, and nothing else happened.
 pub record SettlesHits (at : DeskAt) (by : Option MadeFind) (asked : List Looks) (hits : List Hit) (verdict : Option Verdict) (looks looks' : List Looks) (desk : DeskSeen) : Type 0 where
   pub goes : GoesOnLooking at desk
   pub first : List Looks
   pub appended : looks' ≡ looks ++ first
   pub is : IsUrlSettled at.start (at.events ++ goes.more) (find_for by asked) (Some hits) None verdict first
+  pub looked : goes.more ≡ looks_at at.now (drop (length asked) (hits ∷ []))
 
 -- They were looked up at it.
 abbrev pub LooksUp : DeskAt → List Hit → Option Verdict → (looks looks' : List Looks) → DeskSeen → Type 0
 LooksUp at hits verdict looks looks' desk = SettlesHits at None [] hits verdict looks looks' desk
 
--- These URLs were settled at it, by looks at this moment, or by a find that asked for the first of them that are open.
+-- These URLs were settled at it, by looks at this moment, or by a find that asked for the first of them that are open. The desk looked at the
+-- hits of each other one that was open, in their order, and nothing else happened.
 pub record SettlesAll (at : DeskAt) (by : Option MadeFind) (asked : List Looks) (urls : List LookUrl) (settled : Settled) (desk : DeskSeen) : Type 0 where
   pub goes : GoesOnLooking at desk
   pub are : AreUrlsSettled at.start (at.events ++ goes.more) by asked urls settled.urls settled.looks
+  pub looked : goes.more ≡ looks_at at.now (drop (length asked) (open_hits urls))

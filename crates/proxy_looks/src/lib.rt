@@ -5,9 +5,11 @@
 #![tactic(auto)]
 
 pub use fates::{fate_of_urls, is_left_open};
+pub use laws::settled_urls_keep_their_looks;
 pub use settling::{Settled, settle_urls};
 pub use urls::{LookUrl, are_lists_ready, count_open, urls_of};
 
 mod fates;
+mod laws;
 mod settling;
 mod urls;
