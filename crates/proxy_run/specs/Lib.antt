@@ -1,0 +1,11 @@
+pub mod LookState
+pub mod LookEvents
+pub mod LookAllowed
+pub mod LookSoFar
+pub mod LookSteps
+pub mod State
+pub mod Events
+pub mod Allowed
+pub mod SoFar
+pub mod Steps
+pub mod Run

@@ -1,0 +1,35 @@
+//! What a proxy holds and does in its run: its look-ups, which are answered at once or held until a find decides them, and the rounds by which it
+//! keeps its lists.
+//!
+//! `specs/LookState.antt` has the look-ups that are held at one moment, `LookEvents` what happens to them, `LookAllowed` when it may and what
+//! each connection is answered, and `LookSoFar` what the objects outside tell of it. `State`, `Events`, `Allowed` and `SoFar` have the same of
+//! the whole proxy, and `Steps` and `Run` what its steps keep to.
+#![tactic(auto)]
+
+pub use asking::{begin_find, end_find};
+pub use held::HeldLooks;
+pub use looking::take_look;
+pub use looks_world::LookWorld;
+pub use opening::open_proxy;
+pub use plan::ProxyPlan;
+pub use rounds::{begin_round, end_round};
+pub use settling::{release_waiting, settle_waiting};
+pub use state::ProxyRun;
+pub use stop::ProxyStop;
+pub use telling::tell_counts;
+pub use world::ProxyWorld;
+
+mod answering;
+mod asking;
+mod deciding;
+mod held;
+mod looking;
+mod looks_world;
+mod opening;
+mod plan;
+mod rounds;
+mod settling;
+mod state;
+mod stop;
+mod telling;
+mod world;
