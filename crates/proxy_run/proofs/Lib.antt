@@ -16,3 +16,4 @@ mod TurnSteps
 mod Views
 mod BeginFacts
 mod LookAsking
+mod FindTurns

@@ -1,6 +1,7 @@
 -- What the turns of a run leave of it.
 use Rattle.std.proofs.Common.{◌≡◌, ◌<◌, ◌≤◌, ◌+◌, ◌-◌, ◌^◌, ℕ, List, [], ◌∷◌, true, false, Option, Some, None, refl, sym, ap, ◌∙◌, subst, inl, inr}
 use Rattle.std.specs.Prelude.{◌⊎◌, ◌++◌, is_some}
+use Rattle.client_rounds.specs.Rounds.{ClientSeen, next_client_round_at}
 use Rattle.find_desk.specs.Events.{waits_after_events}
 use Rattle.proxy_run.specs.Allowed.{HasBegunAllDue, IsLastProxyTurn, proxy_look_at}
 use Rattle.proxy_run.specs.Events.{after_proxy_events}
@@ -12,7 +13,7 @@ use Rattle.proxy_run.specs.LookSteps.{IsNoFindDue, KeepsDoor, LooksGoTo}
 use Rattle.proxy_run.specs.SoFar.{IsProxySo, ProxyOutside, ProxyOwn, ProxyStart, proxy_looks_start}
 use Rattle.proxy_run.specs.State.{ProxyPhase, ProxyState, before_proxy}
 use Rattle.proxy_run.specs.State.ProxyPhase.{Beginning, Between, Ending, Finishing}
-use Rattle.proxy_run.specs.Steps.{IsLastOfProxy, ProxyAt, ProxyStandsAt, RunsProxySo, own_update_is_due, proxy_at}
+use Rattle.proxy_run.specs.Steps.{IsLastOfProxy, ProxyAt, ProxyStandsAt, RunsProxySo, has_moment_come, own_update_is_due, proxy_at}
 use Rattle.proxy_run.specs.declared.plan.ProxyPlan.{ProxyPlan}
 use Rattle.proxy_run.specs.declared.stop.ProxyStop.{ProxyStop}
 use Rattle.proxy_run.proofs.Facts.{told_more}
@@ -110,6 +111,16 @@ module _ (plan : ProxyPlan) (start : ProxyStart) (now : Moment) (turns : ℕ) (o
 
   pub all_begun : own_update_is_due plan.updates.rounds own now ≡ false → IsNoFindDue now own.looks → RunsProxySo (proxy_at Ending now turns) plan start own seen
   all_begun round find = by_stop own.looks.stop refl round find
+
+-- what is not due stays so while no round is begun
+pub round_not_due : (rounds : ℕ) (now : Moment) (own own' : ProxyOwn) → is_some own.looks.stop ≡ false → (is_some own.looks.stop ≡ true) ⊎ (own_update_is_due rounds own now ≡ false) → own'.rounds ≡ own.rounds
+    → own_update_is_due rounds own' now ≡ false
+round_not_due rounds now own own' going (inl stopped) same = let no = sym going ∙ stopped in cc
+round_not_due rounds now own own' going (inr none) same = ap (λ (r : ClientSeen). has_moment_come (next_client_round_at rounds r) now) same ∙ none
+
+pub going_on : (stop : Option ProxyStop) → is_some stop ≡ false → stop ≡ None
+going_on None is = refl
+going_on (Some why) is = cc
 
 -- ---- the end
 

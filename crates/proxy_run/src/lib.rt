@@ -7,6 +7,7 @@
 #![tactic(auto)]
 
 pub use asking::{begin_find, end_find};
+pub use ending::{end_open_find, end_open_round};
 pub use held::HeldLooks;
 pub use looking::take_look;
 pub use looks_world::LookWorld;
@@ -17,11 +18,13 @@ pub use settling::{release_waiting, settle_waiting};
 pub use state::ProxyRun;
 pub use stop::ProxyStop;
 pub use telling::tell_counts;
+pub use turning::{begin_due, end_and_settle, end_answered_round};
 pub use world::ProxyWorld;
 
 mod answering;
 mod asking;
 mod deciding;
+mod ending;
 mod held;
 mod looking;
 mod looks_world;
@@ -32,4 +35,5 @@ mod settling;
 mod state;
 mod stop;
 mod telling;
+mod turning;
 mod world;
