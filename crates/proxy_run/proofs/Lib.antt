@@ -17,3 +17,5 @@ mod Views
 mod BeginFacts
 mod LookAsking
 mod FindTurns
+mod TakeTurns
+mod EndTurns

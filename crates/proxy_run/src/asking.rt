@@ -61,7 +61,7 @@ fn begin_asking<O: Sink, M: Line, D: Door>(
 
 /// Begins a find for the URLs that are open of those who wait, with the states of these lists, if one is to be begun. If memory is refused for
 /// it, no find is open, and all who waited were answered.
-pub fn begin_find<O: Sink, M: Line, D: Door>(
+pub(crate) fn begin_find<O: Sink, M: Line, D: Door>(
     alloc: Global,
     plan: &ProxyPlan,
     held: &mut HeldLooks<D::Wire>,
@@ -90,7 +90,7 @@ pub fn begin_find<O: Sink, M: Line, D: Door>(
 
 /// Ends the find that is open, and tells it. Those who waited for it are to be settled then. If memory is refused, all are answered by what is
 /// known.
-pub fn end_find<O: Sink, M: Line, D: Door>(
+pub(crate) fn end_find<O: Sink, M: Line, D: Door>(
     alloc: Global,
     plan: &ProxyPlan,
     held: &mut HeldLooks<D::Wire>,

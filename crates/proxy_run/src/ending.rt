@@ -1,9 +1,15 @@
 ghost use Rattle.std.specs.Prelude.{◌≡◌, ℕ, None};
+ghost use Rattle.proxy_run.specs.Run.{EndsProxy};
+ghost use Rattle.proxy_run.specs.SoFar.{ProxyStart};
 ghost use Rattle.proxy_run.specs.State.{ProxyPhase};
-ghost use Rattle.proxy_run.specs.Steps.{IsProxyRunning, ProxyAt, ProxyGoesLater, ProxyGoesOn};
+ghost use Rattle.proxy_run.specs.State.ProxyPhase.{Finishing};
+ghost use Rattle.proxy_run.specs.Steps.{IsProxyRunning, proxy_at, ProxyAt, ProxyGoesLater, ProxyGoesOn, RunsProxySo};
+ghost use Rattle.sb_model.specs.declared.time.Moment.{Moment as Read};
 
 use crate::rounds::end_round;
+use crate::settling::release_waiting;
 use crate::state::ProxyRun;
+use crate::telling::tell_counts;
 use crate::turning::end_and_settle;
 use crate::{ProxyPlan, ProxyWorld};
 use client_line::Line;
@@ -11,7 +17,7 @@ use sb_outside::{Clock, Door, Keeper, Sink};
 use std::alloc::Global;
 
 /// Ends the round that is open, if one is.
-pub fn end_open_round<O: Sink, K: Keeper, N: Line, M: Line, C: Clock, D: Door>(
+fn end_open_round<O: Sink, K: Keeper, N: Line, M: Line, C: Clock, D: Door>(
     alloc: Global,
     plan: &ProxyPlan,
     run: &mut ProxyRun<D::Wire>,
@@ -27,7 +33,7 @@ pub fn end_open_round<O: Sink, K: Keeper, N: Line, M: Line, C: Clock, D: Door>(
 }
 
 /// Ends the find that is open, if one is, and settles those who waited for it.
-pub fn end_open_find<O: Sink, K: Keeper, N: Line, M: Line, C: Clock, D: Door>(
+fn end_open_find<O: Sink, K: Keeper, N: Line, M: Line, C: Clock, D: Door>(
     alloc: Global,
     plan: &ProxyPlan,
     run: &mut ProxyRun<D::Wire>,
@@ -41,4 +47,21 @@ pub fn end_open_find<O: Sink, K: Keeper, N: Line, M: Line, C: Clock, D: Door>(
     if run.held.is_find_open() {
         end_and_settle(alloc, plan, run, world);
     }
+}
+
+/// Brings a run to its end: what is open is ended, who still waits is answered by what is known, and the counts are told.
+pub(crate) fn finish<O: Sink, K: Keeper, N: Line, M: Line, C: Clock, D: Door>(
+    alloc: Global,
+    plan: &ProxyPlan,
+    run: &mut ProxyRun<D::Wire>,
+    world: &mut ProxyWorld<O, K, N, M, C, D>,
+)
+    requires running { (at : ProxyAt) × IsProxyRunning at plan.now run.old world.old }
+    ensures ends { (start : ProxyStart) (now : Read) (turns : ℕ) → RunsProxySo (proxy_at Finishing now turns) plan.now start run.old world.old
+        → EndsProxy plan.now start run.new.looks.stop world.new }
+{
+    end_open_round(alloc, plan, run, world);
+    end_open_find(alloc, plan, run, world);
+    release_waiting(alloc, &mut run.held, &mut world.looks);
+    tell_counts(alloc, &mut run.held, &mut world.looks.out);
 }

@@ -19,7 +19,7 @@ use wait_rules::WaitState;
 
 /// The look-ups that a proxy holds: its desk, the connections, and the looks of all URLs that are open.
 #[derive(Drop)]
-pub struct HeldLooks<W: Wire> {
+pub(crate) struct HeldLooks<W: Wire> {
     pub(crate) desk: FindDesk,
     pub(crate) connections: HeldConnections<W, Row<LookUrl>>,
     // the looks of the URLs that are open, of all who wait for the next find, in order
@@ -63,7 +63,7 @@ impl<W: Wire> Model for HeldLooks<W> {
 
 impl<W: Wire> HeldLooks<W> {
     /// No look-up is held. The first find may begin when this state of waiting says so.
-    pub fn new(alloc: Global, waits: WaitState) -> Result<HeldLooks<W>, OutOfMemory>
+    pub(crate) fn new(alloc: Global, waits: WaitState) -> Result<HeldLooks<W>, OutOfMemory>
         ensures desk { IfOk result (λ held. held.desk ≡ record { kept = []; waits = waits; opened = None }) }
         ensures taken { IfOk result (λ held. held.connections.taken ≡ 0) }
         ensures over { IfOk result (λ held. held.ended ≡ None) }
@@ -85,35 +85,42 @@ impl<W: Wire> HeldLooks<W> {
     }
 
     /// How many connections were taken.
-    pub fn taken(&self) -> u32
+    pub(crate) fn taken(&self) -> u32
         ensures { result ≡ self.now.connections.taken }
     {
         self.connections.taken()
     }
 
     /// Whether something ended the run before its end.
-    pub fn is_stopped(&self) -> bool
+    pub(crate) fn is_stopped(&self) -> bool
         ensures { result ≡ is_some self.now.stop }
     {
         self.stop.is_some()
     }
 
+    /// What ended the run before its end, if something did.
+    pub(crate) fn stop(&self) -> Option<ProxyStop>
+        ensures { result ≡ self.now.stop }
+    {
+        self.stop
+    }
+
     /// Whether a find is open.
-    pub fn is_find_open(&self) -> bool
+    pub(crate) fn is_find_open(&self) -> bool
         ensures { result ≡ is_some self.now.desk.opened }
     {
         self.desk.is_open()
     }
 
     /// Whether a find is over, and those who waited for it are to be settled.
-    pub fn is_to_settle(&self) -> bool
+    pub(crate) fn is_to_settle(&self) -> bool
         ensures { result ≡ is_some self.now.ended }
     {
         self.ended.is_some()
     }
 
     /// The first moment at which a find may begin, if somebody waits for one and none is open.
-    pub fn next_find_at(&self) -> Option<Moment>
+    pub(crate) fn next_find_at(&self) -> Option<Moment>
         ensures none { IfNone result ((is_some self.now.desk.opened ≡ true) ⊎ (self.now.connections.waiting ≡ [])) }
         ensures some { IfSome result (λ at. (self.now.desk.opened ≡ None) × (at ≡ self.now.desk.waits.allowed_at)) }
     {
@@ -124,7 +131,7 @@ impl<W: Wire> HeldLooks<W> {
     }
 
     /// Notes what ends the run. The first such cause stays.
-    pub fn note(&mut self, stop: ProxyStop)
+    pub(crate) fn note(&mut self, stop: ProxyStop)
         ensures { self.new ≡ record self.old { stop = first_stop self.old.stop stop } }
     {
         if self.stop.is_none() {

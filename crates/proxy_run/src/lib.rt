@@ -6,19 +6,10 @@
 //! the whole proxy, and `Steps` and `Run` what its steps keep to.
 #![tactic(auto)]
 
-pub use asking::{begin_find, end_find};
-pub use ending::{end_open_find, end_open_round};
-pub use held::HeldLooks;
-pub use looking::take_look;
 pub use looks_world::LookWorld;
-pub use opening::open_proxy;
 pub use plan::ProxyPlan;
-pub use rounds::{begin_round, end_round};
-pub use settling::{release_waiting, settle_waiting};
-pub use state::ProxyRun;
+pub use running::run;
 pub use stop::ProxyStop;
-pub use telling::tell_counts;
-pub use turning::{begin_due, end_and_settle, end_answered_round};
 pub use world::ProxyWorld;
 
 mod answering;
@@ -31,9 +22,11 @@ mod looks_world;
 mod opening;
 mod plan;
 mod rounds;
+mod running;
 mod settling;
 mod state;
 mod stop;
+mod taking;
 mod telling;
 mod turning;
 mod world;

@@ -109,7 +109,7 @@ fn look_at_new<O: Sink, M: Line, D: Door>(
 }
 
 /// Hears a connection that the door gave, and answers it by these lists, whose sizes are these, or puts it off.
-pub fn take_look<O: Sink, M: Line, D: Door>(
+pub(crate) fn take_look<O: Sink, M: Line, D: Door>(
     alloc: Global,
     plan: &ProxyPlan,
     held: &mut HeldLooks<D::Wire>,

@@ -74,7 +74,7 @@ fn begin_with<O: Sink, K: Keeper, N: Line, M: Line, C: Clock, D: Door>(
 }
 
 /// Begins a proxy: its store is loaded, and when its first round and its first find may begin is drawn.
-pub fn open_proxy<O: Sink, K: Keeper, N: Line, M: Line, C: Clock, D: Door>(
+pub(crate) fn open_proxy<O: Sink, K: Keeper, N: Line, M: Line, C: Clock, D: Door>(
     alloc: Global,
     plan: &ProxyPlan,
     world: &mut ProxyWorld<O, K, N, M, C, D>,

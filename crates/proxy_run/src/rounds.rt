@@ -35,7 +35,7 @@ fn is_round_due<W: Wire>(plan: &ProxyPlan, run: &ProxyRun<W>, now: Moment) -> bo
 }
 
 /// Begins a round, if one is due.
-pub fn begin_round<O: Sink, K: Keeper, N: Line, M: Line, C: Clock, D: Door>(
+pub(crate) fn begin_round<O: Sink, K: Keeper, N: Line, M: Line, C: Clock, D: Door>(
     alloc: Global,
     plan: &ProxyPlan,
     run: &mut ProxyRun<D::Wire>,
@@ -58,7 +58,7 @@ pub fn begin_round<O: Sink, K: Keeper, N: Line, M: Line, C: Clock, D: Door>(
 }
 
 /// Ends the round that is open: tells it, and saves what it installed. Its lists are those of the connections that are taken from then on.
-pub fn end_round<O: Sink, K: Keeper, N: Line, M: Line, C: Clock, D: Door>(
+pub(crate) fn end_round<O: Sink, K: Keeper, N: Line, M: Line, C: Clock, D: Door>(
     alloc: Global,
     plan: &ProxyPlan,
     run: &mut ProxyRun<D::Wire>,

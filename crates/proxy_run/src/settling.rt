@@ -105,7 +105,7 @@ fn settle_first<O: Sink, M: Line, D: Door>(
 }
 
 /// Settles those who waited for the find that is over, in their order: each is answered, or waits for the next find.
-pub fn settle_waiting<O: Sink, M: Line, D: Door>(
+pub(crate) fn settle_waiting<O: Sink, M: Line, D: Door>(
     alloc: Global,
     plan: &ProxyPlan,
     held: &mut HeldLooks<D::Wire>,
@@ -165,7 +165,7 @@ fn release_first<O: Sink, M: Line, D: Door>(
 }
 
 /// Answers all who wait by what is known, in their order: no find is to be had for them.
-pub fn release_waiting<O: Sink, M: Line, D: Door>(
+pub(crate) fn release_waiting<O: Sink, M: Line, D: Door>(
     alloc: Global,
     held: &mut HeldLooks<D::Wire>,
     world: &mut LookWorld<O, M, D>,

@@ -6,7 +6,7 @@ use url_checker::Sizes;
 
 /// A proxy in its run.
 #[derive(Drop)]
-pub struct ProxyRun<W: Wire> {
+pub(crate) struct ProxyRun<W: Wire> {
     pub(crate) rounds: ClientRounds,
     // the sizes of the prefixes on its lists
     pub(crate) sizes: Sizes,

@@ -171,7 +171,7 @@ fn print_counts<W: Wire, O: Sink>(
 }
 
 /// Prints the counts of a run that comes to its end. If they cannot be written, that is what ended it.
-pub fn tell_counts<W: Wire, O: Sink>(alloc: Global, held: &mut HeldLooks<W>, out: &mut O)
+pub(crate) fn tell_counts<W: Wire, O: Sink>(alloc: Global, held: &mut HeldLooks<W>, out: &mut O)
     ensures prints { (part : LinePart) × PrintsPart (counts_line held.old.connections.taken held.old.waited held.old.finds) part held.old.stop held.new.stop
         (O.contents out.old) (O.contents out.new) (O.faults out.old) (O.faults out.new) }
     ensures others { held.new ≡ record held.old { stop = held.new.stop } }
