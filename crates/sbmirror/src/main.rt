@@ -14,7 +14,6 @@ use std::sync::Wait;
 use std::thread::Threads;
 use tcp_door::DoorFault;
 
-mod line;
 mod serving;
 
 /// The bell of a door, if it has an address.

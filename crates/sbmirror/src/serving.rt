@@ -1,9 +1,9 @@
-use crate::line::OwnLine;
 use background_link::BackgroundLink;
 use client_store::{LONGEST_STORE, STORE_MAGIC};
 use door_bell::Bell;
 use door_main::ServerDoor;
 use mirror_run::MirrorWorld;
+use own_line::OwnLine;
 use real_objects::{FileKeeper, KeptForm, StdSink, SystemClock, SystemDice, TcpLimits};
 use sb_mains::{Operator, ServerWatch, store_at, watch_of};
 use sb_mirror::{MirrorTargets, mirror_world, run_mirror};

@@ -6,10 +6,13 @@ use std::alloc::Global;
 
 /// A line that has a link, a clock and dice of its own.
 #[derive(Drop)]
-pub(crate) struct OwnLine<L, C, D> {
-    pub(crate) link: L,
-    pub(crate) clock: C,
-    pub(crate) dice: D,
+pub struct OwnLine<L, C, D> {
+    /// The link to the server.
+    pub link: L,
+    /// The clock by which sessions on the link begin and end.
+    pub clock: C,
+    /// The dice of the waits between them.
+    pub dice: D,
 }
 
 impl<L: Link, C: Clock, D: Dice> Line for OwnLine<L, C, D> {
