@@ -5,8 +5,8 @@
 
 SHELL := /bin/bash
 LIST := MALWARE/ANY_PLATFORM/URL
-PROGRAMS := sbupdate sbcheck sblistd sbjournal sbmirror
-INSTALLED := sbupdate sbcheck sblistd sbjournal sbmirror
+PROGRAMS := sbupdate sbcheck sblistd sbjournal sbmirror sbproxy
+INSTALLED := sbupdate sbcheck sblistd sbjournal sbmirror sbproxy
 BUILT := $(wildcard bin/sbupdate bin/sblistd)
 
 PREFIX ?= /usr/local
@@ -26,7 +26,7 @@ FRONTS := nginx-server.conf nginx-client.conf
 # What the units name, as it stands in deploy/, and where it is put
 PLACES := -e 's|/usr/bin/|$(BINDIR)/|g' -e 's|/usr/share/kestrelplumb/|$(DATADIR)/|g' -e 's|/etc/default/|$(SYSCONFDIR)/default/|g'
 
-.PHONY: all test check gate wrong-bodies install uninstall demo compare try-http try-run try-feeds try-slow try-memory try-faults try-readme try-mirror bench
+.PHONY: all test check gate wrong-bodies install uninstall demo compare try-http try-run try-feeds try-slow try-memory try-faults try-readme try-mirror try-proxy bench
 .PHONY: try-front try-units try-deb try-browser deb release clean
 
 all:
@@ -162,6 +162,11 @@ try-readme: all
 # started again. Then a mirror of a server that says nothing is asked. Up to eight minutes.
 try-mirror: all
 	python3 try/mirror.py
+
+# Asks a proxy of sblistd for URLs, on several threads and by curl, while the journal grows, and kills it in between. Then proxies of servers
+# that say nothing, that trickle, that are away and that have no name are asked, for a minute each. Up to ten minutes.
+try-proxy: all
+	python3 try/proxy.py
 
 # Times the programs, and looks at publications, which no command shows: a program of its own is proved and built for it.
 bench: all

@@ -33,6 +33,7 @@ ENDS = {
     "the server": ("sb_service", "The list server"),
     "the maker": ("journal_run", "The program that makes journals"),
     "the mirror": ("sb_mirror", "The program that mirrors lists"),
+    "the proxy": ("sb_proxy", "The program that looks URLs up"),
 }
 PROGRAMS = {
     "sbupdate": "the client",
@@ -40,6 +41,7 @@ PROGRAMS = {
     "sblistd": "the server",
     "sbjournal": "the maker",
     "sbmirror": "the mirror",
+    "sbproxy": "the proxy",
 }
 
 DECLARES = r"\b(?:fn|struct|enum|trait|type|const|static|mod)\s+{}\b|^\s*{}(?:\(|,|\s*\{{|\s*=|$)|pub use [^;]*\b{}\b"
@@ -240,7 +242,7 @@ def known_options():
 
 def statuses_of(end):
     text = Code.texts(ENDS[end][0], "specs", "antt")
-    found = re.search(r"^Is(?:Server|JournalRun|Mirror)?Status status =(.*?)(?:^\S|\Z)", text, re.M | re.S)
+    found = re.search(r"^Is(?:Server|JournalRun|Mirror|Proxy)?Status status =(.*?)(?:^\S|\Z)", text, re.M | re.S)
     return set(map(int, re.findall(r"status ≡ (\d+)", found[1]))) if found else set()
 
 

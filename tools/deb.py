@@ -38,8 +38,8 @@ Priority: optional
 Description: Safe Browsing v4 list server and client
  Safe Browsing v4 keeps lists of unsafe URLs as short prefixes of SHA-256
  hashes. sbjournal makes such lists from feeds of URLs, sblistd serves them,
- sbmirror serves them on, sbupdate keeps copies of them current, and sbcheck
- judges URLs by them.
+ sbmirror serves them on, sbupdate keeps copies of them current, sbcheck
+ judges URLs by them, and sbproxy looks URLs up for programs beside it.
  .
  The programs run on processors of x86-64-v2; on others they end with status
  127 as they start. They are proved, as docs/PROMISES.md of the sources says.

@@ -37,10 +37,11 @@ PROGRAMS = {
     "sbcheck": ("sb_client", "CHECK_USAGE"),
     "sbjournal": ("journal_run", "USAGE"),
     "sbmirror": ("sb_mirror", "USAGE"),
+    "sbproxy": ("sb_proxy", "USAGE"),
 }
 
 # the programs whose commands have the names of others' commands
-BEHIND_PROGRAM = ("sbmirror",)
+BEHIND_PROGRAM = ("sbmirror", "sbproxy")
 
 # a session reads files of the repository; whoever installed the programs has others
 OTHER_NAMES = {"demo/journal": "lists", "demo/request.json": "request", "demo/recording.jsonl": "recording", "bin/": ""}
@@ -100,6 +101,18 @@ NOTES = {
         "for it, and clients keep what they have. It speaks plain HTTP to both sides: before a public mirror put a front that ends TLS.",
         "SIGTERM and SIGINT end it at once: answers under way are cut, and a client asks again after its back-off. The store is the old or the new "
         "one then.",
+    ],
+    "sbproxy": [
+        "`serve` keeps its lists as `sbupdate run` does, and answers look-ups of URLs from them, by the Lookup API: a POST of "
+        "`/v4/threatMatches:find` with at most 500 URLs. It asks its server only where a prefix of a URL stands on a list, by prefixes of hashes "
+        "alone, one find at a time for all who wait. A look-up that needs no find is answered at once, also while the server is asked, slow or away.",
+        "A 503 says that nothing is known of some URL: a list was not fetched yet, or the server cannot be asked in time. It does not say that the "
+        "URL is safe. A look-up without URLs is answered 200 once each list of its types was fetched. A list that the server does not have keeps its "
+        "types at 503: each round tells it, as `round 1 LIST not-answered`. A find that failed bars further ones for 15 minutes and more.",
+        "It waits for up to 60 seconds, at random, before its first round, and so before its first find. Its server may give no `--find-wait`: as long as that "
+        "lasts, no hit is decided. It speaks plain HTTP to both sides: let it talk to a front on its own machine that reaches the server over TLS, and let no "
+        "other machine ask it.",
+        "SIGTERM and SIGINT end it at once: answers under way are cut. The store is the old or the new one then, and a further run begins with it.",
     ],
 }
 

@@ -32,6 +32,7 @@ CALLS = (
     ("serve_connection", "sb_service", "src/connection.rt"),
     ("run_journal", "journal_run", "src/run.rt"),
     ("run_mirror", "sb_mirror", "src/mirror.rt"),
+    ("run_proxy", "sb_proxy", "src/proxy.rt"),
     ("answer_mirror", "mirror_places", "src/answering.rt"),
     ("follow", "mirror_places", "src/following.rt"),
 )

@@ -12,7 +12,7 @@ for tool in dpkg-deb git; do
 done
 folder=$(mktemp -d)
 trap 'rm -rf "$folder"' EXIT
-readonly PROGRAMS=(sblistd sbupdate sbcheck sbjournal sbmirror)
+readonly PROGRAMS=(sblistd sbupdate sbcheck sbjournal sbmirror sbproxy)
 
 fail() {
   echo "try-deb: $1"

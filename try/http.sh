@@ -383,7 +383,7 @@ cmp "$folder/first" "$folder/journal" || fail "the journal was changed"
 # ---- words that ask about a program, and a quiet run
 
 version=$(sed -n 's/^## \[\([0-9.]*\)\].*/\1/p' CHANGELOG.md | head -1)
-for program in sbupdate sbcheck sblistd sbjournal sbmirror; do
+for program in sbupdate sbcheck sblistd sbjournal sbmirror sbproxy; do
   [ "$("bin/$program" --version)" = "$program $version" ] || fail "the version of $program is $("bin/$program" --version)"
   [ "$("bin/$program" --help | head -1)" = "usage: $program COMMAND" ] || fail "$program --help prints $("bin/$program" --help)"
   "bin/$program" -h > "$folder/help" || fail "$program -h ended with status $?"

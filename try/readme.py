@@ -20,7 +20,7 @@ import threading
 import time
 
 REPOSITORY = os.path.dirname(os.path.dirname(os.path.abspath(__file__)))
-PROGRAMS = ("sbupdate", "sbcheck", "sblistd", "sbjournal", "sbmirror")
+PROGRAMS = ("sbupdate", "sbcheck", "sblistd", "sbjournal", "sbmirror", "sbproxy")
 PORTS = ("8080", "8081")
 # a client waits for up to 60 seconds before its first request, and two may do so one after the other
 LONGEST = 150

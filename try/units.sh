@@ -1,17 +1,17 @@
 #!/usr/bin/env bash
 # Holds the units of deploy/systemd to `systemd-analyze verify`, and to an exposure of at most 2.0 by `systemd-analyze security`.
 # If systemd runs, one is root and nothing of this project is installed, it starts them with the user of deploy/sysusers.d, and
-# removes both in the end: a list server, a mirror and a client of it, a feed, a journal that is replaced, and words that are no command line.
+# removes both in the end: a list server, a mirror, a proxy and a client of it, a feed, a journal that is replaced, and words that are no command line.
 # Else it says which part it left out. It ends with status 1 at the first step that is not as it should be.
 #
-# sbupdate and sbmirror wait up to 60 seconds before their first request, at random: up to four minutes.
+# sbupdate, sbmirror and sbproxy wait up to 60 seconds before their first request, at random: up to four minutes.
 set -u
 cd "$(dirname "$0")/.." || exit 1
 source try/common.sh
 
 command -v systemd-analyze > /dev/null || { echo "try-units: systemd is not installed, so nothing was tried"; exit 0; }
 
-readonly UNITS=(sblistd.service sbmirror.service sbupdate@try.service sbjournal@try.service sbjournal@try.timer)
+readonly UNITS=(sblistd.service sbmirror.service sbproxy.service sbupdate@try.service sbjournal@try.service sbjournal@try.timer)
 readonly LIST=MALWARE/ANY_PLATFORM/URL STATE=/var/lib/kestrelplumb
 folder=$(mktemp -d)
 placed=
@@ -19,16 +19,16 @@ trap 'finish' EXIT
 
 fail() {
   echo "try-units: $1"
-  [ -z "$placed" ] || journalctl --no-pager --lines 20 --unit sblistd --unit sbmirror --unit 'sbupdate@*' --unit 'sbjournal@*'
+  [ -z "$placed" ] || journalctl --no-pager --lines 20 --unit sblistd --unit sbmirror --unit sbproxy --unit 'sbupdate@*' --unit 'sbjournal@*'
   exit 1
 }
 
 finish() {
   if [ -n "$placed" ]; then
-    systemctl stop sblistd.service sbmirror.service 'sbupdate@*.service' 'sbjournal@*.service'
+    systemctl stop sblistd.service sbmirror.service sbproxy.service 'sbupdate@*.service' 'sbjournal@*.service'
     systemctl reset-failed 'sbupdate@*.service' 'sbjournal@*.service' 2> /dev/null
-    rm -f /run/systemd/system/sb{listd.service,mirror.service,update@.service,journal@.service,journal@.timer}
-    rm -rf /run/systemd/system/sb{listd,mirror,update@,journal@}.service.d "$STATE" "$placed"
+    rm -f /run/systemd/system/sb{listd.service,mirror.service,proxy.service,update@.service,journal@.service,journal@.timer}
+    rm -rf /run/systemd/system/sb{listd,mirror,proxy,update@,journal@}.service.d "$STATE" "$placed"
     systemctl daemon-reload
     userdel kestrelplumb
   fi
@@ -44,7 +44,7 @@ done
 make -s install DESTDIR="$folder/root" PREFIX=/usr > /dev/null || fail "make install ended with status $?"
 for unit in "${UNITS[@]}"; do
   systemd-analyze verify --man=no --root="$folder/root" "$unit" > "$folder/said" 2>&1 || fail "$unit: $(< "$folder/said")"
-  grep -E 'sblistd|sbmirror|sbupdate|sbjournal' "$folder/said" && fail "systemd has something against $unit"
+  grep -E 'sblistd|sbmirror|sbproxy|sbupdate|sbjournal' "$folder/said" && fail "systemd has something against $unit"
   echo "$unit: systemd takes it"
 done
 for unit in "$folder"/root/usr/lib/systemd/system/sb*.service; do
@@ -101,7 +101,7 @@ port=$(free_port)
 placed=$(mktemp -d /var/lib/kestrelplumb-try.XXXXXX)
 chmod 755 "$placed"
 make -s install PREFIX="$placed" SYSCONFDIR="$placed/etc" UNITDIR=/run/systemd/system > /dev/null || fail "make install ended with status $?"
-for unit in sblistd sbmirror sbupdate@ sbjournal@; do
+for unit in sblistd sbmirror sbproxy sbupdate@ sbjournal@; do
   mkdir -p "/run/systemd/system/$unit.service.d"
   printf '[Service]\nEnvironment=PATH=%s:/usr/local/bin:/usr/bin:/bin\n' "$placed/bin" > "/run/systemd/system/$unit.service.d/try.conf"
 done
@@ -109,6 +109,7 @@ printf 'JOURNAL=%s/journal\nLISTEN=127.0.0.1:%s\nOPTIONS=--wait 20\n' "$STATE" "
 printf 'SERVER=127.0.0.1:%s\nLISTS="%s"\n' "$port" "$LIST" > "$placed/etc/default/sbupdate"
 printf 'LISTS=\n' > "$placed/etc/default/sbupdate-wrong"
 printf 'SERVER=127.0.0.1:%s\nLISTEN=127.0.0.1:0\nLISTS="%s"\nOPTIONS=\n' "$port" "$LIST" > "$placed/etc/default/sbmirror"
+cp "$placed/etc/default/sbmirror" "$placed/etc/default/sbproxy"
 # (the filter is the one that docs/FEEDS.md has for a hosts file)
 { printf 'LIST=%s\nURL=file://%s/feed\n' "$LIST" "$placed"; grep '^FILTER=' docs/FEEDS.md; } > "$placed/etc/default/sbjournal-try"
 systemd-sysusers "$PWD/deploy/sysusers.d/kestrelplumb.conf" || fail "systemd-sysusers ended with status $?"
@@ -127,7 +128,7 @@ done
   fail "words that are no command line: $(systemctl show --property NRestarts,ExecMainStatus sbupdate@wrong.service)"
 echo "words that are no command line: status 1, and not started again"
 
-systemctl start sbmirror.service sbupdate@try.service || fail "systemctl start ended with status $?"
+systemctl start sbmirror.service sbproxy.service sbupdate@try.service || fail "systemctl start ended with status $?"
 printed sbupdate@try.service "^round 1 $LIST installed 2$"
 printed sbupdate@try.service "^round 2 at [0-9]* ok$"
 echo "a client keeps the list"
@@ -135,6 +136,10 @@ printed sbmirror.service '^sbmirror: the address 127.0.0.1:0 is 127.0.0.1:[0-9]*
 printed sbmirror.service "^round 1 $LIST installed 2$"
 printed sbmirror.service "^round 1 saved$"
 echo "a mirror keeps the list"
+printed sbproxy.service '^sbproxy: the address 127.0.0.1:0 is 127.0.0.1:[0-9]*$'
+printed sbproxy.service "^round 1 $LIST installed 2$"
+printed sbproxy.service "^round 1 saved$"
+echo "a proxy keeps the list"
 
 before=$(systemctl show --property NRestarts --value sblistd.service)
 put_journal a.example b.example c.example

@@ -19,8 +19,8 @@ pub const USAGE: &str = "usage: sbproxy COMMAND\n\n  \
     sbproxy serve --store PATH --server HOST:PORT --listen HOST:PORT\n      \
     [--connections N] [--rounds N] [--patience S] [--peers N] [--answers MIB]\n      \
     [--key KEY] [--max-update N] [--max-database N] [--raw-only] [--no-digest] LIST..\n      \
-    keeps one to eight lists up to date as a client of a list server, and answers over HTTP which\n      \
-    URLs are on them; without --patience, a look-up waits up to 60 seconds for a find that may begin\n  \
+    keeps one to eight lists up to date as a client of a list server, and answers look-ups of URLs\n      \
+    over HTTP; without --patience, one waits up to 60 seconds until the server may be asked\n  \
     sbproxy --help | -h | --version\n      \
     writes this text, or the version\n";
 
