@@ -1,4 +1,4 @@
-use Rattle.std.proofs.Common.{Some, sym, ◌∙◌, subst, map, string_bytes}
+use Rattle.std.proofs.Common.{sym, ◌∙◌, subst, map, string_bytes}
 use Rattle.proxy_words.specs.ProxyLine.{ProxyWords}
 use Rattle.sb_proxy.specs.Runs.{IsProxyServed}
 use Rattle.sb_proxy.proofs.FewLists.{few_lists, one_line, serve_or_tell}
