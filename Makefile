@@ -176,6 +176,7 @@ bench: all
 	python3 bench/door.py
 	python3 bench/workers.py
 	python3 bench/mirror.py
+	python3 bench/proxy.py
 
 clean:
 	rm -rf bin dist
