@@ -1,0 +1,3 @@
+mod Grounds
+mod Tracing
+mod Rightness
